@@ -16,7 +16,6 @@ idle machine, the programs that it runs, the paths for which it was made, what i
 V7_CI is set, a tool that is missing is a fault.
 """
 import glob
-import importlib.util
 import os
 import re
 import shutil
@@ -92,10 +91,16 @@ def passes(*words, env=None):
     return "\n".join([*(it for it in lines[:-1] if re.match(r"skipped: |(.*: )?not (run|assembled|measured|formatted)\b", it)), lines[-1]])
 
 
+def has_module(name):
+    """Whether this Python has a module, or the system's, by which the test of the page goes on if another Python comes first."""
+    pythons = [sys.executable, *filter(os.path.exists, ["/usr/bin/python3"])]
+    return any(ran(python, "-c", f"import {name}").status == 0 for python in pythons)
+
+
 def missing(tests):
     """What tests need and is not there."""
     needed = sorted({it for test in tests for it in test.words("needs")})
-    return [it for it in needed if not shutil.which(it) and (it not in ("venv", "selenium") or not importlib.util.find_spec(it))]
+    return [it for it in needed if not shutil.which(it) and (it not in ("venv", "selenium") or not has_module(it))]
 
 
 def tools_there(tests):

@@ -5,11 +5,12 @@
 #        tools/dist.sh twice FOLDER            builds them twice, and leaves them in FOLDER/one and FOLDER/two
 #        tools/dist.sh run DIST                runs the packages of the folder DIST
 #        OBJECTS=FOLDER tools/dist.sh ..       a trial: takes the objects of programs and libv7_c.a from this folder, and proves nothing
-#        PROVED=CHECKOUT tools/dist.sh ..      begins with what tools/prove.py has left in this checkout, and proves only what has changed
+#        PROVED=CHECKOUT tools/dist.sh ..      begins with what was proved in this checkout, and proves only what has changed
 #        BASE=FOLDER tools/dist.sh ..          copies Debian's base from this folder, which debootstrap has made, as make_debian does
 #
 # The two builds are of one commit, in two folders, with two file masks, languages and time zones. They are by two users, if the first is root,
-# and on two dates, if faketime is installed.
+# and on two dates, if faketime is installed. A proof changes no byte of a program, so the second takes what the first has proved, and
+# compiles, links and packs it again.
 #
 # To run the packages, a folder with Debian's base is made by debootstrap, from the mirror of this machine; with a C compiler and
 # pkg-config, and without the kit, make and Python. Once the package for Debian is installed there, and once the tar is unpacked.
@@ -18,7 +19,7 @@
 # alone. What drives the cases, tests/cases/cases.py, runs outside. It skips those that watch a program, since the programs of a package are
 # linked statically. The module of python3-v7 and the wheel run outside too. Wanted: root, Debian's debootstrap and lintian.
 #
-# tier: all, 7000 seconds; words: all; for: packaging tools/dist.sh; needs: debootstrap lintian faketime cmark-gfm mandoc
+# tier: all, 4200 seconds; words: all; for: packaging tools/dist.sh; needs: debootstrap lintian faketime cmark-gfm mandoc
 set -u
 cd "$(dirname "$0")/.."
 top=$PWD
@@ -51,22 +52,18 @@ take_objects() {
     done
 }
 
-# puts what was proved, and built of it, where tools/prove.py looks for it; what has other sources it proves again
-take_proved() {
-    mkdir -p "$1/build/proved"
-    cp "$PROVED"/build/proved/* "$1/build/proved"
-    for path in v7/out/v7 v7_from_gnu/out/v7_from_gnu v7_object/out/v7_object v7_explain/out/v7_explain v7_lesson/out/v7_lesson v7_c/out/libv7_c.a; do
-        [ ! -f "$PROVED/crates/$path" ] || { mkdir -p "$1/crates/${path%/*}" && cp "$PROVED/crates/$path" "$1/crates/$path"; }
-    done
-}
-
-# a clone, and its packages, which are made with this file mask by the words that follow
+# a clone, and its packages, which are made with this file mask by the words that follow. It takes what was proved, and nothing that was
+# built, in the checkout `PROVED`; what has other sources it proves again
 build() {
     to=$1
     mask=$2
     shift 2
     git clone -q "$top" "$to" || exit 1
-    [ -z "${PROVED:-}" ] || take_proved "$to"
+    if [ -n "${PROVED:-}" ]; then
+        mkdir -p "$to/build"
+        cp -r "$PROVED/build/proved" "$to/build"
+        rm -f "$to"/build/proved/*.o
+    fi
     if [ -n "${OBJECTS:-}" ]; then
         take_objects "$to"
         make="python3 packaging/dist.py --kept"
@@ -83,6 +80,7 @@ twice() {
     user=
     [ "$(id -u)" -ne 0 ] && echo "skipped: not root, so both builds are by one user" || user="setpriv --reuid=65534 --regid=65534 --clear-groups"
     build "$work/one" 022 sh -c
+    [ -n "${OBJECTS:-}" ] || PROVED=$work/one
     build "$work/another/folder" 077 env -u MAKEFLAGS TMPDIR=/tmp HOME="$work/another" DONT_FAKE_MONOTONIC=1 TZ=Asia/Tokyo LC_ALL=C.UTF-8 $user $date sh -c
     for folder in one another/folder; do
         (cd "$work/$folder/dist" && sha256sum -c --quiet SHA256SUMS) || fail "$folder: SHA256SUMS is wrong"

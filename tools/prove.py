@@ -5,9 +5,9 @@ usage: python3 -m tools.prove NAME FILE
 
 Libraries that do not wait for each other are proved side by side. Each is proved from nothing, by the kit's `rattle` with the
 words of the gate, and the crates above it read its statements and not its proofs. These are kept in build/proved, packed, since
-the gate refuses folders with sources that no crate lists. A library is proved again where its sources, or those of one below
-it, have changed. Beside them NAME.verdict has the line by which the prover ends, and NAME.o what a program is linked from: a release
-is made of these.
+the gate refuses folders with sources that no crate lists. A crate is proved again where its sources, or those of one below it, have
+changed. If only FILE is gone, what was proved is compiled again. Beside them NAME.verdict has the line by which the prover ends, and
+NAME.o what a program is linked from: a release is made of these.
 
 While it works it prints a line for each crate, and at least one every ten seconds.
 """
@@ -21,6 +21,7 @@ import tempfile
 from concurrent.futures import ThreadPoolExecutor, wait
 
 from tests.lib.files import TOP, read, write
+from tests.lib.programs import asked
 from tests.lib.rattle import FUNCTION, crates_in
 from tests.lib.tally import Failed, Tally
 
@@ -31,11 +32,6 @@ MOST_JOBS = 8
 SECONDS_EACH = 3
 
 
-def asked(*words):
-    """The line that a command prints."""
-    return subprocess.run(words, stdout=subprocess.PIPE, check=True, text=True).stdout.strip()
-
-
 class Crate:
     """A crate, with all that it uses, and the crates of the repository that it waits for."""
 
@@ -43,6 +39,8 @@ class Crate:
         self.name, self.uses = name, uses
         self.is_static = "staticlib" in head
         self.is_program = os.path.exists(f"crates/{name}/src/main.rt")
+        # what it leaves: statements, or which code was proved
+        self.left = f"{name}.checked" if self.is_static or self.is_program else f"{name}.rlib"
         self.waits = [crates[other] for other in uses if other in crates]
         self.below = {it for other in self.waits for it in (other, *other.below)}
         parts = [f"crates/{name}/{part}" for part in ("src", "specs", "proofs")]
@@ -79,14 +77,14 @@ class Kit:
 
     def __init__(self, place):
         self.place = place
-        self.version, self.folder = asked("rt", "version"), os.path.dirname(asked("rt", "doc"))
+        self.version, self.folder = asked("rt", "version").strip(), os.path.dirname(asked("rt", "doc"))
         self.rattle = f"{self.folder}/bin/rattle"
         self.toolchain = ["--toolchain", f"{self.folder}/toolchain"]
         self.logic = ["--logic-built", f"{self.folder}/logic_built"]
 
     def words(self, crate):
         """What names a crate, the libraries that it uses and the logic."""
-        words = ["--crate-name", crate.name, f"src/{'main' if crate.is_program else 'lib'}.rt"]
+        words = ["--crate-name", crate.name, f"src/{'main' if crate.is_program else 'lib'}.rt", *["--crate-type", "staticlib"] * crate.is_static]
         own = [it.name for it in crate.waits]
         for name in sorted({"std", *crate.uses}):
             words += ["--extern", f"{name}={self.place if name in own else self.folder + '/rlibs'}/{name}.rlib"]
@@ -94,26 +92,18 @@ class Kit:
             words += ["-L", f"dependency={place}"]
         return words + ["--antt-project", f"{self.folder}/rattle/logic/antt-project.json"]
 
-    def library(self, crate, jobs):
-        """The commands that prove a library and write it for the crates above."""
-        words = [*self.words(crate), *self.logic, "--jobs", str(jobs)]
-        return [[self.rattle, "build", *words, "--statements", "-o", f"{self.place}/{crate.name}.rlib"]]
+    def proving(self, crate, jobs):
+        """The command that proves a crate, and writes what it leaves."""
+        words = [*self.words(crate), *self.logic, "--jobs", str(jobs), "-o", f"{self.place}/{crate.left}"]
+        return [self.rattle, "build", *words, "--statements"] if crate.left.endswith(".rlib") else [self.rattle, "check", *words]
 
-    def for_c(self, crate, jobs, file):
-        """The commands that prove a library for C and compile it."""
-        words = [*self.words(crate), *self.logic, "--jobs", str(jobs), *self.toolchain]
-        return [[self.rattle, "build", *words, "--crate-type", "staticlib", "--backend", "llvm", "-o", file]]
-
-    def program(self, crate, jobs, file):
-        """The commands that prove a program, compile what was proved and link it."""
-        checked, object_file = f"{self.place}/{crate.name}.checked", f"{self.place}/{crate.name}.o"
+    def building(self, crate, file):
+        """The commands that compile what was proved, and link it if it is a program."""
+        compiled = file if crate.is_static else f"{self.place}/{crate.name}.o"
+        words = [*self.words(crate), *self.toolchain, "--crate-checked", f"{self.place}/{crate.left}", "--backend", "llvm", "-o", compiled]
         system = [f"{self.folder}/c/{name}_c.a" for name in ("libos", "liblibc")]
-        target = ["--target", "x86_64-unknown-linux-gnu"]
-        return [
-            [self.rattle, "check", *self.words(crate), *self.logic, "--jobs", str(jobs), "-o", checked],
-            [self.rattle, "build", *self.words(crate), *self.toolchain, "--crate-checked", checked, "--backend", "llvm", "-o", object_file],
-            [f"{self.rattle}-link", *target, *self.toolchain, "-o", file, object_file, *system],
-        ]
+        linking = [f"{self.rattle}-link", "--target", "x86_64-unknown-linux-gnu", *self.toolchain, "-o", file, compiled, *system]
+        return [[self.rattle, "build", *words], *[linking] * crate.is_program]
 
 
 class Proving:
@@ -136,22 +126,17 @@ class Proving:
         above = [other for other in self.crates if crate in other.waits]
         return min((max(it.functions_to_end() for it in other.waits) - crate.functions_to_end() for other in above), default=0)
 
-    def commands(self, crate):
-        """The commands that prove a crate. Where it is not waited for, it takes fewer processors, or what others leave."""
-        jobs = min(os.cpu_count(), MOST_JOBS)
-        if crate.is_program:
-            return self.kit.program(crate, jobs, self.file)
-        if crate.is_static:
-            return self.kit.for_c(crate, jobs, self.file)
-        spare = self.spare(crate)
+    def proving(self, crate):
+        """The command that proves a crate. Where it is not waited for, it takes fewer processors, or what others leave."""
+        jobs, spare = min(os.cpu_count(), MOST_JOBS), self.spare(crate)
         nice = ["nice", "-n", "19"] if spare >= 100 else []
-        return [[*nice, *words] for words in self.kit.library(crate, max(1, jobs // 2) if spare else jobs)]
+        return [*nice, *self.kit.proving(crate, max(1, jobs // 2) if spare else jobs)]
 
-    def run(self, crate):
-        """Runs the commands of a crate in its folder, and returns the line of its verdict."""
+    def run(self, crate, commands):
+        """Runs commands in the folder of a crate, and returns the line of the verdict."""
         how = {"cwd": f"crates/{crate.name}", "stdin": subprocess.DEVNULL, "stdout": subprocess.PIPE, "stderr": subprocess.STDOUT}
         said = []
-        for words in self.commands(crate):
+        for words in commands:
             ran = subprocess.run(words, **how)
             said += ran.stdout.decode(errors="replace").split("\n")
             if ran.returncode:
@@ -163,29 +148,34 @@ class Proving:
 
     def is_kept(self, crate, stamp):
         """Whether the crate is proved already. What it left is unpacked."""
-        kept, top = f"{KEPT}/{crate.name}", crate is self.top
-        needed = [f"{kept}.stamp", f"{kept}.verdict", self.file if top else f"{kept}.tar", *[f"{kept}.o"] * crate.is_program]
-        if not all(map(os.path.exists, needed)):
+        kept = f"{KEPT}/{crate.name}"
+        if not all(os.path.exists(f"{kept}.{kind}") for kind in ("stamp", "verdict", "tar")) or read(f"{kept}.stamp") != stamp:
             return False
-        if read(f"{kept}.stamp") != stamp:
-            return False
-        if not top:
-            with tarfile.open(f"{kept}.tar") as packed:
-                packed.extractall(self.kit.place)
+        with tarfile.open(f"{kept}.tar") as packed:
+            packed.extractall(self.kit.place)
         return True
 
+    def is_built(self, crate):
+        """Whether there is what is built of a crate, if anything is."""
+        return crate is not self.top or all(map(os.path.exists, [self.file, *[f"{KEPT}/{crate.name}.o"] * crate.is_program]))
+
     def keep(self, crate, stamp, verdict):
-        """Keeps what a crate left, packed, with its verdict and what its proof rests on."""
+        """Keeps what a crate left, packed, with its verdict and what its proof rests on. What was built of it before is gone."""
         kept = f"{KEPT}/{crate.name}"
-        if os.path.exists(f"{kept}.stamp"):
-            os.remove(f"{kept}.stamp")
-        if crate is not self.top:
-            with tarfile.open(f"{kept}.tar", "w") as packed:
-                packed.add(f"{self.kit.place}/{crate.name}.rlib", f"{crate.name}.rlib")
-        if crate.is_program:
-            shutil.copyfile(f"{self.kit.place}/{crate.name}.o", f"{kept}.o")
+        for path in (f"{kept}.stamp", *[self.file] * (crate is self.top)):
+            if os.path.exists(path):
+                os.remove(path)
+        with tarfile.open(f"{kept}.tar", "w") as packed:
+            packed.add(f"{self.kit.place}/{crate.left}", crate.left)
         for kind, text in (("verdict", verdict + "\n"), ("stamp", stamp)):
             write(f"{kept}.{kind}", text)
+
+    def build(self, crate):
+        """Compiles and links what was proved."""
+        self.run(crate, self.kit.building(crate, f"{self.file}.new"))
+        if crate.is_program:
+            shutil.copyfile(f"{self.kit.place}/{crate.name}.o", f"{KEPT}/{crate.name}.o")
+        os.rename(f"{self.file}.new", self.file)
 
     def prove(self, crate):
         """Proves a crate once those that it waits for are proved, unless it is proved already."""
@@ -193,14 +183,18 @@ class Proving:
         if any(self.lanes[other].exception() for other in crate.waits):
             raise Failed("what it uses is not proved")
         stamp = self.stamp(crate)
-        if self.is_kept(crate, stamp):
+        is_kept = self.is_kept(crate, stamp)
+        if is_kept and self.is_built(crate):
             return "proved before"
         self.busy.append(crate.name)
         try:
-            self.keep(crate, stamp, self.run(crate))
+            if not is_kept:
+                self.keep(crate, stamp, self.run(crate, [self.proving(crate)]))
+            if crate is self.top:
+                self.build(crate)
         finally:
             self.busy.remove(crate.name)
-        return f"{crate.functions()} functions are proved"
+        return "proved before, and compiled again" if is_kept else f"{crate.functions()} functions are proved"
 
     def whole(self):
         """Proves all, lowest first. The status to end with."""

@@ -1,4 +1,5 @@
-"""Plants the bugs of docs/internals/PLANTED.md, one after another, and plays the cases with each.
+"""Plants the bugs of docs/internals/PLANTED.md, each alone, and plays the cases with it. As many are tried side by side as there are
+processors.
 
 usage: python3 -m tests.cases.planted [BUG ..]    tries the bugs of all rows, or these; an error if a case that the row names does not fail,
                                     or if one of them fails without a bug
@@ -53,7 +54,7 @@ GOOD = os.path.join(TOP, "build", "quick")
 # for a command of a case, on a machine with other work too
 SECONDS = "300"
 # a compilation takes a processor and a gigabyte
-SIDE_BY_SIDE = 2
+SIDE_BY_SIDE = len(os.sched_getaffinity(0))
 
 
 class Fault(Exception):
@@ -236,10 +237,12 @@ def try_rows(table):
     faults = 0
     programs(set().union(*map(programs_of, wanted.values())))
     with ThreadPoolExecutor(SIDE_BY_SIDE) as pool:
-        passed = failed(GOOD, wanted)
+        good = pool.submit(failed, GOOD, wanted)
+        tried = pool.map(lambda row: try_row(*row, there), table)
+        passed = good.result()
         print(f"{len(wanted)} cases without a bug: {'failed: ' + ', '.join(passed) if passed else 'as expected'}", flush=True)
         faults += bool(passed)
-        for (bug, _), fault in zip(table, pool.map(lambda row: try_row(*row, there), table)):
+        for (bug, _), fault in zip(table, tried):
             print(f"{bug}: {fault or 'found'}", flush=True)
             faults += bool(fault)
     print(f"{len(table)} bugs planted, {faults} faults")

@@ -38,10 +38,11 @@ def write_object(path, words, names):
 def asked(words, path):
     """How many bytes the program asks for, all together. It may report names, but not be refused what it asks for."""
     run = valgrind([program("v7"), *words, path])
-    if run.returncode > 1:
+    found = re.search(r"([\d,]+) bytes allocated", run.stderr)
+    if run.returncode > 1 or not found:
         said = [line for line in run.stderr.splitlines() if not line.startswith("==")]
         sys.exit(f"fault: {' '.join(words)} {path}: {' '.join(said)}")
-    return int(re.search(r"([\d,]+) bytes allocated", run.stderr)[1].replace(",", ""))
+    return int(found[1].replace(",", ""))
 
 
 def main():

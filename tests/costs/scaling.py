@@ -173,10 +173,10 @@ class Work:
         return [self.explain, "-m", *self.of_words(size)], ""
 
     def mapped(self, size):
-        """Maps the link of one object of so many words and as many symbols: every other one is a label, and each word refers to one
-        of the others, of the first 4,096, since a relocation word has a number of 12 bits."""
-        most = min(size, 4096) // 2
-        words = [reference(2 * (7 * number % most) + 1) for number in range(size)]
+        """Maps the link of one object of so many symbols, every other one a label, and of six words for each. A word leads to a label by
+        its address, and the next one to another symbol by its number, one of the first 4,096, since a relocation word has 12 bits for it."""
+        labels, most = (size + 1) // 2, min(size, 4096) // 2
+        words = [reference(2 * (7 * number % most) + 1) if number % 2 else (4 * (7 * number % labels), 2) for number in range(6 * size)]
         symbols = [(name, *((WANTED, 0) if number % 2 else (DEFINED, 2 * number))) for number, (name, _, _) in enumerate(names(0, size))]
         return [self.explain, "-m", self.object("mapped.o", words, symbols)], ""
 

@@ -19,10 +19,11 @@ def read_bytes(path):
 
 
 def write(path, data):
-    """Writes bytes or a text, with the folders that the path needs."""
+    """Writes bytes or a text, with the folders that the path needs, and returns the path."""
     os.makedirs(os.path.dirname(path) or ".", exist_ok=True)
     with open(path, "wb") as file:
         file.write(data if isinstance(data, bytes) else data.encode())
+    return path
 
 
 @contextlib.contextmanager

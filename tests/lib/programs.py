@@ -31,6 +31,11 @@ def program(name):
     return path
 
 
+def asked(*words, **how):
+    """The text that a command prints, which has to succeed."""
+    return subprocess.run(words, stdout=subprocess.PIPE, check=True, encoding="utf-8", **how).stdout
+
+
 def ran(*words, given=b"", seconds=None, **how):
     """Runs a command whose input is these bytes."""
     done = subprocess.run(words, input=given, stdout=subprocess.PIPE, stderr=subprocess.PIPE, timeout=seconds, check=False, **how)

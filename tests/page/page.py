@@ -21,6 +21,7 @@ from functools import cached_property
 from itertools import permutations
 
 from tests.lib.compare import notices
+from tests.lib.files import write
 from tests.lib.programs import ran
 from tests.page import page_data
 from tests.page import page_pictures
@@ -238,10 +239,7 @@ def large(tools, files):
     words = [(number % 1000, 0o10 if number % 1500 == 700 else 0) for number in range(6000)]
     given = []
     for number in range(5):
-        path = os.path.join(tools.room, f"large{number}.o")
-        with open(path, "wb") as out:
-            out.write(object_of(words, [("_twice", 0o40, 0), (f"_f{number}", 0o42, 0)]))
-        given.append(path)
+        given.append(write(f"{tools.room}/large{number}.o", object_of(words, [("_twice", 0o40, 0), (f"_f{number}", 0o42, 0)])))
     given[4] = files[1]
     path = tools.page_of(given, "large.html")
     same("bytes of large objects", os.path.getsize(path) <= 5_000_000, True)

@@ -8,14 +8,14 @@ tier: check, 60 seconds; programs: v7 v7-lesson v7-explain; for: crates/v7_lesso
 import os
 import re
 import struct
-import subprocess
 import sys
 import tempfile
 from itertools import permutations
 
 from tests.lib.compare import Differs, notices
-from tests.lib.files import TOP
-from tests.lib.programs import program
+from tests.lib.files import TOP, read, read_bytes, write
+from tests.lib.objects import pack, unpack
+from tests.lib.programs import asked, program, ran
 from tests.page.page_lessons import bad_questions, lesson_answers, questions_of_all_kinds, remarks, states_in
 from tests.page.page_objects import FILES as COMPILED, PLACE, object_like_c, object_of_compiled
 
@@ -60,15 +60,15 @@ class Tools:
         self.page, self.room = f"{TOP}/page", room
 
     def page_of(self, files, name="lesson.html", questions=""):
-        path = os.path.join(self.room, name)
-        with open(path, "wb") as out:
-            subprocess.run([self.lesson, "-p", self.page, *(["-q", questions] if questions else []), *files], stdout=out, check=True)
-        return path
+        return write(f"{self.room}/{name}", asked(self.lesson, "-p", self.page, *(["-q", questions] if questions else []), *files))
+
+    def asked_of(self, questions, *files):
+        """The status and both outputs for a page with a file of questions."""
+        return ran(self.lesson, "-p", self.page, "-q", questions, *files).texts("utf-8")
 
     def steps(self, files):
         """The lines of all steps, each without its first."""
-        done = subprocess.run([self.lesson, *files], capture_output=True, text=True, check=True)
-        steps = re.split(r"^(?:add|withdraw) .*\n", done.stdout, flags=re.M)[1:]
+        steps = re.split(r"^(?:add|withdraw) .*\n", asked(self.lesson, *files), flags=re.M)[1:]
         return [[words_of(line) for line in step.splitlines()] for step in steps]
 
     def step(self, number, files):
@@ -77,10 +77,10 @@ class Tools:
 
     def listing(self, file):
         """A file as v7-explain lists it."""
-        return subprocess.run([self.explain, file], capture_output=True, text=True).stdout
+        return ran(self.explain, file).texts("utf-8")[1]
 
     def map_of(self, files):
-        return subprocess.run([self.explain, "-m", *files], capture_output=True, text=True).stdout
+        return ran(self.explain, "-m", *files).texts("utf-8")[1]
 
     def calls(self, files):
         """The places of the calls that the map of a link lists: it has those of their operands, one word after them."""
@@ -99,27 +99,21 @@ class Tools:
         return uses
 
     def nm(self, file):
-        return subprocess.run([self.v7, "nm", "-p", file], capture_output=True, text=True, check=True).stdout
+        return asked(self.v7, "nm", "-p", file)
 
     def bytes_of_link(self, options, files):
         """The file that a link writes."""
-        out = os.path.join(self.room, "linked")
-        subprocess.run([self.v7, "ld", *options, "-o", out, *files], check=True)
-        with open(out, "rb") as file:
-            return file.read()
+        asked(self.v7, "ld", *options, "-o", f"{self.room}/linked", *files)
+        return read_bytes(f"{self.room}/linked")
 
     def link(self, options, files):
         """The words and the header of a link, its table as `nm -p` has it, its report; or why it is refused."""
         out = os.path.join(self.room, "linked")
-        done = subprocess.run([self.v7, "ld", *options, "-o", out, *files], capture_output=True, text=True)
-        if done.returncode == 2:
-            return {"refused": done.stderr.strip().split(": ", 1)[1]}
-        with open(out, "rb") as file:
-            data = file.read()
-        header = struct.unpack_from("<8H", data)
-        text = struct.unpack_from(f"<{header[1] // 2}H", data, 16)
-        words = struct.unpack_from(f"<{header[2] // 2}H", data, 16 + header[1])
-        return {"header": header, "segments": {"text": text, "data": words}, "table": self.nm(out), "report": done.stdout or "nothing to report\n"}
+        status, report, error = ran(self.v7, "ld", *options, "-o", out, *files).texts("utf-8")
+        if status == 2:
+            return {"refused": error.strip().split(": ", 1)[1]}
+        made = unpack(read_bytes(out))
+        return {"header": made.header, "segments": {"text": made.text, "data": made.data}, "table": self.nm(out), "report": report or "nothing to report\n"}
 
 
 # ---- what a page holds
@@ -361,25 +355,19 @@ def texts_of(words, relocs):
 def compare_objects(tools, files, data):
     """What the page has of each object is what its file and the listing beside it have."""
     for path, one in zip(files, data["objects"]):
-        with open(path, "rb") as file:
-            stored = file.read()
-        sizes = struct.unpack_from("<3H", stored, 2)
-        text, words = (list(struct.unpack_from(f"<{size // 2}H", stored, 16 + before)) for size, before in ((sizes[0], 0), (sizes[1], sizes[0])))
-        relocs = struct.unpack_from(f"<{sizes[1] // 2}H", stored, 16 + 2 * sizes[0] + sizes[1])
-        same(f"{path}: words", (one["text"], one["data"], one["bss"]), (text, words, sizes[2]))
+        file = unpack(read_bytes(path))
+        same(f"{path}: words", (one["text"], one["data"], one["bss"]), ([*file.text], [*file.data], file.header[3]))
         same(f"{path}: symbols", one["symbols"], tools.nm(path).splitlines())
-        same(f"{path}: texts", one["texts"], texts_of(words, relocs))
+        same(f"{path}: texts", one["texts"], texts_of(file.data, file.relocation[len(file.text):]))
         listing = re.sub(r"\.o$", ".lst", path)
-        wanted = {part: lines_of_listing(listing, start, part, held) for part, start, held in (("text", 0, text), ("data", sizes[0], words))}
+        wanted = {part: lines_of_listing(listing, start, part, held) for part, start, held in (("text", 0, file.text), ("data", file.header[1], file.data))}
         same(f"{path}: source", one.get("source"), wanted if os.path.exists(listing) else None)
 
 
 def listing_of_another(tools, files):
     """A listing that has another word than its object has no source beside that word."""
-    for ending, old, new in (("o", b"", b""), ("lst", b"016700", b"016701")):
-        with open(f"{files[0][:-2]}.{ending}", "rb") as stored:
-            path = written(os.path.join(tools.room, f"other.{ending}"), stored.read().replace(old, new) if old else stored.read())
-    given = [os.path.join(tools.room, "other.o")]
+    path = write(f"{tools.room}/other.lst", read(f"{files[0][:-2]}.lst").replace("016700", "016701"))
+    given = [write(f"{tools.room}/other.o", read_bytes(files[0]))]
     data, _ = states_in(tools.page_of(given, "other.html"))
     compare_objects(tools, given, data)
     same(f"{path}: source", sorted(data["objects"][0]["source"]["text"]), ["1", "2", "3", "4"])
@@ -388,49 +376,38 @@ def listing_of_another(tools, files):
 # ---- files that are refused, and counts
 def object_of(words, symbols, data=()):
     """An object of text words with their relocation words, of symbols, and of data without relocation."""
-    both = [*(word for word, _ in words), *data, *(bits for _, bits in words), *(0 for _ in data)]
-    table = b"".join(struct.pack("<8sHH", name.encode(), kind, value) for name, kind, value in symbols)
-    return struct.pack("<8H", 0o407, 2 * len(words), 2 * len(data), 0, len(table), 0, 0, 0) + struct.pack(f"<{len(both)}H", *both) + table
-
-
-def written(path, content):
-    with open(path, "wb") as out:
-        out.write(content)
-    return path
+    return pack(words, [(word, 0) for word in data], 0, [(name.encode(), kind, value) for name, kind, value in symbols])
 
 
 def made_objects(tools, count, size, seed=0):
     """Objects of so many words that are made from a seed."""
-    return [written(os.path.join(tools.room, f"made{size}-{number}.o"), object_like_c(number, size, count, seed)) for number in range(count)]
+    return [write(f"{tools.room}/made{size}-{number}.o", object_like_c(number, size, count, seed)) for number in range(count)]
 
 
 def refusals(tools, files):
     """Bad files, and a page that is too large: the fault's own text, no page, status 2."""
-    with open(files[0], "rb") as source:
-        cut = written(os.path.join(tools.room, "cut.o"), source.read()[:-5])
+    cut = write(f"{tools.room}/cut.o", read_bytes(files[0])[:-5])
     for path, text in ((cut, "truncated"), (os.path.join(tools.room, "nothing.o"), "cannot open"), (tools.lesson, "bad magic number")):
-        done = subprocess.run([tools.lesson, "-p", tools.page, files[0], path], capture_output=True, text=True)
-        same(f"{path}", (done.returncode, done.stdout, done.stderr), (2, "", f"v7-lesson: {path}: {text}\n"))
+        same(f"{path}", ran(tools.lesson, "-p", tools.page, files[0], path).texts("utf-8"), (2, "", f"v7-lesson: {path}: {text}\n"))
     for words in ([], ["-p"], ["-p", tools.page], ["-p", tools.page, "-q", files[0]], ["-n", files[0]], ["-n", "0", files[0]], ["-n", "3", files[0]],
                   ["-x", files[0]]):
-        done = subprocess.run([tools.lesson, *words], capture_output=True, text=True)
-        same(f"v7-lesson {words}", (done.returncode, done.stdout, done.stderr.splitlines()[-1][:11]), (2, "", "v7-lesson: "))
+        status, out, error = ran(tools.lesson, *words).texts("utf-8")
+        same(f"v7-lesson {words}", (status, out, error.splitlines()[-1][:11]), (2, "", "v7-lesson: "))
 
 
 def largest_page(tools, files):
     """A page of at most 5,000,000 bytes is written, and one of some bytes more is not: the text of a lesson fills both."""
     path = os.path.join(tools.room, "long.txt")
-    room = 5_000_000 - os.path.getsize(tools.page_of(files[:1], "short.html", written(path, b"lesson One\nsay x\n")))
+    room = 5_000_000 - os.path.getsize(tools.page_of(files[:1], "short.html", write(path, "lesson One\nsay x\n")))
     for more, status in ((1, 0), (2, 2)):
-        written(path, b"lesson One\nsay " + b"x" * (room + more) + b"\n")
-        done = subprocess.run([tools.lesson, "-p", tools.page, "-q", path, files[0]], capture_output=True, text=True)
-        same(f"a page of {4_999_999 + more} bytes", (done.returncode, len(done.stdout.encode()), done.stderr),
-             (status, 0 if status else 5_000_000, "v7-lesson: the page would have more than 5000000 bytes\n" if status else ""))
+        write(path, "lesson One\nsay " + "x" * (room + more) + "\n")
+        done, out, error = tools.asked_of(path, files[0])
+        same(f"a page of {4_999_999 + more} bytes", (done, len(out.encode()), error), (status, 0 if status else 5_000_000, "v7-lesson: the page would have more than 5000000 bytes\n" if status else ""))
 
 
 def full(tools, files):
     """An object is refused, with the text that the programs have."""
-    path = written(os.path.join(tools.room, "full.o"), object_of([(0, 0)] * 32_767, []))
+    path = write(f"{tools.room}/full.o", object_of([(0, 0)] * 32_767, []))
     data, _ = states_in(tools.page_of([path, files[0]], "full.html"))
     refused = [(state["list"], state["object"], state["refused"]) for state in data["states"] if "refused" in state]
     same("refused", refused, [([0], [1], "text full"), ([1], [0], "text full")])
@@ -439,12 +416,11 @@ def full(tools, files):
 
 def name_of_nine_letters(tools):
     """The name of a common is an answer, and no longer name that begins by its eight letters."""
-    given = written(os.path.join(tools.room, "eight.o"), object_of([(0, 0)], [("_letters", 0o40, 2)]))
+    given = write(f"{tools.room}/eight.o", object_of([(0, 0)], [("_letters", 0o40, 2)]))
     for name in ("_letters", "_letterss"):
-        path = written(os.path.join(tools.room, "eight.txt"), f"lesson One\nadd eight.o\nask commons Which?\nname {name}\n".encode())
-        done = subprocess.run([tools.lesson, "-p", tools.page, "-q", path, given], capture_output=True, text=True)
+        path = write(f"{tools.room}/eight.txt", f"lesson One\nadd eight.o\nask commons Which?\nname {name}\n")
         wanted = "" if len(name) == 8 else f"v7-lesson: {path}: line 4: {name} is no answer\n"
-        same(f"the answer {name}", (done.returncode, done.stderr), (2 if wanted else 0, wanted))
+        same(f"the answer {name}", tools.asked_of(path, given)[::2], (2 if wanted else 0, wanted))
 
 
 def counts(tools, files):
@@ -465,8 +441,7 @@ def scripts(folder):
     total, declared = 0, []
     for name in sorted(os.listdir(folder)):
         if name.endswith(".js"):
-            with open(os.path.join(folder, name), encoding="utf-8") as file:
-                lines = file.read().splitlines()
+            lines = read(f"{folder}/{name}").splitlines()
             total += len(lines)
             names = [re.match(r"(?:const|let|class|function) (\w+|\[[\w, ]+\]|\{[\w, ]+\})", line) for line in lines]
             declared += [word for found in names if found for word in re.findall(r"\w+", found[1])]
@@ -497,8 +472,7 @@ def same_objects(folder):
     """The objects of a folder are what the assembler makes of the compiler's files beside them."""
     names = [name[:-2] for name in sorted(os.listdir(folder)) if name.endswith(".s")]
     for name in names:
-        with open(os.path.join(folder, f"{name}.o"), "rb") as stored:
-            same(f"{folder}/{name}.o", stored.read() == object_of_compiled(folder, name), True)
+        same(f"{folder}/{name}.o", read_bytes(f"{folder}/{name}.o") == object_of_compiled(folder, name), True)
     same(f"objects of {folder}", len(names) > 0, True)
 
 
@@ -523,8 +497,7 @@ def check_data(tools, questions, files):
     for one in (given, tables_and_bss(files)):
         same_objects(os.path.dirname(one[0]))
     again = tools.bytes_of_link(["-r"], tables_and_bss(files)[:2])
-    with open(tables_and_bss(files)[4], "rb") as stored:
-        same("pair.o is the output of ld -r", stored.read() == again, True)
+    same("pair.o is the output of ld -r", read_bytes(tables_and_bss(files)[4]) == again, True)
     of_c, of_tables = (os.path.join(os.path.dirname(one[0]), "lessons.txt") for one in (given, tables_and_bss(files)))
     for what, held, of, least in (("the class example", files, questions, (9, 12)), ("a program in C", given, of_c, (2, 6)),
                                   ("tables and bss", tables_and_bss(files), of_tables, (3, 15)),

@@ -1,14 +1,13 @@
 """Compares the lessons of the page with the programs: their answers, and the faults of a file of questions."""
 import json
-import os
 import re
-import subprocess
+
+from tests.lib.files import read, write
 
 
 def states_in(path):
     """The data of a page, and its size in bytes."""
-    with open(path, encoding="utf-8") as file:
-        text = file.read()
+    text = read(path)
     data = json.loads(re.search(r'id="data">\n(.*?)</script>', text, re.S).group(1))
     return data, len(text.encode())
 
@@ -92,12 +91,9 @@ QUESTIONS = [
 
 def bad_questions(tools, files, same):
     """A line that refers to no word, name or step: no page, and the line's number."""
-    path = os.path.join(tools.room, "bad.txt")
     for text, line, fault in QUESTIONS:
-        with open(path, "w", encoding="ascii") as out:
-            out.write(text + "\n")
-        done = subprocess.run([tools.lesson, "-p", tools.page, "-q", path, *files], capture_output=True, text=True)
-        same(f"questions: {text}", (done.returncode, done.stdout, done.stderr), (2, "", f"v7-lesson: {path}: line {line}: {fault}\n"))
+        path = write(f"{tools.room}/bad.txt", text + "\n")
+        same(f"questions: {text}", tools.asked_of(path, *files), (2, "", f"v7-lesson: {path}: line {line}: {fault}\n"))
 
 
 # a file of questions that has to be accepted: objects that come again, and texts that could end the script of the page
@@ -120,10 +116,7 @@ NUMBERS = [0o177774, 4, 0, 0o12, 0o20000, 0o177770, 6, 2, 0o12, 0o17774]
 
 def questions_of_all_kinds(tools, files, same):
     """A withdrawn object can come again, a lesson begins with no object, and a text is data, whatever it has."""
-    path = os.path.join(tools.room, "accepted.txt")
-    with open(path, "w", encoding="ascii") as out:
-        out.write(ACCEPTED)
-    data, _ = states_in(tools.page_of(files, "accepted.html", path))
+    data, _ = states_in(tools.page_of(files, "accepted.html", write(f"{tools.room}/accepted.txt", ACCEPTED)))
     same("a text that could end the script", [line[1] for line in data["lessons"] if "script" in str(line)], ["</script><b>", "<!-- </script> -->"])
     same("the numbers of texts", [part for line in data["lessons"] if line[0] == "say" for part in line if isinstance(part, int)], NUMBERS)
 

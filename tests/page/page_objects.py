@@ -13,9 +13,11 @@ Besides, `object_like_c` makes objects of any size, of which about a third of th
 """
 import os
 import random
-import struct
-import subprocess
 import sys
+
+from tests.lib.files import read, write
+from tests.lib.objects import pack
+from tests.lib.programs import asked
 
 TEXT, DATA, BSS, EXTERNAL, PC = 0o2, 0o4, 0o6, 0o10, 0o1
 FUNCTIONS = 4
@@ -117,13 +119,7 @@ class Maker:
         if self.number == 0:
             for name in ("csv", "cret"):
                 self.name(name, 0o42, self.starts[0])
-        return self.file()
-
-    def file(self):
-        words = self.text + self.data
-        table = b"".join(struct.pack("<8sHH", name.encode(), kind, value) for name, kind, value in self.symbols)
-        head = struct.pack("<8H", 0o407, 2 * len(self.text), 2 * len(self.data), self.bss_size, len(table), 0, 0, 0)
-        return head + b"".join(struct.pack("<H", word) for word, _ in words) + b"".join(struct.pack("<H", bits) for _, bits in words) + table
+        return pack(self.text, self.data, self.bss_size, [(name.encode(), kind, value) for name, kind, value in self.symbols])
 
 
 def object_like_c(number, size, count, seed=0):
@@ -134,15 +130,12 @@ def object_like_c(number, size, count, seed=0):
 def compile_all(folder, cpp, ccom):
     """Compiles the sources of a folder."""
     for source in sorted(name for name in os.listdir(folder) if name.endswith(".c")):
-        text = subprocess.run([cpp, source], cwd=folder, stdout=subprocess.PIPE, check=True).stdout
-        with open(os.path.join(folder, f"{source[:-2]}.s"), "wb") as out:
-            subprocess.run([ccom], input=text, stdout=out, check=True)
+        write(f"{folder}/{source[:-2]}.s", asked(ccom, input=asked(cpp, source, cwd=folder)))
 
 
 def object_of_compiled(folder, name):
     """The object that the assembler makes of a file of the compiler."""
-    with open(os.path.join(folder, f"{name}.s"), encoding="ascii") as source:
-        return asm.assembled(source.read())
+    return asm.assembled(read(f"{folder}/{name}.s"))
 
 
 def main(words):
@@ -150,8 +143,7 @@ def main(words):
         if words:
             compile_all(folder, *map(os.path.abspath, words))
         for name in [name[:-2] for name in os.listdir(folder) if name.endswith(".s")]:
-            with open(os.path.join(folder, f"{name}.o"), "wb") as out:
-                out.write(object_of_compiled(folder, name))
+            write(f"{folder}/{name}.o", object_of_compiled(folder, name))
 
 
 if __name__ == "__main__":

@@ -8,6 +8,7 @@ import os
 import sys
 import tempfile
 
+from tests.lib.files import read_bytes
 from tests.page.page_browser import Chromium
 
 PICTURES = "docs/pictures"
@@ -44,11 +45,7 @@ def make(page, folder):
 
 def difference(page, one, other):
     """How many of a thousand pixels differ."""
-    texts = []
-    for path in (one, other):
-        with open(path, "rb") as file:
-            texts.append(base64.b64encode(file.read()).decode())
-    return page.driver.execute_async_script(DIFFERENCE, *texts)
+    return page.driver.execute_async_script(DIFFERENCE, *(base64.b64encode(read_bytes(path)).decode() for path in (one, other)))
 
 
 def compare(page, same):

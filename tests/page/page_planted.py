@@ -1,10 +1,9 @@
 """Plants faults into the page of the lesson, one after another, and prints whether what tests/page/page.py measures finds each. Without
 the fault the same measure has to find nothing."""
-import os
 import re
-import subprocess
 import tempfile
 
+from tests.lib.files import read, write
 from tests.page import page_pictures
 from tests.page.page_layout import look
 from tests.page.page_lessons import lesson_answers
@@ -115,14 +114,10 @@ def on_layout(page, script):
 def in_scripts(tools, page, path, files, layouts, room, change):
     """What the measure of a fault finds in a page whose scripts are changed."""
     kind, old, new = change
-    found = Found()
-    with open(path, encoding="utf-8") as file:
-        text = file.read()
+    found, text = Found(), read(path)
     if text.count(old) != 1:
         return [f"the scripts have {text.count(old)} times: {old}"] if new == old else []
-    changed = os.path.join(room, "changed.html")
-    with open(changed, "w", encoding="utf-8") as out:
-        out.write(text.replace(old, new))
+    changed = write(f"{room}/changed.html", text.replace(old, new))
     measures = {"reasons": lambda: reasons(tools, page, [(changed, files)], found.same, 20), "numbers": lambda: numbers(page, changed, found.same),
                 "maps": lambda: maps(tools, page, changed, files, layouts, found.same), "practice": lambda: practice(tools, page, changed, files, found.same),
                 "owners": lambda: owners(page, changed, files, found.same), "counts": lambda: counts(page, changed, len(files), found.same), "paper": lambda: paper(page, changed, found.same),
@@ -134,24 +129,14 @@ def in_scripts(tools, page, path, files, layouts, room, change):
 # ---- answer keys
 def refused_key(tools, questions, files, room, change):
     """What v7-lesson says of the lessons with a changed text."""
-    with open(questions, encoding="utf-8") as file:
-        text = file.read()
-    path = os.path.join(room, "key.txt")
-    with open(path, "w", encoding="utf-8") as out:
-        out.write(change(text))
-    done = subprocess.run([tools.lesson, "-p", tools.page, "-q", path, *files], capture_output=True, text=True)
-    return [done.stderr] if done.returncode else []
+    status, _, error = tools.asked_of(write(f"{room}/key.txt", change(read(questions))), *files)
+    return [error] if status else []
 
 
 def wrong_answers(tools, default, files, layouts, room, change):
     """What is wrong with the answers that a page has, where its data were changed."""
     found = Found()
-    with open(default, encoding="utf-8") as file:
-        text = file.read()
-    path = os.path.join(room, "answers.html")
-    with open(path, "w", encoding="utf-8") as out:
-        out.write(change(text))
-    lesson_answers(tools, path, files, layouts, found.same)
+    lesson_answers(tools, write(f"{room}/answers.html", change(read(default))), files, layouts, found.same)
     return found.faults
 
 

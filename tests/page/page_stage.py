@@ -2,10 +2,12 @@
 Chromium and in Firefox."""
 import os
 import re
-import struct
 import time
 
+from tests.lib.files import read_bytes
+from tests.lib.objects import unpack
 from tests.page.page_browser import Keys
+from tests.page.page_data import PARTS, place_in_image, sizes_of
 
 # widths, heights and scales of a window; a zoom of 200 % at 1280 is a window of 640 pixels, each of two dots
 SIZES = [(1920, 1080, 1), (1366, 768, 1), (1024, 768, 1), (390, 844, 1), (640, 360, 2)]
@@ -47,27 +49,15 @@ return found;
 """
 
 
-def ends_in_image(lines, sizes):
+def ends_in_image(lines):
     """The id of the row that each word of the image means, from the lines of `v7-lesson`."""
-    wanted = {}
-    for line in lines:
-        found = re.match(r"(text|data) ([0-7]{6}) ([0-7]{6}) (pc )?(text|data|bss|a number|waits for \S+)", line)
-        if not found:
-            continue
-        offset, value, segment = int(found[2], 8), int(found[3], 8), found[5]
-        if segment not in sizes:
-            continue
-        meant = (value + offset + 2) % 65536 if found[4] else value
-        row = f"{segment}-{meant if segment == 'bss' else meant - meant % 2}"
-        wanted[f"{found[1]}-{offset}"] = row if meant < sizes[segment] else f"{segment}-end" if meant == sizes[segment] else f"{segment}-beyond-{meant}"
+    sizes, wanted = sizes_of(lines), {}
+    for line in [line for line in lines if line.startswith(PARTS)]:
+        part, offset = line.split()[:2]
+        kind, number = place_in_image(line, sizes)
+        if kind not in ("nowhere", "outside"):
+            wanted[f"{part}-{int(offset, 8)}"] = kind if kind.endswith("-end") else f"{kind}-{number}"
     return wanted
-
-
-def sizes_of(lines):
-    """The sizes of the merged segments in bytes."""
-    words = {part: [line for line in lines if line.startswith(part + " ")] for part in ("text", "data")}
-    bss = [line for line in lines if line.startswith("bss ")]
-    return {"text": 2 * len(words["text"]), "data": 2 * len(words["data"]), "bss": int(bss[0].split()[1]) if bss else 0}
 
 
 def meant_in_link(page, linked):
@@ -91,7 +81,7 @@ def compare_ends(tools, page, files, layouts, same, step=1):
     """Each word has the place that it means, in the image and in each link; in a link that is the word's address. Of so many words one
     arrow is drawn in each layout, another one in the next, and ends there."""
     lines = tools.step(len(files), files)
-    wanted = ends_in_image(lines, sizes_of(lines))
+    wanted = ends_in_image(lines)
     what = f"{len(files)} objects"
     places = page.run(PLACES_MEANT)
     for word, end, _ in places:
@@ -134,15 +124,11 @@ def words_of_files(files):
     """For each word of the merged image the name of its object, the word there, and whether it refers to a segment there."""
     found, fronts = {}, {"text": 0, "data": 0}
     for path in files:
-        with open(path, "rb") as file:
-            data = file.read()
-        sizes = dict(zip(("text", "data"), struct.unpack_from("<2H", data, 2)))
-        starts = {"text": 16, "data": 16 + sizes["text"]}
-        for part, size in sizes.items():
-            words, relocs = (struct.unpack_from(f"<{size // 2}H", data, starts[part] + more) for more in (0, sum(sizes.values())))
+        one = unpack(read_bytes(path))
+        for part, words, relocs in (("text", one.text, one.relocation), ("data", one.data, one.relocation[len(one.text):])):
             for index, (word, reloc) in enumerate(zip(words, relocs)):
                 found[f"{part}-{fronts[part] + 2 * index}"] = os.path.basename(path), word, reloc & 0o16 in (2, 4, 6)
-            fronts[part] += size
+            fronts[part] += 2 * len(words)
     return found
 
 

@@ -1,8 +1,9 @@
 """Uses the page of the lesson as a student does: the first view, the tour and the lessons by keys, steps back, marks, folds."""
 import os
 import re
-import struct
 
+from tests.lib.files import read_bytes, write
+from tests.lib.objects import unpack
 from tests.page.page_browser import Keys
 from tests.page.page_data import object_of
 from tests.page.page_stage import VIEW, first
@@ -540,11 +541,10 @@ def pieces(bounds):
 def maps(tools, page, path, files, layouts, same):
     """The memory maps have the segments of objects and links where the files have them; commons and bss are one in a file."""
     page.load(path)
-    page.open("#objects=" + ",".join(str(number) for number in range(1, len(files) + 1)))
+    page.open("#" + first(len(files)))
     shown = page.run(MAPS)
     for (title, titles), file in zip(shown, files):
-        with open(file, "rb") as stored:
-            text, data, bss = struct.unpack_from("<3H", stored.read(), 2)
+        text, data, bss = unpack(read_bytes(file)).header[1:4]
         wanted = pieces([("text", 0, text), ("data", text, text + data), ("bss", text + data, text + data + bss)])
         same(f"the map of {file}", (title, titles), (os.path.basename(file), wanted))
     for (title, titles), (name, options) in zip(shown[len(files):], layouts.items()):
@@ -628,13 +628,11 @@ def lines_of_cards(files):
     """For each word of the merged image the place of its line in the cards, and how the line begins: its offset and value in the object."""
     found, fronts = {}, {"text": 0, "data": 0}
     for number, path in enumerate(files):
-        with open(path, "rb") as file:
-            stored = file.read()
-        sizes = struct.unpack_from("<2H", stored, 2)
-        for part, size, start in (("text", sizes[0], 0), ("data", sizes[1], sizes[0])):
-            for index, word in enumerate(struct.unpack_from(f"<{size // 2}H", stored, 16 + start)):
+        one = unpack(read_bytes(path))
+        for part, words, start in (("text", one.text, 0), ("data", one.data, 2 * len(one.text))):
+            for index, word in enumerate(words):
                 found[f"{part}-{fronts[part] + 2 * index}"] = f"line-{number}-{part}-{index}", f"{start + 2 * index:06o}{word:06o}"
-            fronts[part] += size
+            fronts[part] += 2 * len(words)
     return found
 
 
@@ -642,7 +640,7 @@ def beside(page, path, files, same):
     """A word that is chosen has its line marked in the card of its object, which can be seen; a line leads to the word that it has become."""
     page.load(path)
     page.size(1366, 768)
-    page.open("#objects=" + ",".join(str(number) for number in range(1, len(files))))
+    page.open("#" + first(len(files) - 1))
     wanted = lines_of_cards(files[:-1])
     keys = list(wanted)[::max(1, len(wanted) // 20)]
     for key in keys:
@@ -673,9 +671,7 @@ END = "choose(`name ${arguments[0]}`, true); const row = byId(arguments[1]); ret
 
 def ends(tools, page, same):
     """A name at the end of a segment leads to the end, in the image and in a link, and so does a word that means the end: not to what follows."""
-    given = os.path.join(tools.room, "ends.o")
-    with open(given, "wb") as out:
-        out.write(object_of([(4, 0o2), (6, 0o4)], [("_after", 0o42, 4), ("_past", 0o43, 6), ("_room", 0o40, 2)], [1]))
+    given = write(f"{tools.room}/ends.o", object_of([(4, 0o2), (6, 0o4)], [("_after", 0o42, 4), ("_past", 0o43, 6), ("_room", 0o40, 2)], [1]))
     page.load(tools.page_of([given], "ends.html"))
     page.open("#objects=1")
     for key, (text, data) in (("", ("000004", "000002")), ("p", ("000004", "000006")), ("n", ("000004", "020002"))):
