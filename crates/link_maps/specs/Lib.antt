@@ -9,6 +9,7 @@ pub mod Rows
 pub mod Records
 pub mod MapLimits
 pub mod Maps
+pub mod Spots
 pub mod Links
 pub mod Oddities
 pub mod internal

@@ -1,3 +1,4 @@
 pub mod Groups
 pub mod Known
 pub mod Labels
+pub mod Leading

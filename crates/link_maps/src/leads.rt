@@ -203,7 +203,7 @@ pub(crate) fn leads_in(alloc: Global, file: &File, starts: &[bool]) -> Result<Ve
 }
 
 /// Whether a symbol is at an address of a segment.
-fn is_at(symbol: &Symbol, segment: Segment, address: u16) -> bool
+pub fn is_at(symbol: &Symbol, segment: Segment, address: u16) -> bool
     ensures { result ≡ is_at segment address symbol.now }
 {
     symbol.type_bits % 0o40 == segment.number() && symbol.value == address

@@ -20,6 +20,7 @@
 
 mod gather;
 mod labels;
+mod leading;
 mod leads;
 mod limit_records;
 mod map;
@@ -32,17 +33,20 @@ mod outcome;
 mod places;
 mod records;
 mod references;
+mod spots;
 mod uses;
 
+pub use leads::is_at;
 pub use limit_records::{LimitRecord, limits_of};
 pub use map::{LinkMap, map_of};
 pub use map_records::{MapRecords, records_of};
 pub use members::{Left, Member, Objects, Refused};
 pub use name_records::NameRecord;
-pub use names::{stays_undefined, telling};
+pub use names::{is_any_definition, stays_undefined, telling};
 pub use oddities::{Oddity, oddities_of};
 pub use outcome::{Outcome, largest_number, row_of};
 pub use places::Places;
 pub use records::{ObjectRecord, UseRecord, padded, uses_of_name};
 pub use references::{Before, LinedFile, ReferringWord, put_line_of};
+pub use spots::{Spot, label_before, spots_at, word_at};
 pub use uses::{Scope, Use, put_uses};

@@ -45,7 +45,7 @@ fn outcome_unless_refused(
 }
 
 /// Where the segments of a link lie, if there is one.
-fn bases_of(outcome: &Option<Outcome>) -> Option<Bases>
+pub(crate) fn bases_of(outcome: &Option<Outcome>) -> Option<Bases>
     ensures { result ≡ bases_of outcome.now }
 {
     match outcome {

@@ -54,7 +54,8 @@ pub fn telling(uses: &[Use]) -> Option<Symbol>
     }
 }
 
-fn is_any_definition(uses: &[Use]) -> bool
+/// Whether an object defines the name of these uses.
+pub fn is_any_definition(uses: &[Use]) -> bool
     ensures { result ≡ list_any is_definition uses.now }
 {
     uses.iter().any(|used| used.is_definition())

@@ -10,6 +10,7 @@ ghost use Rattle.link_maps.specs.Leads.{reference_if, references_to};
 ghost use Rattle.link_maps.specs.References.{address_in, before_line, line_of, part_words, reference_at, relocs_of, segment_of_part, text_of_line};
 
 use crate::labels::Labels;
+use crate::leading::Leading;
 use crate::leads::{Lead, leads_in};
 use aout_core::{File, Name, Part, Reloc, Segment, Symbol};
 use disassemblies::{NamedFile, line_start, line_starts, put_line_text};
@@ -58,7 +59,7 @@ pub(crate) fn part_words(file: &File, part: Part) -> &[u16]
     }
 }
 
-fn segment_of(part: Part) -> Segment
+pub(crate) fn segment_of(part: Part) -> Segment
     ensures { result ≡ segment_of_part part }
 {
     match part {
@@ -118,7 +119,7 @@ pub struct LinedFile<'a> {
     file: &'a File,
     line_starts: Vec<bool>,
     labels: Labels<'a>,
-    leading: Vec<Lead>,
+    leading: Leading,
 }
 
 impl<'a> Model for LinedFile<'a> {
@@ -133,7 +134,7 @@ impl<'a> Model for LinedFile<'a> {
     ghost view = { λ l. l.file.now };
 
     ghost invariant = { λ l. (l.line_starts.items ≡ starts Unix l.file.now) × (l.labels.symbols.now ≡ l.file.now.symbols)
-        × (l.leading.items ≡ leads (starts Unix l.file.now) l.file.now) };
+        × (l.leading.all.items ≡ leads (starts Unix l.file.now) l.file.now) };
 }
 
 impl<'a> LinedFile<'a> {
@@ -142,7 +143,7 @@ impl<'a> LinedFile<'a> {
         ensures { IfOk result (λ l. l ≡ file.now) }
     {
         let starts = line_starts(alloc, Decoder::Unix, file)?;
-        let leading = leads_in(alloc, file, &starts)?;
+        let leading = Leading::new(alloc, leads_in(alloc, file, &starts)?)?;
         Ok(LinedFile {
             file,
             line_starts: starts,
@@ -229,7 +230,8 @@ impl<'a> LinedFile<'a> {
             words.items ≡ references_to (starts Unix self.now) self.now number symbol.now) }
     {
         let mut found = Vec::new(alloc);
-        self.put_words(&mut found, &self.leading, number, symbol)?;
+        let leading = self.leading.to_symbol(number, symbol);
+        self.put_words(&mut found, leading, number, symbol)?;
         Ok(found)
     }
 }

@@ -21,5 +21,8 @@ member_lines [] ats = []
 member_lines (m ∷ ms) [] = []
 member_lines (m ∷ ms) (at ∷ ats) = member_line m at ++ member_lines ms ats
 
+abbrev pub members_title : List ℕ
+members_title = codes "\nObjects\n    text  bytes    data  bytes     bss  bytes\n"
+
 abbrev pub members_text : List Member → List Places → List ℕ
-members_text ms ats = codes "\nObjects\n    text  bytes    data  bytes     bss  bytes\n" ++ member_lines ms ats
+members_text ms ats = members_title ++ member_lines ms ats

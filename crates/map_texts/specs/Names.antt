@@ -1,27 +1,30 @@
 -- The names of a link, with the objects that define them, make them commons and use them, and the words that lead to them. (own choice)
 use Rattle.std.specs.Prelude.{ℕ, ◌-◌, Bool, true, false, not, ◌||◌, nat_lt, if◌then◌else◌, codes, List, [], ◌∷◌, ◌++◌, length, slice_get}
-use Rattle.std.specs.Prelude.{Option, Some, None, option_map}
-use Rattle.std.specs.List.{flat_map}
+use Rattle.std.specs.Prelude.{◌&&◌, Option, Some, None, Result, Ok, Err, option_map}
+use Rattle.std.specs.List.{flat_map, list_any}
 use Rattle.aout_core.specs.{Contents.Contents, declared.part.Part.Part, declared.part.Part.TheVariants.Text}
 use Rattle.aout_core.specs.{declared.part.Part.TheVariants.Data, declared.symbol.Symbol.Symbol}
+use Rattle.aout_core.specs.declared.symbol.Segment.TheVariants.{TextSeg}
+use Rattle.disassemblies.specs.Naming.{is_at}
 use Rattle.link_maps.specs.Records.{by_name, is_multiple_in, knowledge_of, row_among, rows_in}
 use Rattle.link_maps.specs.Uses.{Use, is_common, is_definition, name_of, stays_undefined, telling}
 use Rattle.link_maps.specs.{Members.Member, Members.capped, Members.start_in, References.text_of_line, declared.map.LinkMap.LinkMap}
 use Rattle.link_maps.specs.{declared.members.Objects.Objects, declared.places.Places.Places, declared.references.Before.Before}
-use Rattle.link_maps.specs.{declared.references.ReferringWord.ReferringWord}
+use Rattle.link_maps.specs.{declared.references.ReferringWord.ReferringWord, declared.outcome.Outcome.Outcome, Oddities.is_one_object}
+use Rattle.link_out.specs.{declared.linked.LinkFault.LinkFault, declared.linked.Linked.Linked}
 use Rattle.link_session.specs.{Labelled.objects}
 use Rattle.texts.specs.{Names.printable_bytes, Numbers.octal, Numbers.padded_octal}
 use Rattle.tool_options.specs.{NameLists.is_among}
-use Rattle.map_texts.specs.declared.names.Section.TheVariants.{Undefined, Multiple, All, Asked}
-use Rattle.map_texts.specs.{declared.names.Section.Section}
+use Rattle.map_texts.specs.declared.names.Section.TheVariants.{Undefined, Multiple, All, Asked, Unused, Defined, Needed}
+use Rattle.map_texts.specs.{Asked.Asked as Questions, declared.names.Section.Section}
 use Rattle.map_texts.specs.{Pieces.count_text, Pieces.item_text, Pieces.symbol_front}
 
--- a map, its objects, what these have, in order, and the names that are asked for
+-- a map, its objects, what these have, in order, and what is asked of it
 pub record Mapped : Type 0 where
   pub link_map : LinkMap
   pub objects : Objects
   pub files : List Contents
-  pub asked : List (List ℕ)
+  pub asked : Questions
 
 abbrev pub label_of : List Member → Option ℕ → Option (List ℕ)
 label_of ms None = None
@@ -92,13 +95,14 @@ abbrev pub part_text : Part → List ℕ
 part_text Text = codes "text"
 part_text Data = codes "data"
 
-unfoldable pub word_text : Part → ℕ → List ℕ
-word_text part address = codes "                " ++ part_text part ++ codes " " ++ padded_octal address
+-- an address, after its segment
+unfoldable pub word_text : List ℕ → ℕ → List ℕ
+word_text segment address = codes "                " ++ segment ++ codes " " ++ padded_octal address
 
 -- a word that leads to a name: its address, the label before it, and of text the instruction
 unfoldable pub reference_line : Contents → Places → ReferringWord → List ℕ
 reference_line o at r =
-    word_text r.part (capped (start_in at r.part) r.offset) ++ before_text r.before ++ instruction_if r.part o at r ++ codes "\n"
+    word_text (part_text r.part) (capped (start_in at r.part) r.offset) ++ before_text r.before ++ instruction_if r.part o at r ++ codes "\n"
 
 abbrev pub reference_lines : Contents → Places → List ReferringWord → List ℕ
 reference_lines o at rs = flat_map (reference_line o at) rs
@@ -149,18 +153,26 @@ name_line row s = front_by row s ++ printable_bytes s.name ++ codes "\n"
 abbrev pub row_of : Mapped → List ℕ → Option Symbol
 row_of k name = row_among (rows_in k.link_map.outcome) k.objects.session name
 
-unfoldable pub symbol_text : Mapped → Symbol → List Use → List ℕ
-symbol_text k s us =
-    name_line (row_of k s.name) s ++ definers_text k.link_map.members.items us ++ commons_text k.link_map.members.items us
-    ++ mentions_text k us
+-- those that define a name, and those that make it a common
+unfoldable pub sources_text : Mapped → List Use → List ℕ
+sources_text k us = definers_text k.link_map.members.items us ++ commons_text k.link_map.members.items us
 
-abbrev pub known_by : Mapped → List Use → Option Symbol → List ℕ
-known_by k us None = []
-known_by k us (Some s) = symbol_text k s us
+-- who needs what an object defines, or who has what it needs; else both
+abbrev pub lists_text : Mapped → Section → List Use → List ℕ
+lists_text k (Defined object) us = mentions_text k us
+lists_text k (Needed object) us = sources_text k us
+lists_text k section us = sources_text k us ++ mentions_text k us
 
--- all that is known of the name of some uses
-abbrev pub known_text : Mapped → List Use → List ℕ
-known_text k us = known_by k us (telling us)
+unfoldable pub symbol_text : Mapped → Section → Symbol → List Use → List ℕ
+symbol_text k section s us = name_line (row_of k s.name) s ++ lists_text k section us
+
+abbrev pub known_by : Mapped → Section → List Use → Option Symbol → List ℕ
+known_by k section us None = []
+known_by k section us (Some s) = symbol_text k section s us
+
+-- what a part says of the name of some uses
+abbrev pub known_text : Mapped → Section → List Use → List ℕ
+known_text k section us = known_by k section us (telling us)
 
 -- the report has the name among those multiply defined
 abbrev pub is_multiple_by : Mapped → Option Use → Bool
@@ -169,7 +181,36 @@ is_multiple_by k (Some u) = is_multiple_in (knowledge_of k.link_map.outcome k.ob
 
 abbrev pub is_asked_by : Mapped → Option Use → Bool
 is_asked_by k None = false
-is_asked_by k (Some u) = is_among k.asked (name_of u)
+is_asked_by k (Some u) = is_among k.asked.names (name_of u)
+
+-- the object with a number defines the name, or has a symbol of it that does not
+abbrev pub defines_in : ℕ → Use → Bool
+defines_in object u = is_one_object u.object (Some object) && is_definition u
+
+abbrev pub needs_in : ℕ → Use → Bool
+needs_in object u = is_one_object u.object (Some object) && not (is_definition u)
+
+-- an object defines the name; nothing needs it, and no word leads to it
+abbrev pub is_unused : List Use → Bool
+is_unused us = list_any is_definition us && not (list_any is_mention us)
+
+-- the entry point of a link that is made
+abbrev pub entry_made : Result Linked LinkFault → Option ℕ
+entry_made (Ok l) = Some l.file.header.entry_point
+entry_made (Err fault) = None
+
+abbrev pub entry_in : Option Outcome → Option ℕ
+entry_in None = None
+entry_in (Some o) = entry_made o.linked
+
+-- in a link that is made, a name with this row is unused, and not in text at the entry point
+abbrev pub is_idle_at : Option ℕ → Option Symbol → List Use → Bool
+is_idle_at (Some entry) (Some row) us = is_unused us && not (is_at TextSeg entry row)
+is_idle_at _ _ us = false
+
+abbrev pub is_idle_by : Mapped → List Use → Option Use → Bool
+is_idle_by k us None = false
+is_idle_by k us (Some u) = is_idle_at (entry_in k.link_map.outcome) (row_of k (name_of u)) us
 
 -- a part has the name of these uses
 abbrev pub has_name : Mapped → Section → List Use → Bool
@@ -177,15 +218,18 @@ has_name k Undefined us = stays_undefined us
 has_name k Multiple us = is_multiple_by k (slice_get us 0)
 has_name k All us = true
 has_name k Asked us = is_asked_by k (slice_get us 0)
+has_name k Unused us = is_idle_by k us (slice_get us 0)
+has_name k (Defined object) us = list_any (defines_in object) us
+has_name k (Needed object) us = list_any (needs_in object) us
 
 abbrev pub title_if : Bool → List ℕ → List ℕ
 title_if titled title = if titled then [] else title
 
-unfoldable pub titled_text : Mapped → List ℕ → Bool → List Use → List ℕ
-titled_text k title titled us = title_if titled title ++ known_text k us
+unfoldable pub titled_text : Mapped → Section → List ℕ → Bool → List Use → List ℕ
+titled_text k section title titled us = title_if titled title ++ known_text k section us
 
 abbrev pub group_text : Mapped → Section → List ℕ → Bool → List Use → List ℕ
-group_text k section title titled us = if has_name k section us then titled_text k title titled us else []
+group_text k section title titled us = if has_name k section us then titled_text k section title titled us else []
 
 -- the names of a part, after its title, which comes once
 abbrev pub part_from : Mapped → Section → List ℕ → Bool → List (List Use) → List ℕ

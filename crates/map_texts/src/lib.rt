@@ -5,11 +5,13 @@ mod asked;
 mod limits;
 mod members;
 mod names;
+mod objects;
 mod oddities;
 mod outcomes;
 mod pieces;
 mod segments;
+mod spots;
 mod whole;
 
-pub use asked::absent_names;
-pub use whole::{map_text, names_map};
+pub use asked::Asked;
+pub use whole::{asked_map, map_text};

@@ -9,6 +9,9 @@ use texts::Text;
 /// How many columns a path has after the numbers of its object.
 const PATH: usize = 33;
 
+/// The title of the objects, with their columns.
+pub(crate) const MEMBERS: &str = "\nObjects\n    text  bytes    data  bytes     bss  bytes\n";
+
 /// Adds where a segment of an object begins, and its size.
 #[tactic(auto, unfolding(crate::specs::Members::place_text))]
 fn put_place(text: &mut Text, address: u64, bytes: u16)
@@ -32,7 +35,7 @@ fn put_gap(text: &mut Text, path: &str)
 
 /// Adds the line of an object.
 #[tactic(auto, unfolding(crate::specs::Members::member_line))]
-fn put_member(text: &mut Text, member: &Member, at: &Places)
+pub(crate) fn put_member(text: &mut Text, member: &Member, at: &Places)
     ensures { Puts text.old text.new (member_line member.now at.now) }
 {
     put_place(text, at.text, member.header.text_size);
@@ -56,6 +59,6 @@ fn put_member_lines(text: &mut Text, members: &[Member], places: &[Places])
 pub(crate) fn put_members(text: &mut Text, map: &LinkMap)
     ensures { Puts text.old text.new (members_text map.now.members.items map.now.places.items) }
 {
-    text.put("\nObjects\n    text  bytes    data  bytes     bss  bytes\n");
+    text.put(MEMBERS);
     put_member_lines(text, &map.members, &map.places);
 }

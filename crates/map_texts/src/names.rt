@@ -1,21 +1,24 @@
 //! Names of the map: who defines a name, who makes it a common, and who uses it.
-ghost use Rattle.std.specs.Prelude.{◌≡◌, ◌||◌, option_map, slice_get};
-ghost use Rattle.link_maps.specs.Records.{reserved_in};
+ghost use Rattle.std.specs.Prelude.{◌≡◌, ◌||◌, ◌++◌, Some, option_map, slice_get};
+ghost use Rattle.std.specs.List.{list_any};
+ghost use Rattle.link_maps.specs.Oddities.{is_one_object};
+ghost use Rattle.link_maps.specs.Records.{reserved_in, rows_in};
 ghost use Rattle.texts.specs.Texts.{Puts};
 ghost use Rattle.tool_options.specs.NameLists.{is_among};
 ghost use Rattle.map_texts.specs.Names.{bare_address, before_text, beyond_text, common_line, common_text, commons_text, definer_if, definer_label};
 ghost use Rattle.map_texts.specs.Names.{definer_line, definers_text, front_by, group_text, has_name, instruction_if, instruction_text, is_asked_by};
 ghost use Rattle.map_texts.specs.Names.{is_mention, is_multiple_by, known_text, label_of, label_text, mention_by, mention_if, mention_line};
 ghost use Rattle.map_texts.specs.Names.{mention_text, mentions_text, name_line, names_text, part_text, path_of, place_if, reference_line};
-ghost use Rattle.map_texts.specs.Names.{reference_lines, references_text, row_of, symbol_text, title_if, titled_text, word_text};
+ghost use Rattle.map_texts.specs.Names.{defines_in, entry_in, is_idle_at, is_idle_by, is_unused, lists_text, needs_in, reference_lines};
+ghost use Rattle.map_texts.specs.Names.{references_text, row_of, sources_text, symbol_text, title_if, titled_text, word_text};
 
+use crate::asked::Asked;
 use crate::pieces::{put_count, put_front, put_item};
-use aout_core::{Name, Part, Symbol};
+use aout_core::{Name, Part, Segment, Symbol};
 use disassemblies::NamedFile;
-use indexmap::IndexSet;
 use link_maps::{
-    Before, LinkMap, Member, Objects, Places, ReferringWord, Use, put_line_of, row_of,
-    stays_undefined, telling, uses_of_name,
+    Before, LinkMap, Member, Objects, Places, ReferringWord, Use, is_any_definition, is_at,
+    put_line_of, row_of, stays_undefined, telling, uses_of_name,
 };
 use std::marker::Model;
 use texts::Text;
@@ -27,8 +30,8 @@ pub(crate) struct Names<'a> {
     pub(crate) objects: &'a Objects,
     /// The objects, each with its symbols found by their values.
     pub(crate) files: &'a [NamedFile<'a>],
-    /// The names that are asked for; none for the whole map.
-    pub(crate) asked: &'a IndexSet<Name>,
+    /// What is asked for; nothing for the whole map.
+    pub(crate) asked: &'a Asked,
 }
 
 impl<'a> Model for Names<'a> {
@@ -36,7 +39,7 @@ impl<'a> Model for Names<'a> {
 
     ghost Value = { Mapped };
 
-    ghost view = { λ n. record { link_map = n.map.now; objects = n.objects.now; files = n.files.now; asked = n.asked.now.keys } };
+    ghost view = { λ n. record { link_map = n.map.now; objects = n.objects.now; files = n.files.now; asked = n.asked.now } };
 }
 
 /// The path of an object; none for a forced name.
@@ -61,7 +64,7 @@ fn path_of<'a>(members: &'a [Member], used: &Use) -> &'a str
 
 /// Adds the line of an object that defines a name.
 #[tactic(auto, unfolding(crate::specs::Names::definer_line))]
-fn put_definer(text: &mut Text, label: &str, path: &str)
+pub(crate) fn put_definer(text: &mut Text, label: &str, path: &str)
     ensures { Puts text.old text.new (definer_line label.now path.now) }
 {
     put_item(text, label, path);
@@ -143,7 +146,7 @@ fn put_label(text: &mut Text, before: &Before)
 }
 
 /// Adds the label before a line, if there is one.
-fn put_before(text: &mut Text, before: &Option<Before>)
+pub(crate) fn put_before(text: &mut Text, before: &Option<Before>)
     ensures { Puts text.old text.new (before_text before.now) }
 {
     if let Some(before) = before {
@@ -213,25 +216,30 @@ fn part_text(part: Part) -> &'static str
     }
 }
 
-/// Adds a word that leads to a name: the part that has it, and its address.
+/// Adds an address, after its segment.
 #[tactic(auto, unfolding(crate::specs::Names::word_text))]
-fn put_word(text: &mut Text, part: Part, address: u64)
-    ensures { Puts text.old text.new (word_text part address) }
+pub(crate) fn put_segment_address(text: &mut Text, segment: &str, address: u64)
+    ensures { Puts text.old text.new (word_text segment.now address) }
 {
     text.put("                ");
-    text.put(part_text(part));
+    text.put(segment);
     text.put(" ");
     text.put_padded_octal(address);
 }
 
 /// Adds the line of a word that leads to a name: its address, the label before it, and of text the instruction.
 #[tactic(auto, unfolding(crate::specs::Names::reference_line))]
-fn put_reference(text: &mut Text, file: &NamedFile<'_>, places: &Places, reference: &ReferringWord)
+pub(crate) fn put_reference(
+    text: &mut Text,
+    file: &NamedFile<'_>,
+    places: &Places,
+    reference: &ReferringWord,
+)
     ensures { Puts text.old text.new (reference_line file.now places.now reference.now) }
 {
-    put_word(
+    put_segment_address(
         text,
-        reference.part,
+        part_text(reference.part),
         places.address(reference.part, reference.offset),
     );
     put_before(text, &reference.before);
@@ -316,15 +324,25 @@ fn put_mentions(text: &mut Text, names: &Names<'_>, uses: &[Use])
     }
 }
 
+/// The rows of the externals, if the link fits.
+pub(crate) fn rows_in<'a>(names: &Names<'a>) -> Option<&'a [Symbol]>
+    ensures { option_map (λ rows. rows.now) result ≡ rows_in names.now.link_map.outcome }
+{
+    match &names.map.outcome {
+        Some(outcome) => match &outcome.externals {
+            Some(rows) => Some(rows),
+            None => None,
+        },
+        None => None,
+    }
+}
+
 /// The row of a name in the table of the link.
 fn row_in(names: &Names<'_>, name: &Name) -> Option<Symbol>
     ensures { result ≡ row_of names.now name.now }
 {
-    match &names.map.outcome {
-        Some(outcome) => match &outcome.externals {
-            Some(rows) => row_of(&names.objects.session, rows, name),
-            None => None,
-        },
+    match rows_in(names) {
+        Some(rows) => row_of(&names.objects.session, rows, name),
         None => None,
     }
 }
@@ -349,24 +367,49 @@ fn put_line(text: &mut Text, row: Option<Symbol>, symbol: &Symbol)
     text.put("\n");
 }
 
-/// Adds the line of a name, and its lists.
-#[tactic(auto, unfolding(crate::specs::Names::symbol_text))]
-fn put_symbol(text: &mut Text, names: &Names<'_>, symbol: &Symbol, uses: &[Use])
-    ensures { Puts text.old text.new (symbol_text names.now symbol.now uses.now) }
+/// Adds the objects that define a name, and those that make it a common.
+#[tactic(auto, unfolding(crate::specs::Names::sources_text))]
+fn put_sources(text: &mut Text, names: &Names<'_>, uses: &[Use])
+    ensures { Puts text.old text.new (sources_text names.now uses.now) }
 {
-    let members = names.map.members.as_slice();
-    put_line(text, row_in(names, &symbol.name), symbol);
-    put_definers(text, members, uses);
-    put_commons(text, members, uses);
+    put_definers(text, &names.map.members, uses);
+    put_commons(text, &names.map.members, uses);
+}
+
+/// Adds the lists of a name: who has it, and who needs it.
+fn put_both(text: &mut Text, names: &Names<'_>, uses: &[Use])
+    ensures { Puts text.old text.new (sources_text names.now uses.now ++ mentions_text names.now uses.now) }
+{
+    put_sources(text, names, uses);
     put_mentions(text, names, uses);
 }
 
-/// Adds all that is known of a name: its line, and its lists.
-fn put_known(text: &mut Text, names: &Names<'_>, uses: &[Use])
-    ensures { Puts text.old text.new (known_text names.now uses.now) }
+/// Adds the lists that a part has of a name.
+fn put_lists(text: &mut Text, names: &Names<'_>, section: Section, uses: &[Use])
+    ensures { Puts text.old text.new (lists_text names.now section uses.now) }
+{
+    match section {
+        Section::Defined(_) => put_mentions(text, names, uses),
+        Section::Needed(_) => put_sources(text, names, uses),
+        _ => put_both(text, names, uses),
+    }
+}
+
+/// Adds the line of a name, and its lists.
+#[tactic(auto, unfolding(crate::specs::Names::symbol_text))]
+fn put_symbol(text: &mut Text, names: &Names<'_>, section: Section, symbol: &Symbol, uses: &[Use])
+    ensures { Puts text.old text.new (symbol_text names.now section symbol.now uses.now) }
+{
+    put_line(text, row_in(names, &symbol.name), symbol);
+    put_lists(text, names, section, uses);
+}
+
+/// Adds what a part says of a name: its line, and its lists.
+fn put_known(text: &mut Text, names: &Names<'_>, section: Section, uses: &[Use])
+    ensures { Puts text.old text.new (known_text names.now section uses.now) }
 {
     if let Some(symbol) = telling(uses) {
-        put_symbol(text, names, &symbol, uses);
+        put_symbol(text, names, section, &symbol, uses);
     }
 }
 
@@ -406,8 +449,82 @@ fn is_multiple(names: &Names<'_>, uses: &[Use]) -> bool
 fn is_asked(names: &Names<'_>, uses: &[Use]) -> bool
     ensures { result ≡ is_asked_by names.now (slice_get uses.now 0) }
 {
+    let asked = names.asked;
     match uses.first() {
-        Some(first) => names.asked.contains(&first.symbol.name),
+        Some(first) => asked.names.contains(&first.symbol.name),
+        None => false,
+    }
+}
+
+/// Whether an object with a number has this use.
+fn is_of(object: usize, used: &Use) -> bool
+    ensures { result ≡ is_one_object used.now.object (Some object) }
+{
+    match used.object {
+        Some(one) => one == object,
+        None => false,
+    }
+}
+
+/// Whether an object defines the name of these uses.
+fn is_defined_in(object: usize, uses: &[Use]) -> bool
+    ensures { result ≡ list_any (defines_in object) uses.now }
+{
+    uses.iter()
+        .any(|used| is_of(object, used) && used.is_definition())
+}
+
+/// Whether an object has a symbol of the name of these uses that does not define it.
+fn is_needed_in(object: usize, uses: &[Use]) -> bool
+    ensures { result ≡ list_any (needs_in object) uses.now }
+{
+    uses.iter()
+        .any(|used| is_of(object, used) && !used.is_definition())
+}
+
+/// Whether an object uses the name of these uses.
+fn is_mentioned(uses: &[Use]) -> bool
+    ensures { result ≡ list_any is_mention uses.now }
+{
+    uses.iter().any(|used| is_mention(used))
+}
+
+/// Whether an object defines the name of these uses, and nothing uses it.
+fn is_unused(uses: &[Use]) -> bool
+    ensures { result ≡ is_unused uses.now }
+{
+    is_any_definition(uses) && !is_mentioned(uses)
+}
+
+/// The entry point of a link that is made.
+fn entry_in(map: &LinkMap) -> Option<u16>
+    ensures { result ≡ entry_in map.now.outcome }
+{
+    match &map.outcome {
+        Some(outcome) => match &outcome.linked {
+            Ok(linked) => Some(linked.file.header().entry_point),
+            Err(_) => None,
+        },
+        None => None,
+    }
+}
+
+/// Whether a name with this row is unused in a link with this entry point, and not there in text.
+fn is_idle_at(entry: Option<u16>, row: Option<Symbol>, uses: &[Use]) -> bool
+    ensures { result ≡ is_idle_at entry row uses.now }
+{
+    match (entry, row) {
+        (Some(entry), Some(row)) => { is_unused(uses) && !is_at(&row, Segment::TextSeg, entry) }
+        _ => false,
+    }
+}
+
+/// Whether a link is made in which the name of these uses is unused, and not at the entry point.
+fn is_idle(names: &Names<'_>, uses: &[Use]) -> bool
+    ensures { result ≡ is_idle_by names.now uses.now (slice_get uses.now 0) }
+{
+    match uses.first() {
+        Some(first) => is_idle_at(entry_in(names.map), row_in(names, &first.symbol.name), uses),
         None => false,
     }
 }
@@ -423,6 +540,12 @@ pub(crate) enum Section {
     All,
     /// Those that are asked for.
     Asked,
+    /// Those that an object defines and nothing uses, but for the entry point.
+    Unused,
+    /// Those that the object with this number defines.
+    Defined(usize),
+    /// Those that it needs: it has a symbol that does not define them.
+    Needed(usize),
 }
 
 /// Whether a part has the name of these uses.
@@ -434,6 +557,9 @@ fn has_name(names: &Names<'_>, section: Section, uses: &[Use]) -> bool
         Section::Multiple => is_multiple(names, uses),
         Section::All => true,
         Section::Asked => is_asked(names, uses),
+        Section::Unused => is_idle(names, uses),
+        Section::Defined(object) => is_defined_in(object, uses),
+        Section::Needed(object) => is_needed_in(object, uses),
     }
 }
 
@@ -448,11 +574,18 @@ fn put_title(text: &mut Text, is_titled: bool, title: &str)
 
 /// Adds all that is known of a name, after the title of its part.
 #[tactic(auto, unfolding(crate::specs::Names::titled_text))]
-fn put_titled(text: &mut Text, names: &Names<'_>, title: &str, is_titled: bool, uses: &[Use])
-    ensures { Puts text.old text.new (titled_text names.now title.now is_titled uses.now) }
+fn put_titled(
+    text: &mut Text,
+    names: &Names<'_>,
+    section: Section,
+    title: &str,
+    is_titled: bool,
+    uses: &[Use],
+)
+    ensures { Puts text.old text.new (titled_text names.now section title.now is_titled uses.now) }
 {
     put_title(text, is_titled, title);
-    put_known(text, names, uses);
+    put_known(text, names, section, uses);
 }
 
 /// Adds a name, if a part has it. Returns whether the title of the part is there then.
@@ -471,7 +604,7 @@ fn put_name(
     if !has_name(names, section, uses) {
         return is_titled;
     }
-    put_titled(text, names, title, is_titled, uses);
+    put_titled(text, names, section, title, is_titled, uses);
     true
 }
 

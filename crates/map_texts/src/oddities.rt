@@ -31,7 +31,7 @@ fn put_text_address(text: &mut Text, places: &[Places], object: usize, offset: u
 }
 
 /// The path of an object.
-fn path_at(members: &[Member], object: usize) -> &str
+pub(crate) fn path_at(members: &[Member], object: usize) -> &str
     ensures { result.now ≡ or_nothing (label_of members.now (Some object)) }
 {
     match label_of(members, Some(object)) {

@@ -4,18 +4,18 @@ ghost use Rattle.link_maps.specs.Members.{all_of};
 ghost use Rattle.link_session.specs.Labelled.{objects};
 ghost use Rattle.texts.specs.Texts.{Puts};
 ghost use Rattle.map_texts.specs.Segments.{is_refused, largest_if};
-ghost use Rattle.map_texts.specs.Whole.{asked_text, faults_text, limits_in, map_text, names_map, sizes_text, whole_text};
+ghost use Rattle.map_texts.specs.Whole.{asked_map, asked_text, externals_if, externals_text, faults_text, limits_in, map_text, sizes_text, unused_text, whole_text};
 
-use crate::asked::{each_once, put_absent_names};
+use crate::asked::{Asked, put_absents};
 use crate::limits::{put_largest, put_limits};
 use crate::members::put_members;
 use crate::names::{Names, Section, put_names};
+use crate::objects::put_objects;
 use crate::oddities::put_oddities;
 use crate::outcomes::put_head;
 use crate::segments::put_segments_if;
-use aout_core::Name;
+use crate::spots::put_spots;
 use disassemblies::NamedFile;
-use indexmap::IndexSet;
 use link_maps::{Left, LinkMap, Member, Objects, limits_of};
 use link_out::Options;
 use link_session::Entry;
@@ -111,6 +111,15 @@ fn put_faults(text: &mut Text, names: &Names<'_>)
     put_names(text, names, Section::Multiple, "\nMultiply defined\n");
 }
 
+/// Adds the names that nothing uses, unless the link is to be linked again.
+fn put_unused(text: &mut Text, names: &Names<'_>, options: &Options)
+    ensures { Puts text.old text.new (unused_text options.now names.now) }
+{
+    if !options.is_relocatable() {
+        put_names(text, names, Section::Unused, "\nUnused\n");
+    }
+}
+
 /// Adds the whole map.
 #[tactic(auto, unfolding(crate::specs::Whole::whole_text))]
 fn put_whole(text: &mut Text, names: &Names<'_>, options: &Options)
@@ -120,6 +129,7 @@ fn put_whole(text: &mut Text, names: &Names<'_>, options: &Options)
     put_sizes(text, names.map, names.objects, options);
     put_faults(text, names);
     put_oddities(text, names.objects, names.map);
+    put_unused(text, names, options);
     put_members(text, names.map);
     put_names(text, names, Section::All, "\nExternals\n");
 }
@@ -138,44 +148,62 @@ pub fn map_text(
         map,
         objects,
         files: &files,
-        asked: &IndexSet::new(alloc),
+        asked: &Asked::nothing(alloc),
     };
     let mut text = Text::new(alloc);
     put_whole(&mut text, &names, options);
     text.finish()
 }
 
-/// Adds what becomes of the link, the externals that are asked for, and the names that are absent.
-#[tactic(auto, unfolding(crate::specs::Whole::asked_text))]
-fn put_asked(text: &mut Text, names: &Names<'_>, absent: &[Name])
-    ensures { Puts text.old text.new (asked_text names.now absent.now) }
+/// Adds the names that are asked for, and what is absent.
+#[tactic(auto, unfolding(crate::specs::Whole::externals_text))]
+fn put_externals(text: &mut Text, names: &Names<'_>)
+    ensures { Puts text.old text.new (externals_text names.now) }
 {
-    put_head(text, names.map, names.objects);
+    let asked = names.asked;
     text.put("\nExternals\n");
     put_names(text, names, Section::Asked, "");
-    put_absent_names(text, absent);
+    put_absents(text, &asked.absent);
 }
 
-/// The text of the map of a link of objects, but only of the names that are asked for. Those of them that the link does not have are
-/// absent, as `absent_names` gives them. An error: out of memory. (own choice)
-pub fn names_map(
+/// Adds the names that are asked for, and what is absent, if there is one.
+fn put_externals_if(text: &mut Text, names: &Names<'_>)
+    ensures { Puts text.old text.new (externals_if names.now) }
+{
+    if names.asked.has_names() || names.asked.has_absent() {
+        put_externals(text, names);
+    }
+}
+
+/// Adds what becomes of the link, and what it has at addresses, of objects and of names.
+#[tactic(auto, unfolding(crate::specs::Whole::asked_text))]
+fn put_asked(text: &mut Text, names: &Names<'_>)
+    ensures { Puts text.old text.new (asked_text names.now) }
+{
+    let asked = names.asked;
+    put_head(text, names.map, names.objects);
+    put_spots(text, names);
+    put_objects(text, names, &asked.paths);
+    put_externals_if(text, names);
+}
+
+/// The text of the map of a link of objects, but only of what is asked for. An error: out of memory. (own choice)
+pub fn asked_map(
     alloc: Global,
     objects: &Objects,
     map: &LinkMap,
-    asked: &[Name],
-    absent: &[Name],
+    asked: &Asked,
 ) -> Result<Vec<u8>, AllocError>
-    ensures { IfOk result (λ v.
-        v.items ≡ names_map objects.now map.now asked.now absent.now) }
+    ensures { IfOk result (λ v. v.items ≡ asked_map objects.now map.now asked.now) }
 {
     let files = files_of(alloc, objects)?;
     let names = Names {
         map,
         objects,
         files: &files,
-        asked: &each_once(alloc, asked)?,
+        asked,
     };
     let mut text = Text::new(alloc);
-    put_asked(&mut text, &names, absent);
+    put_asked(&mut text, &names);
     text.finish()
 }
