@@ -12,9 +12,9 @@
 #: make test                  cases and tests with programs that are not proved                            kit          5 minutes
 #: make gate                  proves everything, and tries the wrong bodies of must-fail/                  kit          60 minutes
 #: make check                 all that CI runs: the gate, and tests of the proved programs                 tools/needs  90 minutes
-#: make check-all             this, all wrong bodies, planted bugs, the page and the release               tools/needs  5 hours
+#: make check-all             this, all wrong bodies, planted bugs, the page and the release               tools/needs  4.5 hours
 #: make check-wrong-bodies    has the prover refuse those of changed crates, or of NAMES=CRATE              kit          to 2 hours
-#: make planted               plants BUGS=NAME, or all, and sees that tests find them                      kit          1 minute each
+#: make planted               plants BUGS=NAME, or all, and sees that tests find them                      kit          25 minutes
 #: make demo                  proves v7, and shows a session and a link with it                            kit          10 minutes
 #: make recheck               proves one claim again, and shows how a broken line is refused               kit          2 minutes
 #: make bench                 counts instructions, times and memory                                        valgrind     5 minutes
@@ -168,7 +168,7 @@ check-wrong-bodies:
 	python3 -m tests.wrong_bodies.wrong_bodies $(or $(filter-out all,$(NAMES)),$(if $(NAMES),,-c $(if $(MINUTES),-m $(MINUTES))))
 	$(if $(filter-out all,$(NAMES)),,python3 -m tests.wrong_bodies.wrong_bodies --try)
 
-# the bugs of docs/internals/PLANTED.md, one after another
+# the bugs of docs/internals/PLANTED.md, each alone, as many side by side as there are processors
 planted:
 	python3 -m tests.cases.planted $(BUGS)
 

@@ -225,7 +225,7 @@ _TEXTS = {
     60: "no room; a column is missing; not an octal number; over 177777; bad byte in a name; the address does not follow; the number does "
     "not follow; more than 32767 words; more than 5461 symbols; text, data or symbols is missing; unknown word; text, data and symbols "
     "are not in this order; magic and flag come before text, data and symbols; only symbols can follow symbols; no such magic number; "
-    "odd size of bss; more than 8 bytes in a name",
+    "odd size of bss; more than 8 bytes in a name; one number too many",
     81: "the strings have a length under 4; a symbol belongs to an overlay; a symbol has its name at no place of the strings; a symbol is "
     "for a debugger; a symbol has a description, and is not for a debugger; a linked program; two names are equal in eight bytes; a "
     "word refers to a symbol for a debugger; a word refers to a local that is dropped",
@@ -281,7 +281,7 @@ class Fault(Exception):
         where = f" at word {answer.word}" if answer.fault in (23, 24) else f" in part {answer.word}" if answer.fault == 6 else ""
         if is_byte:
             where = f", byte {answer.place}" if answer.fault != 1 else ""
-        elif 60 < answer.fault < 76:
+        elif 60 < answer.fault < 78:
             where = f", line {answer.place}, column {answer.word}"
         elif 10 < answer.fault < 35:
             where += f", object {answer.place}"

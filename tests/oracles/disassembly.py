@@ -409,6 +409,8 @@ class File:
                 said = text + (self.remarks(place) if relocation is None else "") if number == place else ""
                 if number != place and relocation is not None:
                     said = self.said(2 * number, word, relocation)
+                # the digits of a word that begins no instruction
+                said = re.sub("^[0-7]{6}(?: |$)", "", said)
                 lines.append(self.row(2 * number, word, relocation, said))
             place += length
         lines += self.labels(2 * place, 0) + ["data"]

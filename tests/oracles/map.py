@@ -1,7 +1,7 @@
 """Compares the map of `v7-explain -m` with what `v7 ld`, `v7 nm` and `v7 size` say of the same objects.
 
 usage: python3 -m tests.oracles.map [MAP [LINKS]]
-tier: check, 40 seconds; programs: v7 v7-explain; for: crates/link_maps crates/map_texts crates/finding_objects
+tier: check, 150 seconds; programs: v7 v7-explain; for: crates/link_maps crates/map_texts crates/finding_objects
 
 MAP is another program that prints maps, examples/c/map.c: of each link it must print the same. LINKS are so many in place of 200.
 
@@ -10,7 +10,8 @@ words, with names that are defined, wanted as commons and referred to. Who defin
 of an object refer to it are known from the objects as they were made, and so is what is odd. The instruction of each such word is what
 tests/oracles/disassembly.py makes of the object's words. What is used of each limit is counted in the objects and in the linked
 file. 60 further links are refused, some because a file can't be read. Each made link, and 51 that are refused, have
-a map of some names too (-y), with names that are too long, absent or asked for twice.
+a map of some names too (-y), with names that are too long, absent or asked for twice. Each made link is asked for each of its addresses,
+and for one of its objects: an answer agrees with the objects as they were made, with the table of objects, and with `v7 nm -n`.
 """
 import itertools
 import os
@@ -39,9 +40,9 @@ def run(*words):
 
 
 def by_records(status, text, said):
-    """The same as records tell it: not what is odd, and names without a place, of a link that is refused before it has places, have no
+    """The same as records tell it: not what is odd or unused, and names without a place, of a link that is refused before it has places, have no
     letters."""
-    text = re.sub(r"\nOdd\n(?:.+\n)+", "", text)
+    text = re.sub(r"\n(?:Odd|Unused)\n(?:.+\n)+", "", text)
     has_places = not re.match(r"[^\n]*: refused(?!, too many symbols|, symbol number)", text)
     return status, text if has_places else re.sub(r"(?m)^ {7}[A-Z?] ", " " * 9, text), said
 
@@ -53,6 +54,11 @@ def explain(*words):
         if came[2] == "":
             same(f"{' '.join(words)}: by records", run(other, *words), by_records(*came))
     return came
+
+
+def asks(*words):
+    """The map of a part of a link."""
+    return run(EXPLAIN, "-m", *words)
 
 
 class RandomObject:
@@ -267,11 +273,11 @@ def check_asked(what, dice, command, objects, whole):
     """The map of some names has what the objects have of these, after what becomes of the link. `command` has the options and the
     paths, and `whole` the status, the parts and the lines of the externals of the whole map."""
     words = [dice.choice(NAMES + ["_none", "_long_name", "_absent_name"]) for _ in range(dice.randrange(1, 6))]
-    status, text, errors = run(EXPLAIN, "-m", *(it for word in words for it in ("-y", word)), *command)
+    status, text, errors = asks(*(it for word in words for it in ("-y", word)), *command)
     same(f"{what}: standard error of some names", errors, "")
-    asked = list(dict.fromkeys(word[:8] for word in words))
+    asked = {word[:8] for word in words}
     known = {name for given in objects for name, kind, _ in given.symbols if kind & 0o40} | ({"_forced"} if "-u" in command else set())
-    absent = [f"  {name}: not mentioned" for name in asked if name not in known]
+    absent = [f"  {word}: not mentioned" for word in words if word[:8] not in known]
     link_status, found, externals = whole
     same(f"{what}: status of some names", status, 1 if absent else link_status)
     some = parts(text)
@@ -283,6 +289,82 @@ def check_asked(what, dice, command, objects, whole):
     same(f"{what}: some names", [line for line, _, _ in names.values()], [line for line in externals if line[9:] in asked])
     check_lists(f"{what}: some names", names, objects)
     check_words(f"{what}: some names", names, found, objects, asked)
+
+
+def spots_at(address, found, objects, rows):
+    """What the map of a made link has at an address: the objects whose segments have it, or the commons. `rows` are the externals in bss."""
+    lines = []
+    for place, (row, given) in enumerate(zip(found["Objects"][1:], objects)):
+        text, text_size, data, data_size, bss, bss_size = (int(field, base) for field, base in zip(row.split(), [8, 10] * 3))
+        says = []
+        if 0 <= address - text < text_size:
+            word = (address - text) // 2
+            says.append(word_line(given, {"text": text}, word).replace(f"text {text + 2 * word:06o}", f"text {address:06o}", 1))
+        if 0 <= address - data < data_size:
+            says.append(f"data {address:06o}{label_before(given, 3, 2 * given.text + address - data)}")
+        if 0 <= address - bss < bss_size:
+            says.append(f"bss {address:06o}{label_before(given, 4, 2 * (given.text + given.data) + address - bss)}")
+        lines += [line for one in says for line in (f"    in          {place}.o", 16 * " " + one)]
+    begin, end = next((int(line.split()[1], 8), int(line.split()[2], 8)) for line in found["Segments"] if line.split()[0] == "commons")
+    if begin <= address < end:
+        near = max(value for _, value in rows if value <= address)
+        name = next(name for name, value in rows if value == near)
+        lines += ["    in          commons", f"                commons {address:06o}  {name}" + (f"+{address - near:o}" if near < address else "")]
+    return lines
+
+
+def check_addresses(what, options, paths, found, objects):
+    """Each address of a made link has what the objects have there, and the label is where nm has it, unless it is multiply defined."""
+    ends = [int(line.split()[2], 8) for line in found["Segments"]]
+    begins = [int(line.split()[1], 8) for line in found["Segments"]]
+    asked = sorted({address for pair in zip(begins, ends) for address in range(pair[0], pair[1] + 2)})
+    status, text, _ = asks(*(it for address in asked for it in ("-y", f"{address:o}")), *options, *paths)
+    some = parts(text)
+    bare = file_at("bare")
+    rows = [(model_name(symbol), symbol.value) for symbol in bare.symbols if symbol.type == 0o44]
+    answers = {address: spots_at(address, found, objects, rows) for address in asked}
+    same(f"{what}: addresses", some.get("Addresses", []), [line for address in asked for line in answers[address]])
+    absent = [f"  {address:o}: not mentioned" for address in asked if not answers[address]]
+    same(f"{what}: absent addresses", some.get("Externals", []), absent)
+    same(f"{what}: status of absent addresses", status, 1)
+    run(V7, "ld", *[word for word in options if word not in ("-s", "-X", "-x")], "-o", "all", *paths)
+    known = {(line[9:], int(line[:6], 8)) for line in run(V7, "nm", "-n", "all")[1].split("\n") if line[:1].isdigit()}
+    multiples = set(names_in(found.get("Multiply defined", [])))
+    for address, lines in answers.items():
+        for line in lines[1::2]:
+            label = re.match(r" +(?:text|data|bss|commons) [0-7]+  ([^ :+]+)(?:\+([0-7]+))?", line)
+            if label and not label[1].isdigit() and label[1] not in multiples:
+                at = address - int(label[2] or "0", 8)
+                same(f"{what}: {line}: nm", any((label[1], at - less) in known for less in (range(6) if " text " in line[:22] else [0])), True)
+    return len(asked)
+
+
+def model_name(symbol):
+    return symbol.name.decode("latin-1")
+
+
+def check_object(what, dice, options, paths, found, names):
+    """An object has its line of the whole map, the names that it defines with those that use them, and those that it needs with those
+    that have them. `names` are the externals of the whole map."""
+    path = dice.choice(paths)
+    some = parts(asks("-y", path, *options, *paths)[1])
+    same(f"{what}: the line of {path}", some["Objects"][1:], [line for line in found["Objects"] if line.split()[-1] == path])
+    symbols = OBJECTS[path].symbols
+    for title, belongs, labels in (("Defines", lambda kind: kind & 0o37, ["used in"]),
+                                   ("Needs", lambda kind: not kind & 0o37, ["defined in", "again in", "common in"])):
+        asked = [name for name in names if any(one == name and kind & 0o40 and belongs(kind) for one, kind, _ in symbols)]
+        expected = {name: (names[name][0], {label: items for label, items in names[name][1].items() if label in labels},
+                           names[name][2] if "used in" in labels else {}) for name in asked}
+        same(f"{what}: {path}: {title}", names_in(some.get(title, [])), expected)
+
+
+def check_unused(what, options, found, objects, entry):
+    """The names that an object defines and none uses, but for the entry point; with -r there are none."""
+    used = {name for given in objects for number, (name, kind, _) in enumerate(given.symbols)
+            if kind & 0o40 and (kind == 0o40 or given.words_to(number))} | ({"_forced"} if "-u" in options else set())
+    text = {model_name(symbol) for symbol in file_at("bare").symbols if (symbol.type, symbol.value) == (0o42, entry)}
+    defined = {name for given in objects for name, kind, _ in given.symbols if kind & 0o40 and kind & 0o37}
+    same(f"{what}: unused", set(names_in(found.get("Unused", []))), set() if "-r" in options else defined - used - text)
 
 
 def check_report(what, found, report):
@@ -425,12 +507,18 @@ def check_random(number):
     check_places(what, found, objects)
     ODD.append(check_odd(what, found, objects, "-u" in options))
     status = run(V7, "ld", *options, "-o", "out", *paths)[0]
+    check_unused(what, options, found, objects, file_at("out").entry)
+    OBJECTS.clear()
+    OBJECTS.update(zip(paths, objects))
+    check_object(what, dice, options, paths, found, names)
+    if not MAP:
+        ASKED.append(check_addresses(what, options, paths, found, objects))
     check_asked(what, dice, options + paths, objects, (status, found, run(V7, "nm", "-g", "bare")[1].split("\n")[:-1]))
     return check_words(what, names, found, objects)
 
 
-# how many lines each map has that say what is odd
-ODD = []
+# how many lines each map has that say what is odd, how many addresses were asked for, and the objects of a link by their paths
+ODD, ASKED, OBJECTS = [], [], {}
 LETTERS = {0o41: "A", 0o42: "T", 0o43: "D", 0o44: "B"}
 # an object that a link has no place for, the fault, and options with which it has none
 TOO_MUCH = [
@@ -556,13 +644,14 @@ def all_refused():
 
 def with_change(old, new, check):
     """Does a check by maps in which a text is another one."""
-    global explain
-    asked = explain
-    explain = lambda *words: (lambda status, out, err: (status, out.replace(old, new), err))(*asked(*words))
+    global explain, asks
+    whole, part = explain, asks
+    changed = lambda status, out, err: (status, out.replace(old, new), err)
+    explain, asks = lambda *words: changed(*whole(*words)), lambda *words: changed(*part(*words))
     try:
         check()
     finally:
-        explain = asked
+        explain, asks = whole, part
 
 
 def planted():
@@ -580,17 +669,30 @@ def planted_place():
     with_change("  _main+2: ", "  x: ", lambda: [check_random(link) for link in range(LINKS)])
 
 
+def planted_spot():
+    """Maps in which a place is of another segment."""
+    with_change("                data ", "                bss ", lambda: [check_random(link) for link in range(LINKS)])
+
+
+def planted_unused():
+    """Maps that say of names that they are unused under another title."""
+    with_change("\nUnused\n", "\nUndefined\n", lambda: [check_random(link) for link in range(LINKS)])
+
+
 def main():
     examples = check_examples()
     notices(planted)
+    notices(planted_spot)
+    notices(planted_unused)
     notices(planted_place)
     notices(planted_odd)
     ODD.clear()
+    ASKED.clear()
     words = sum(check_random(link) for link in range(LINKS))
     words += sum(check_random_refused(link) for link in range(51))
     refused = 51 + all_refused()
     print(f"{examples} maps of examples, {LINKS} of made links and {refused} of refused ones agree with ld, nm and size; {words} words are placed, and {sum(ODD)} lines say what is odd; "
-          f"{LINKS + 51} maps of some names have what the objects have of these")
+          f"{LINKS + 51} maps of some names have what the objects have of these; {sum(ASKED)} addresses have what is there")
 
 
 if __name__ == "__main__":

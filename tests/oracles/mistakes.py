@@ -22,6 +22,7 @@ import struct
 
 from tests.lib.compare import notices, same
 from tests.lib.files import TOP, read_bytes, room, write
+from tests.lib.objects import unpack
 from tests.lib.programs import program, ran
 from tests.oracles.disassembly import File
 from tests.oracles.idioms import IDIOMS, IF, made as made_idiom
@@ -42,15 +43,12 @@ DATA_IN_TEXT = os.path.join(TOP, "examples/k.o")
 
 def file_in(data):
     """The object that these bytes are, if they are one."""
-    magic, text, size, bss, table, _, _, flag = struct.unpack("<8H", data[:16])
+    found = unpack(data)
+    magic, flag, count = found.header[0], found.header[7], len(found.text)
     if magic != 0o407 or flag:
         return None
-    count, segments = text // 2, (text + size) // 2
-    words = struct.unpack_from("<%dH" % (2 * segments), data, 16)
-    at = 16 + 4 * segments
-    symbols = [struct.unpack_from("<8sHH", data, place) for place in range(at, at + table, 12)]
-    relocation = words[segments:]
-    return File(list(words[:count]), list(relocation[:count]), symbols, magic, list(words[count:segments]), list(relocation[count:]), bss)
+    relocation = list(found.relocation)
+    return File(list(found.text), relocation[:count], found.symbols, magic, list(found.data), relocation[count:], found.header[3])
 
 
 def copy(file):

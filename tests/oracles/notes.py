@@ -2,14 +2,15 @@
 v7-explain(1). What is odd of instructions is left to mistakes.py; here `-c` has to say of it what the listing says. A session of v7
 has to add what is called an object, and to answer what is noted of another file.
 
-tier: check, 60 seconds; programs: v7-explain v7; for: crates/findings crates/suspicions crates/explanations crates/v7_explain docs/FORMAT.md man/v7-explain.1
+tier: check, 150 seconds; programs: v7-explain v7 v7-object; for: crates/findings crates/suspicions crates/explanations crates/v7_explain docs/FORMAT.md man/v7-explain.1
 
 The files are made, the same in each run: objects whose numbers are at the edges of their ranges and beside them, and one file cut
 at each byte. There are objects with 15 to 18 bad relocation words, files with other magic numbers, flags and sizes, files of other forms,
 objects of instructions, those of examples/ and of agree.py, and these with bytes changed, cut or put in. The program has little memory
-and time for each.
+and time for each. Of 200 files that are cut, a listing has to have all words and symbols before the cut.
 """
 import glob
+import os
 import random
 import re
 import resource
@@ -47,6 +48,8 @@ COMMON = "rounded up to even"
 # what a session answers to a whole file that is not an object
 PROGRAMS_SAID = ("not an object", "no relocation")
 SECONDS, BYTES = 60, 1 << 28
+# so many files are cut
+CUTS = 200
 MORE = re.compile(r"and (\d+) more that are odd$")
 dice = random.Random(42)
 
@@ -324,6 +327,69 @@ def inventory_of(path, data, odd):
     return f"{kind_said:12}" + "".join(f"{number:>7}" for number in numbers) + f"  {said:17}  {path}"
 
 
+def remains(data):
+    """The rows of a listing for what is there of a file that ends early, as far as they do not follow from other rows, and its last line."""
+    file, size = File(data), len(data)
+    segments, starts = file.text + file.data_size, {"text": 0, "data": file.ranges()["data"][0]}
+    there = max(0, min(segments, size - 16) // 2)
+    relocs = max(0, min(file.symbols_at, size) - file.relocation_at) // 2
+    symbols = max(0, size - file.symbols_at) // 12
+    rows = []
+    for number in range(there):
+        part, at = ("text", 2 * number) if 2 * number < file.text else ("data", 2 * number - file.text)
+        row = [part, f"{(starts[part] + at) % 65536:06o}", f"{file.word(16 + 2 * number):06o}"]
+        rows.append(row + ([f"{file.word(file.relocation_at + 2 * number):o}"] if number < relocs else []))
+    for number in range(symbols):
+        name, kind, value = struct.unpack_from("<8sHH", data, file.symbols_at + 12 * number)
+        rows.append(["symbols", f"{number:o}", shown(name.split(b"\0")[0]), f"{kind:o}", f"{value:06o}"])
+    text = min(there, file.text // 2)
+    missing = (file.text // 2 - text, (file.data_size // 2) - (there - text), (file.symbols_at - file.relocation_at) // 2 - relocs)
+    return rows, (f"the file ends at byte 0{size:o} ({size}); missing words: %d of text, %d of data, %d of relocation; " % missing
+                  + f"missing symbols: {file.table // 12 - symbols}")
+
+
+def compare_remains(path, data, listing):
+    """The rows and the last line of a listing are those of what is there. After the columns of a row comes a remark, which does not
+    begin with a digit."""
+    rows, last = remains(data)
+    lines, part, found = listing.splitlines(), "", []
+    for line in lines[:-1]:
+        columns = line.split()
+        if columns[0] in ("text", "data", "symbols"):
+            part = columns[0]
+        elif columns[0].isdigit():
+            wanted = rows[len(found)] if len(found) < len(rows) else []
+            more = columns[len(wanted) - 1:][:1]
+            found.append([part, *columns[:len(wanted) - 1], *(column for column in more if column.isdigit())])
+    compare(path, data, [*found, lines[-1]], [*rows, last])
+
+
+def cuts():
+    """Files, each cut at a place after its header."""
+    whole = [read_bytes(path) for path in sorted(glob.glob(f"{TOP}/examples/*.o"))] + [of_any_names() for _ in range(50)]
+    whole += [random_file(dice.randrange(1, 9), dice.randrange(5), magic, flag) for magic in PROGRAMS for flag in (0, 1)]
+    whole = [data for data in whole if len(data) >= 16 and not list(bad_sizes(File(data))) and File(data).end > 16 and File(data).magic in PROGRAMS]
+    for number in range(CUTS):
+        data = whole[number % len(whole)]
+        yield data[:dice.randrange(16, min(len(data), File(data).end))]
+
+
+def compare_cuts():
+    """The listing of a file that ends early has all that is there, v7-object refuses it, and other views end with the same line."""
+    for number, data in enumerate(cuts()):
+        path = f"cut{number}.o"
+        write(path, data)
+        listing = answered(1, path)[0]
+        compare_remains(path, data, listing)
+        if number == 0:
+            without = "\n".join(line for line in listing.splitlines() if not line.startswith("000000  "))
+            notices(compare_remains, path, data, without)
+        for option in ("-d", "-p", "-s", "-x"):
+            compare(f"{option} {path}", data, answered(1, option, path)[0].splitlines()[-1:], [remains(data)[1]])
+        write("cut.lst", listing.encode())
+        compare(f"v7-object of {path}", data, [ran(OBJECT, "cut.lst", "made.o").status, os.path.exists("made.o")], [1, False])
+
+
 def near(edges):
     return max(0, dice.choice(edges) + dice.choice([-2, -1, 0, 1, 2])) % 65536
 
@@ -497,10 +563,11 @@ def main():
         if sure or len(refused[path]) <= MOST:
             compare(f"-c {path}", data, [alone], [1 if sure else 0])
         compare(f"-l {path}", data, [line], [inventory_of(path, data, odd_count(notes))])
-    print(f"{count} notes of {len(datas)} files compared, and {len(datas)} lines of an inventory")
+    compare_cuts()
+    print(f"{count} notes of {len(datas)} files compared, {len(datas)} lines of an inventory, and what is there of {CUTS} files that end early")
 
 
 if __name__ == "__main__":
-    EXPLAIN, V7 = program("v7-explain"), program("v7")
+    EXPLAIN, V7, OBJECT = program("v7-explain"), program("v7"), program("v7-object")
     with room():
         main()

@@ -1,9 +1,11 @@
-"""Tries what no case can have of `v7-explain -l -R`: links, pipes, names that are not UTF-8, folders that can't be read, and folders
-that are nested deeper than a path may be long.
+"""Tries what no case can have of `v7-explain -l -R`: links, FIFOs, sockets, devices, names that are not UTF-8, folders that can't be read,
+and folders that are nested deeper than a path may be long; and that `v7-explain` opens none of the first four by their own paths.
 
 tier: check, 3 seconds; programs: v7-explain; for: crates/v7_explain/src/folders.rt crates/surroundings
 """
 import os
+import socket
+import stat
 import subprocess
 import sys
 
@@ -12,21 +14,60 @@ from tests.lib.files import room, write
 from tests.lib.programs import program, ran
 
 DEEP = 2100
-TEXT = "text              -      -      -      -      -  -                  "
+COLUMNS = "      -      -      -      -      -  -                  "
+
+
+def rows(*words):
+    """The status, the kinds and paths of the lines, and the lines of errors."""
+    done = ran(EXPLAIN, *words, seconds=60)
+    lines = [line.partition(COLUMNS) for line in done.out.decode().splitlines()]
+    return done.status, [(kind.strip(), path) for kind, _, path in lines], done.err.decode("utf-8", "replace").splitlines()
 
 
 def inventory(*paths):
-    """The status, the paths that have lines, and the lines of errors."""
-    done = ran(EXPLAIN, "-l", "-R", *paths, seconds=60)
-    lines = done.out.decode().splitlines()
-    if any(not line.startswith(TEXT) for line in lines):
+    """The status, the paths that have lines, which are of texts, and the lines of errors."""
+    status, lines, errors = rows("-l", "-R", *paths)
+    if any(kind != "text" for kind, _ in lines):
         sys.exit("a line is not that of a text: %r" % lines)
-    return done.status, [line[len(TEXT):] for line in lines], done.err.decode("utf-8", "replace").splitlines()
+    return status, [path for _, path in lines], errors
 
 
 def make(*paths):
     for path in paths:
         write(os.fsdecode(path), "a line of text, as long as a header\n")
+
+
+def every_kind():
+    """A folder with a file of each kind, a FIFO, a socket, a device, and names that are not UTF-8."""
+    make(b"kinds/z", b"kinds/\xff/inside", b"kinds/r\xe9.o")
+    write("kinds/empty", b"")
+    write("kinds/core", bytes(266) + bytes([0, 0, 1, 0]) + bytes(754 + 64))
+    subprocess.run(["tar", "-cf", "kinds/tar", "kinds/z"], check=True)
+    os.mkfifo("kinds/fifo")
+    socket.socket(socket.AF_UNIX).bind("kinds/socket")
+    found = [("core", "core"), ("empty", "empty"), ("FIFO", "fifo"), ("socket", "socket"), ("tar", "tar"), ("text", "z")]
+    if os.getuid() == 0:
+        os.mknod("kinds/device", stat.S_IFCHR | 0o600, os.makedev(1, 5))
+        found.insert(1, ("device", "device"))
+    else:
+        print("not tried without root: a device in a folder")
+    # in the order of what is shown: a backslash comes before an r
+    found += [("not UTF-8", "\\377"), ("not UTF-8", "r\\351.o")]
+    errors = ["v7-explain: kinds/%s: cannot open" % path for kind, path in found if kind == "not UTF-8"]
+    same("every kind", rows("-l", "-R", "kinds"), (2, [(kind, "kinds/" + path) for kind, path in found], errors))
+    os.chdir("kinds")
+    same("every kind, here", rows("-l", "-R", ".")[:2], (2, [(kind, "./" + path) for kind, path in found]))
+    os.chdir("..")
+
+    # by their own paths, they have lines of an inventory, and are not opened
+    special = [("FIFO", "kinds/fifo"), ("socket", "kinds/socket"), ("device", "/dev/zero")]
+    same("named", rows("-l", *[path for _, path in special], "kinds/z"), (0, [*special, ("text", "kinds/z")], []))
+    for option in ([], ["-c"], ["-d"], ["-s"], ["-m"], ["-o", "out"]):
+        for _, path in special:
+            same(f"{option} {path}", rows(*option, path), (2, [], ["v7-explain: %s: cannot open" % path]))
+    # a link is followed
+    given = subprocess.run([EXPLAIN, "-l", "/dev/stdin"], stdout=subprocess.PIPE, input=b"a text of a pipe", timeout=60, check=True)
+    same("a pipe", given.stdout.decode(), "%-12s%s%s\n" % ("text", COLUMNS, "/dev/stdin"))
 
 
 def main():
@@ -37,19 +78,16 @@ def main():
     notices(same, "a folder less", inventory("some"), (0, found[1:], []))
     same("slashes", inventory("some/b/", "some//b", "."), (0, ["some/b/c", "some//b/c", "./other/here", *("./" + path for path in found)], []))
 
-    # a loop of links, a link to a file, one to nothing, and a pipe
+    # a loop of links, a link to a file, and one to nothing
     os.symlink("..", b"some/b/up")
     os.symlink("a", b"some/link")
     os.symlink("nowhere", b"some/lost")
-    os.mkfifo(b"some/pipe")
-    same("links and pipes", inventory("some"), (0, found, []))
+    same("links", inventory("some"), (0, found, []))
     os.symlink("some", b"to")
     same("a link", inventory("to", "to/"), (2, [path.replace("some", "to") for path in found], ["v7-explain: to: read error"]))
     same("a link to a file", inventory("some/link"), (0, ["some/link"], []))
 
-    make(b"names/\xff/inside", b"names/\xfe", b"names/z")
-    same("names that are not UTF-8", inventory("names", "other"), (2, ["names/z", "other/here"], ["v7-explain: names: read error"]))
-
+    every_kind()
     if os.getuid() != 0:
         os.chmod("some/b", 0)
         same("no permission", inventory("some"), (2, [path for path in found if path != "some/b/c"], ["v7-explain: some/b: cannot open"]))
@@ -67,7 +105,7 @@ def main():
     if not errors[0].startswith("v7-explain: deep/d/d/d/") or len(errors[0]) < 4000:
         sys.exit("deep folders: %r" % errors)
     subprocess.run(["rm", "-rf", "deep"], check=True)
-    print("folders are walked as said: links, pipes, names that are not UTF-8, and %d levels" % DEEP)
+    print("folders are walked as said: links, devices, FIFOs, sockets, names that are not UTF-8, and %d levels" % DEEP)
 
 
 if __name__ == "__main__":

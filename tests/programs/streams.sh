@@ -188,6 +188,10 @@ if (ulimit -v 200000 && exec v7-explain main.o) >answers 2>fault; then
         expect "$words, with little memory" 2 "${words%% *}: no memory"
         same answers /dev/null
     done
+    # an inventory reads only its first bytes
+    (ulimit -v 200000 && exec v7-explain -l large) >answers 2>fault; status=$?
+    expect 'v7-explain -l large, with little memory' 0 ''
+    grep -q '^other .* large$' answers || fail "v7-explain -l large: $(cat answers)"
 fi
 [ ! -e out ] || fail 'with little memory a file is stored'
 rm large

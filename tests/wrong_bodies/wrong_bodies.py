@@ -401,8 +401,7 @@ class Kit(prove.Kit):
     """The kit, as a copy of a crate is checked with it."""
 
     def check(self, crate):
-        words = [self.rattle, "check", *self.words(crate), *self.logic, "--jobs", "1"]
-        return words + ["--crate-type", "staticlib"] * crate.is_static
+        return [self.rattle, "check", *self.words(crate), *self.logic, "--jobs", "1"]
 
 
 def has_libraries(crates, place):

@@ -77,7 +77,7 @@ ReadsBack written = (c : Contents) → IsSound c → read Compared (written c) �
 
 law_of_listings : ListingLaw → ReadsBack (listing no_remarks)
 law_of_listings law =
-    λ c sound. law Compared no_remarks c (record { notes = tt; findings = tt; labels = λ p i. tt; word = λ p i. tt; symbol = λ s. tt }) sound
+    λ c sound. law Compared no_remarks c (record { notes = tt; findings = tt; labels = λ p i. tt; word = λ p i. (tt, refl); symbol = λ s. tt }) sound
 
 -- other ways: other digits of a word, other names, and another order of the table
 abbrev rows : (ℕ → List ℕ) → ℕ → List ℕ → List Reloc → List (List ℕ)

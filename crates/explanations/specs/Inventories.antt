@@ -56,6 +56,10 @@ kind_text kinds.Overlaid = codes "overlaid"
 kind_text kinds.Tape = codes "tar"
 kind_text kinds.Core = codes "core"
 kind_text kinds.Other = codes "other"
+kind_text kinds.Device = codes "device"
+kind_text kinds.Fifo = codes "FIFO"
+kind_text kinds.Socket = codes "socket"
+kind_text kinds.NotUtf8 = codes "not UTF-8"
 
 -- ---- numbers
 
@@ -110,8 +114,12 @@ abbrev pub damaged_row : Option Header → List Found → InventoryRow
 damaged_row header wrong =
     record { kind = kind_at header; sizes = option_map sizes_in header; symbols = None; condition = condition_of wrong 0 }
 
+-- of what has only a kind
+abbrev pub plain_row : FileKind → InventoryRow
+plain_row kind = record { kind = kind; sizes = None; symbols = None; condition = NotExamined }
+
 abbrev pub other_row : List ℕ → InventoryRow
-other_row bytes = record { kind = kind_of_form (other_form bytes); sizes = None; symbols = None; condition = NotExamined }
+other_row bytes = plain_row (kind_of_form (other_form bytes))
 
 abbrev pub unread_row : ReadFault → List ℕ → List Found → InventoryRow
 unread_row faults.BadMagic bytes wrong = other_row bytes

@@ -12,7 +12,7 @@ use Rattle.aout_core.specs.{declared.reloc.Reloc.Reloc, declared.reloc.Kind.Kind
 use Rattle.aout_core.specs.{declared.part.Part.Part, Addresses.data_start_in, Addresses.target}
 use Rattle.symtools.specs.SymbolLines.{letter}
 use Rattle.texts.specs.{Names.escaped, Names.printable_name}
-use Rattle.listings.specs.Listing.{Remarks}
+use Rattle.listings.specs.{Listing.Remarks, Reading.is_numbered}
 use Rattle.instructions.specs.{declared.unix.Decoder.TheVariants.Unix, UnixLines.unix_length}
 use Rattle.instructions.specs.{Relocated.is_relocated}
 use Rattle.disassemblies.specs.{Lines.unix_line_in, Labels.label_lines, Remarks.listed_text, Remarks.pointed_text, Starts.is_start}
@@ -76,9 +76,20 @@ data_said c i =
     else string_in c.data_words i)
     else []
 
+abbrev pub from_slash : List ℕ → List ℕ
+from_slash [] = []
+from_slash (b ∷ bs) = if eqb b 47 then b ∷ bs else from_slash bs
+
+-- without the digits with which the text of a word begins that begins no instruction, as `000002 / _x+2`: a listing has them already
+abbrev pub without_number : List ℕ → List ℕ
+without_number said = if is_numbered said then from_slash said else said
+
+abbrev pub word_said_in : List Bool → Contents → Part → ℕ → List ℕ
+word_said_in starts c parts.Text i = text_said starts c i
+word_said_in starts c parts.Data i = data_said c i
+
 abbrev pub word_remark : List Bool → Contents → Part → ℕ → List ℕ
-word_remark starts c parts.Text i = text_said starts c i
-word_remark starts c parts.Data i = data_said c i
+word_remark starts c p i = without_number (word_said_in starts c p i)
 
 -- the labels before the line that begins at a place of the text, or at its end
 abbrev pub labels_said : List Bool → Contents → ℕ → List (List ℕ)

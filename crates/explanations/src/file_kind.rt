@@ -38,6 +38,14 @@ pub enum FileKind {
     Core,
     /// Anything else.
     Other,
+    /// A device, which is not read.
+    Device,
+    /// A FIFO, which is not read.
+    Fifo,
+    /// A socket, which cannot be read.
+    Socket,
+    /// What has a name that is not UTF-8, and cannot be opened.
+    NotUtf8,
 }
 
 /// What a file with this header is.
@@ -92,5 +100,9 @@ pub(crate) fn kind_text(kind: FileKind) -> &'static str
         FileKind::Tape => "tar",
         FileKind::Core => "core",
         FileKind::Other => "other",
+        FileKind::Device => "device",
+        FileKind::Fifo => "FIFO",
+        FileKind::Socket => "socket",
+        FileKind::NotUtf8 => "not UTF-8",
     }
 }

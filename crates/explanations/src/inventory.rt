@@ -1,7 +1,7 @@
 //! What an inventory says of a file: what it is, its sizes, its symbols, and what is wrong or odd in it.
 ghost use Rattle.std.specs.Prelude.{◌≡◌, filter, length, IfOk};
 ghost use Rattle.findings.specs.Found.{all_found};
-ghost use Rattle.explanations.specs.Inventories.{condition_of, counts_of, damaged_row, file_row, gnu_row, odd_count, other_row, refused_row, sizes_in, wants_definition};
+ghost use Rattle.explanations.specs.Inventories.{condition_of, counts_of, damaged_row, file_row, gnu_row, odd_count, other_row, plain_row, refused_row, sizes_in, wants_definition};
 
 use crate::file_kind::{FileKind, file_kind, kind_of_form};
 use aout_core::{File, Header, ReadFault, Symbol};
@@ -156,16 +156,23 @@ fn damaged_row(header: Option<Header>, wrong: &[Finding]) -> InventoryRow
     }
 }
 
-/// The row of bytes that are not of the Seventh Edition.
-fn other_row(bytes: &[u8]) -> InventoryRow
-    ensures { result ≡ other_row bytes.now }
+/// The row of what has only a kind.
+pub fn plain_row(kind: FileKind) -> InventoryRow
+    ensures { result ≡ plain_row kind }
 {
     InventoryRow {
-        kind: kind_of_form(other_form(bytes)),
+        kind,
         sizes: None,
         symbols: None,
         condition: Condition::NotExamined,
     }
+}
+
+/// The row of bytes that are not of the Seventh Edition.
+fn other_row(bytes: &[u8]) -> InventoryRow
+    ensures { result ≡ other_row bytes.now }
+{
+    plain_row(kind_of_form(other_form(bytes)))
 }
 
 /// The row of bytes that do not make a file for this reason, of which this is wrong. An error: out of memory.

@@ -19,9 +19,10 @@
 //! Functions:
 //!
 //! - `write_explained`: the listing of a file, with notes before it and findings after it
+//! - `write_remains`: that of a file with its first relocation words alone
 //! - `put_lines`: appends notes, a line each, as a listing has them
 //! - `put_dump`: appends text and data in rows of words
-//! - `file_row`, `refused_row`: what an inventory says of a file, and of bytes that do not make one
+//! - `file_row`, `refused_row`, `plain_row`: what an inventory says of a file, of bytes that do not make one, and of what is not read
 //! - `put_row`: appends the line for it
 //!
 //! docs/OBJECTS.md has the form of a listing, and v7-explain(1) what is said in it.
@@ -38,8 +39,10 @@ mod words_in;
 
 pub use dump::put_dump;
 pub use file_kind::FileKind;
-pub use inventory::{Condition, InventoryRow, SegmentSizes, SymbolCounts, file_row, refused_row};
+pub use inventory::{
+    Condition, InventoryRow, SegmentSizes, SymbolCounts, file_row, plain_row, refused_row,
+};
 pub use inventory_line::put_row;
-pub use listing::write_explained;
+pub use listing::{write_explained, write_remains};
 pub use remarks::put_lines;
 pub use rows::Base;

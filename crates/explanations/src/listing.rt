@@ -1,6 +1,6 @@
 //! Files as listings, in the form that `read_listing` of `listings` reads.
-ghost use Rattle.std.specs.Prelude.{◌≡◌, Ok, IfOk};
-ghost use Rattle.listings.specs.Listing.{listing};
+ghost use Rattle.std.specs.Prelude.{◌≡◌, [], Ok, IfOk};
+ghost use Rattle.listings.specs.Listing.{listing, with_relocs};
 ghost use Rattle.listings.specs.Reading.{read};
 ghost use Rattle.listings.specs.declared.draft.Addresses.TheVariants.{Compared};
 ghost use Rattle.instructions.specs.declared.unix.Decoder.TheVariants.{Unix};
@@ -10,7 +10,7 @@ ghost use Rattle.explanations.specs.Said.{explained};
 use crate::remarks::Explained;
 use disassemblies::Sweep;
 use findings::Notes;
-use listings::write_listing;
+use listings::{write_cut_listing, write_listing};
 use std::alloc::{AllocError, Global};
 
 /// The listing of a file with explanations, and with notes before it and findings after it. Reading the listing gives the file. (own
@@ -34,4 +34,20 @@ pub fn write_explained(
         findings,
     };
     write_listing(alloc, sweep.file(), &remarks)
+}
+
+/// The listing of a file with its first relocation words alone, without notes.
+///
+/// Errors: `AllocError` if memory runs out.
+pub fn write_remains(alloc: Global, sweep: &Sweep<'_>, relocs: usize) -> Result<Vec<u8>, AllocError>
+    ensures { IfOk result (λ v. v.items
+        ≡ listing (explained (starts Unix sweep.now) sweep.now [] []) (with_relocs relocs sweep.now)) }
+{
+    let none = Notes::new(alloc);
+    let remarks = Explained {
+        sweep,
+        notes: &none,
+        findings: &none,
+    };
+    write_cut_listing(alloc, sweep.file(), relocs, &remarks)
 }

@@ -11,14 +11,14 @@ ghost use Rattle.disassemblies.specs.Remarks.{listed_text};
 ghost use Rattle.disassemblies.specs.Strings.{string_in};
 ghost use Rattle.disassemblies.specs.Starts.{starts};
 ghost use Rattle.disassemblies.specs.Labels.{label_lines};
-ghost use Rattle.explanations.specs.Said.{printed_byte, printed, is_plain, reloc_said, text_said, data_address, data_said, labels_said, data_labels_said};
+ghost use Rattle.explanations.specs.Said.{printed_byte, printed, is_plain, reloc_said, text_said, data_address, data_said, labels_said, data_labels_said, from_slash, without_number};
 
 use crate::words_in::put_word_text;
 use aout_core::{File, Part, Reloc, Segment, Symbol};
 use disassemblies::{NamedFile, Sweep, put_labels, put_string_in};
 use findings::Notes;
 use instructions::{UnixLine, is_relocated};
-use listings::Remark;
+use listings::{Remark, is_numbered};
 use std::alloc::Global;
 use symtools::letter;
 use texts::Text;
@@ -108,13 +108,36 @@ fn put_remark(text: &mut Text, remark: &[u8])
     put_printed(text, remark);
 }
 
-/// Appends two blanks and a remark that was made, or nothing if it is empty.
+/// A text from its first slash on.
+fn from_slash(bytes: &[u8]) -> &[u8]
+    ensures { result.now ≡ from_slash bytes.now }
+{
+    for (index, byte) in bytes.iter().enumerate() {
+        if *byte == b'/' {
+            return &bytes[index..];
+        }
+    }
+    &[]
+}
+
+/// A remark on a word without the digits at its front.
+fn without_number(remark: &[u8]) -> &[u8]
+    ensures { result.now ≡ without_number remark.now }
+{
+    if is_numbered(remark) {
+        from_slash(remark)
+    } else {
+        remark
+    }
+}
+
+/// Appends two blanks and a remark on a word that was made, without the digits at its front, or nothing if it is empty.
 fn put_made(text: &mut Text, remark: Text)
     ensures { text.new.is_cut ≡ false → (remark.is_cut ≡ false) × (text.old.is_cut ≡ false)
-        × (text.new.bytes ≡ text.old.bytes ++ remarked (printed remark.bytes)) }
+        × (text.new.bytes ≡ text.old.bytes ++ remarked (printed (without_number remark.bytes))) }
 {
     match remark.finish() {
-        Ok(remark) => put_remark(text, &remark),
+        Ok(remark) => put_remark(text, without_number(&remark)),
         Err(error) => text.cut(error),
     }
 }
@@ -141,7 +164,7 @@ fn reloc_text(alloc: Global, file: &NamedFile<'_>, spot: PlacedWord) -> Text
 /// Appends what the relocation word of a word says.
 fn put_reloc(text: &mut Text, file: &NamedFile<'_>, spot: PlacedWord)
     ensures { Puts text.old text.new
-        (remarked (printed (reloc_said file.now spot.at spot.word spot.reloc))) }
+        (remarked (printed (without_number (reloc_said file.now spot.at spot.word spot.reloc)))) }
 {
     let remark = reloc_text(text.allocator(), file, spot);
     put_made(text, remark);
@@ -190,7 +213,7 @@ fn instruction_text(alloc: Global, sweep: &Sweep<'_>, place: usize, line: &UnixL
 fn put_instruction(text: &mut Text, sweep: &Sweep<'_>, place: usize, line: &UnixLine)
     requires within { place < length sweep.now.text_words }
     requires line { line.now ≡ unix_line_in Unix sweep.now place }
-    ensures { Puts text.old text.new (remarked (printed (listed_text sweep.now place))) }
+    ensures { Puts text.old text.new (remarked (printed (without_number (listed_text sweep.now place)))) }
 {
     let remark = instruction_text(text.allocator(), sweep, place, line);
     put_made(text, remark);
@@ -199,7 +222,7 @@ fn put_instruction(text: &mut Text, sweep: &Sweep<'_>, place: usize, line: &Unix
 /// Appends what is remarked of a word of text: its instruction, or what its relocation word says.
 fn put_text_remark(x: &Explained<'_>, text: &mut Text, place: usize)
     ensures { Puts text.old text.new
-        (remarked (printed (text_said (starts Unix x.now.sweep.now) x.now.sweep.now place))) }
+        (remarked (printed (without_number (text_said (starts Unix x.now.sweep.now) x.now.sweep.now place)))) }
 {
     let file = x.sweep.file();
     if place >= file.text_words().len() {
@@ -224,7 +247,7 @@ fn string_text(alloc: Global, words: &[u16], place: usize) -> Text
 /// Appends the string that begins in a word of data.
 fn put_data_string(text: &mut Text, words: &[u16], place: usize)
     requires { place < 65536 }
-    ensures { Puts text.old text.new (remarked (printed (string_in words.now place))) }
+    ensures { Puts text.old text.new (remarked (printed (without_number (string_in words.now place)))) }
 {
     let remark = string_text(text.allocator(), words, place);
     put_made(text, remark);
@@ -232,7 +255,7 @@ fn put_data_string(text: &mut Text, words: &[u16], place: usize)
 
 /// Appends what is remarked of a word of data: what its relocation word says, or the string that begins there.
 fn put_data_remark(x: &Explained<'_>, text: &mut Text, place: usize)
-    ensures { Puts text.old text.new (remarked (printed (data_said x.now.sweep.now place))) }
+    ensures { Puts text.old text.new (remarked (printed (without_number (data_said x.now.sweep.now place)))) }
 {
     let file = x.sweep.file();
     if place >= file.data_words().len() {

@@ -1,3 +1,4 @@
 pub mod BadWordLemmas
+pub mod RemainsLemmas
 pub mod SymbolLemmas
 pub mod WrongLemmas

@@ -2,6 +2,7 @@ pub mod Found
 pub mod Segments
 pub mod Odd
 pub mod Wrong
+pub mod Remains
 pub mod WrongLaw
 pub mod Kinds
 pub mod Notes

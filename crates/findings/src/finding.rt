@@ -1,7 +1,7 @@
 //! What is found in a file.
 ghost use Rattle.std.specs.Prelude.{◌≡◌, [], ◌∷◌, map};
 ghost use Rattle.texts.specs.Texts.{nothing_written, Puts};
-ghost use Rattle.findings.specs.Notes.{finding_text, finding_note, AddsNotes};
+ghost use Rattle.findings.specs.Notes.{byte_text, finding_text, finding_note, AddsNotes};
 
 use crate::notes::Notes;
 use std::alloc::{AllocError, Global};
@@ -175,12 +175,19 @@ impl Findings {
     }
 }
 
+/// Appends a byte of a file.
+pub(crate) fn put_byte(text: &mut Text, place: usize)
+    ensures { Puts text.old text.new (byte_text place) }
+{
+    text.put("byte ");
+    text.put_octal_and_decimal(place as u64);
+}
+
 /// Appends a finding in a line.
 pub fn put_finding_text(text: &mut Text, finding: &Finding)
     ensures { Puts text.old text.new (finding_text finding.now) }
 {
-    text.put("byte ");
-    text.put_octal_and_decimal(finding.place as u64);
+    put_byte(text, finding.place);
     text.put(": ");
     text.put_bytes(&finding.text);
 }

@@ -24,6 +24,7 @@ mod notes;
 mod odd;
 mod other_files;
 mod places;
+mod remains;
 mod wrong;
 
 pub use finding::{Finding, FindingKind, Findings, put_finding_text, put_findings};
@@ -33,4 +34,5 @@ pub use notes::Notes;
 pub use odd::{odd_of, put_symbol_title};
 pub use other_files::{OtherForm, header_of, is_of_gnu, likeness, other_form};
 pub use places::FilePlaces;
+pub use remains::{decode_there, put_missing, relocs_there};
 pub use wrong::{is_damaged, put_instruction, wrong_bytes, wrong_in, wrong_words};

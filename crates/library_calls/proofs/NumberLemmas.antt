@@ -110,6 +110,7 @@ not_memory_reason reasons.AfterTable = other 73 refl
 not_memory_reason reasons.NoMagic = other 74 refl
 not_memory_reason reasons.OddSize = other 75 refl
 not_memory_reason reasons.LongName = other 76 refl
+not_memory_reason reasons.ExtraNumber = other 77 refl
 
 not_memory_mistake : (r : Result Contents Mistakes) → IsNotMemory (refused_as first_mistake r)
 not_memory_mistake (Ok c) = tt

@@ -64,6 +64,7 @@ reason_number reasons.AfterTable = 73
 reason_number reasons.NoMagic = 74
 reason_number reasons.OddSize = 75
 reason_number reasons.LongName = 76
+reason_number reasons.ExtraNumber = 77
 
 -- what an object in GNU's form has in common with a file has the number of that
 abbrev pub gnu_number : gnu.Refusal → ℕ

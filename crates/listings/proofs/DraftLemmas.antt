@@ -6,7 +6,7 @@ use Rattle.std.proofs.lemmas.Bool.{ltb-true}
 use Rattle.std.specs.Prelude.{if◌then◌else◌, Result, Ok, Err}
 use Rattle.aout_core.specs.{declared.reloc.Reloc.Reloc, declared.symbol.Symbol.Symbol}
 use Rattle.listings.specs.Drafts.{Segment, Draft}
-use Rattle.listings.specs.Reading.{Mistake, ◌>>=◌, with_word, word_entry, symbol_entry, entry_in}
+use Rattle.listings.specs.Reading.{Mistake, ◌>>=◌, unnumbered, with_word, word_entry, symbol_entry, entry_in}
 use Rattle.listings.specs.Reading.{only_first, not_last, named_by, begins_with_digit, row_by, row_read, own, next_after}
 use Rattle.listings.specs.Reading.{State, line_by, line_read}
 use Rattle.listings.specs.declared.draft.Addresses.{Addresses}
@@ -34,10 +34,10 @@ if_holds h t x y hx hy = search rules
 one_more : (t : Bool) (a b w : ℕ) → a ≡ (if t then w else 0) → b ≡ (if t then 1 else 0) → a + b ≡ (if t then w + 1 else 0)
 one_more t a b w ha hb = search rules
 
-relocs_by : (t : Bool) (m : Result ℕ Mistake) →
+relocs_by : (t : Bool) (m : Result ℕ Mistake) (third fourth : List ℕ) →
     Holds (λ (rs : List Reloc). length rs ≡ (if t then 1 else 0))
-    (if t then m >>= (λ n. Ok ((let r : Reloc = record { 0 = n } in r) ∷ [])) else Ok [])
-relocs_by t m = search rules
+    (if t then m >>= (λ n. unnumbered 3 fourth ((let r : Reloc = record { 0 = n } in r) ∷ [])) else unnumbered 2 third [])
+relocs_by t m third fourth = search (rules, then_holds, if_holds)
 
 word_more : (flag : ℕ) (s : Segment) (w : ℕ) (rs : List Reloc) → IsWhole flag s → length s.words < 32767 →
     length rs ≡ (if eqb flag 0 then 1 else 0) → IsWhole flag (with_word s w rs)

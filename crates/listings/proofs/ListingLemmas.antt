@@ -49,7 +49,9 @@ labels_are (l ∷ ls) h = (h.0.0, labels_are ls h.1)
 
 word_lines_are : (x : Remarks) (p : Part) (i at : ℕ) (ws : List ℕ) (rs : List Reloc) → AreRemarks x → AreLines (word_lines x p i at ws rs)
 word_lines_are x p i at [] rs are = labels_are (x.labels p i) (are.labels p i)
-word_lines_are x p i at (w ∷ ws) rs are = search (rules, lines_append, labels_are, word_line_is, word_lines_are x p (i + 1) (at + 2) ws (drop 1 rs) are)
+word_lines_are x p i at (w ∷ ws) rs are =
+    let note = (are.word p i).0 in
+    search (rules, lines_append, labels_are, word_line_is, word_lines_are x p (i + 1) (at + 2) ws (drop 1 rs) are)
 
 symbol_lines_are : (x : Remarks) (n : ℕ) (ss : List Symbol) → AreRemarks x → AreLines (symbol_lines x n ss)
 symbol_lines_are x n [] are = tt

@@ -6,7 +6,7 @@ use Rattle.std.specs.{Prelude.◌-◌, Prelude.Some, Prelude.None, Prelude.Resul
 use Rattle.aout_core.specs.{declared.reloc.Reloc.Reloc, declared.symbol.Symbol.Symbol, Contents.IsWord, Contents.IsSymbol}
 use Rattle.aout_core.specs.{declared.part.Part.Part}
 use Rattle.listings.specs.Listing.{Remarks, gap, wide, remarked, word_line, word_lines, symbol_line, symbol_lines}
-use Rattle.listings.specs.Reading.{Mistake, ◌>>=◌, relocs_of, with_word, is_right, word_entry, symbol_entry, entry_in, row_read}
+use Rattle.listings.specs.Reading.{Mistake, ◌>>=◌, begins_with_digit, relocs_of, with_word, is_right, word_entry, symbol_entry, entry_in, row_read}
 use Rattle.listings.specs.Reading.{State, line_by, lines_read}
 use Rattle.listings.specs.declared.draft.Addresses.{Addresses}
 use Rattle.listings.specs.declared.draft.Addresses.TheVariants.{Compared, Computed}
@@ -14,7 +14,7 @@ use Rattle.listings.specs.{declared.fault.Section.TheVariants.InSymbols, Octal.n
 use Rattle.listings.specs.{Columns.from_fourth, Names.name_of, Drafts.Segment, Drafts.Draft, Laws.IsLabel, Laws.AreRemarks}
 use Rattle.texts.specs.{Numbers.six_digits, Numbers.octal, Names.printable_name}
 use Rattle.listings.proofs.OctalLemmas.{octal_again, short_again, IsNumber, octal_digits, short_digits}
-use Rattle.listings.proofs.ColumnLemmas.{number_column, row_two, row_three, row_four}
+use Rattle.listings.proofs.ColumnLemmas.{number_column, row_two, row_three, row_four, third_digit, fourth_digit}
 use Rattle.listings.proofs.NameLemmas.{name_column, name_again}
 
 -- without a mistake so far
@@ -51,15 +51,16 @@ right_here Compared n = search rules
 right_here Computed n = refl
 
 word_found : (a : Addresses) (flag at w : ℕ) (s : Segment) (rs : List Reloc) (f g k m : List ℕ) →
-    number f ≡ Ok at → number g ≡ Ok w → relocs_of flag k ≡ Ok rs → length s.words < 32767 →
+    number f ≡ Ok at → number g ≡ Ok w → relocs_of flag k m ≡ Ok rs → length s.words < 32767 →
     word_entry a at flag s (record { first = f; second = g; third = k; fourth = m }) ≡ Ok (with_word s w rs)
 word_found a flag at w s rs f g k m hf hg hk room = search (rules, right_here)
 
-relocs_there : (flag : ℕ) (r : Reloc) → eqb flag 0 ≡ true → IsWord r.0 → relocs_of flag (octal r.0) ≡ Ok (r ∷ [])
-relocs_there flag r on h = rw (on, short_again r.0 h) refl
+relocs_there : (flag : ℕ) (r : Reloc) (m : List ℕ) → eqb flag 0 ≡ true → IsWord r.0 → begins_with_digit m ≡ false →
+    relocs_of flag (octal r.0) m ≡ Ok (r ∷ [])
+relocs_there flag r m on h said = rw (on, short_again r.0 h, said) refl
 
-relocs_none : (flag : ℕ) (k : List ℕ) → eqb flag 0 ≡ false → relocs_of flag k ≡ Ok []
-relocs_none flag k off = rw off refl
+relocs_none : (flag : ℕ) (k m : List ℕ) → eqb flag 0 ≡ false → begins_with_digit k ≡ false → relocs_of flag k m ≡ Ok []
+relocs_none flag k m off said = rw (off, said) refl
 
 abbrev pub joined : Segment → List ℕ → List Reloc → Segment
 joined s ws rs = record { words = s.words ++ ws; relocs = s.relocs ++ rs }
@@ -120,6 +121,10 @@ words_with x p i put a flag at s (w ∷ ws) (r ∷ rs) are enters on same words 
     let form = gap 1 f (gap (wide 4 k) b (k ++ remarked note)) in
     let t : Segment = with_word s w (r ∷ []) in
     let last = column (from_fourth form) in
+    let unnumbered_last : begins_with_digit last ≡ false =
+    fourth_digit 1 (wide 4 k) f b k note (number_column f (octal_digits here)) (number_column b (octal_digits w))
+    (number_column k (short_digits r.0))
+    ∙ (are.word p i).1 in
     let found : row_read (put s here) (row_of line) ≡ Ok (put t ((here + 2) % 65536)) =
     ap (λ (l : List ℕ). row_read (put s here) (row_of l)) (line_with note here w r)
     ∙ ap (row_read (put s here)) (row_three 1 (wide 4 k) f b k note (number_column f (octal_digits here))
@@ -127,7 +132,7 @@ words_with x p i put a flag at s (w ∷ ws) (r ∷ rs) are enters on same words 
     ∙ enters s here f b k last (octal_digits here)
     ∙ ap (λ (y : Result Segment Mistake). y >>= (λ u. Ok (put u ((here + 2) % 65536))))
     (word_found a flag here w s (r ∷ []) f b k last (octal_again here (omega arith)) (octal_again w words.0)
-    (relocs_there flag r on relocs.0) (omega arith)) in
+    (relocs_there flag r last on relocs.0 unnumbered_last) (omega arith)) in
     let long : length (s.words ++ w ∷ []) ≡ length s.words + 1 = length-append s.words (w ∷ []) in
     let rest = words_with x p (i + 1) put a flag (at + 2) t ws rs are enters on (omega arith) words.1 relocs.1 (omega arith) in
     let others = word_lines x p (i + 1) (at + 2) ws rs in
@@ -159,13 +164,15 @@ words_alone x p i put a flag at s (w ∷ ws) are enters off words room =
     let t : Segment = with_word s w [] in
     let third = column (from_third form) in
     let last = column (from_fourth form) in
+    let unnumbered_third : begins_with_digit third ≡ false =
+    third_digit 1 f b note (number_column f (octal_digits here)) (number_column b (octal_digits w)) ∙ (are.word p i).1 in
     let found : row_read (put s here) (row_of line) ≡ Ok (put t ((here + 2) % 65536)) =
     ap (λ (l : List ℕ). row_read (put s here) (row_of l)) (line_alone note here w)
     ∙ ap (row_read (put s here)) (row_two 1 f b note (number_column f (octal_digits here)) (number_column b (octal_digits w)))
     ∙ enters s here f b third last (octal_digits here)
     ∙ ap (λ (y : Result Segment Mistake). y >>= (λ u. Ok (put u ((here + 2) % 65536))))
     (word_found a flag here w s [] f b third last (octal_again here (omega arith)) (octal_again w words.0)
-    (relocs_none flag third off) (omega arith)) in
+    (relocs_none flag third last off unnumbered_third) (omega arith)) in
     let long : length (s.words ++ w ∷ []) ≡ length s.words + 1 = length-append s.words (w ∷ []) in
     let rest = words_alone x p (i + 1) put a flag (at + 2) t ws are enters off words.1 (omega arith) in
     let others = word_lines x p (i + 1) (at + 2) ws [] in

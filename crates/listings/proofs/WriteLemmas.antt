@@ -2,12 +2,13 @@
 use Rattle.std.proofs.lemmas.Grind.{common_steps}
 use Rattle.std.proofs.Common.{◌≡◌, ℕ, zero, suc, ◌+◌, ◌*◌, ◌%◌, ◌<◌, List, [], ◌∷◌, ◌++◌, drop, length, get_or, refl, sym, ◌∙◌, ap, arith}
 use Rattle.std.proofs.Common.{append_assoc, drop-drop}
-use Rattle.std.proofs.{lemmas.List.drop_more, Math.Seq.drop-length}
-use Rattle.std.specs.Prelude.{Option, slice_get}
+use Rattle.std.proofs.{lemmas.List.drop_more, lemmas.List.take_all, Math.Seq.drop-length}
+use Rattle.std.specs.Prelude.{◌-◌, take, Option, slice_get}
+use Rattle.aout_core.specs.Contents.{Contents}
 use Rattle.aout_core.specs.{declared.reloc.Reloc.Reloc, declared.part.Part.Part}
 use Rattle.texts.specs.Lines.{text_of}
 use Rattle.texts.proofs.LineLemmas.{two_texts}
-use Rattle.listings.specs.Listing.{Remarks, word_line, word_lines}
+use Rattle.listings.specs.Listing.{Remarks, with_relocs, word_line, word_lines}
 
 get_dropped : (i : ℕ) (rs : List Reloc) → slice_get (drop i rs) 0 ≡ slice_get rs i
 get_dropped zero rs = refl
@@ -56,3 +57,17 @@ pub whole : (t0 t1 t2 t3 t4 t5 t6 t7 : List ℕ) (n h x d b s f : List (List ℕ
     t2 ≡ t1 ++ text_of h → t3 ≡ t2 ++ text_of x → t4 ≡ t3 ++ text_of d →
     t5 ≡ t4 ++ text_of b → t6 ≡ t5 ++ text_of s → t7 ≡ t6 ++ text_of f → t7 ≡ t0 ++ text_of (n ++ (h ++ (x ++ (d ++ (b ++ (s ++ f))))))
 whole t0 t1 t2 t3 t4 t5 t6 t7 n h x d b s f e1 e2 e3 e4 e5 e6 e7 = grind (arith, common_steps, grown)
+
+second_all : (n m : ℕ) (rs : List Reloc) → n ≡ length rs → take (m + n - m) rs ≡ rs
+second_all n m rs e = take_all (m + n - m) rs (omega arith)
+
+-- a file with as many relocation words as it has
+pub all_relocs : (c : Contents) → with_relocs (length c.text_reloc + length c.data_reloc) c ≡ c
+all_relocs c = λ i. record {
+  header = c.header;
+  text_words = c.text_words;
+  data_words = c.data_words;
+  text_reloc = take_all (length c.text_reloc + length c.data_reloc) c.text_reloc (omega arith) i;
+  data_reloc = second_all (length c.data_reloc) (length c.text_reloc) c.data_reloc refl i;
+  symbols = c.symbols;
+}

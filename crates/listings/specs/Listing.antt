@@ -3,7 +3,7 @@
 -- A listing begins and ends with notes, and each note is a line that begins with a slash. A line gives the magic number unless it is
 -- 0407, and another the flag unless it is 0. The words of text and of data follow, the size of bss, the entry point and the unused word
 -- unless they are 0, and the table. A line may end with a remark, and labels may precede the line of a word or follow the last one.
-use Rattle.std.specs.Prelude.{ℕ, ◌+◌, ◌-◌, ◌%◌, eqb, if◌then◌else◌, List, [], ◌∷◌, ◌++◌, drop, map, replicate, length, Option, Some, None}
+use Rattle.std.specs.Prelude.{ℕ, ◌+◌, ◌-◌, ◌%◌, eqb, if◌then◌else◌, List, [], ◌∷◌, ◌++◌, drop, map, replicate, take, length, Option, Some, None}
 use Rattle.std.specs.Prelude.{slice_get, codes}
 use Rattle.aout_core.specs.{declared.header.Header.Header, declared.reloc.Reloc.Reloc, declared.symbol.Symbol.Symbol, Contents.Contents}
 use Rattle.aout_core.specs.{declared.part.Part.Part, Addresses.data_start_in}
@@ -89,6 +89,10 @@ listing_lines x c =
 
 abbrev pub listing : Remarks → Contents → List ℕ
 listing x c = text_of (listing_lines x c)
+
+-- a file with its first relocation words alone, so that the lines of other words have none
+abbrev pub with_relocs : ℕ → Contents → Contents
+with_relocs n c = record c { text_reloc = take n c.text_reloc; data_reloc = take (n - length c.text_reloc) c.data_reloc }
 
 abbrev pub no_remarks : Remarks
 no_remarks = record { notes = []; findings = []; labels = λ p i. []; word = λ p i. []; symbol = λ s. [] }

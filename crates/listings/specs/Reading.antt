@@ -1,7 +1,8 @@
 -- Which file a listing describes: line by line, each line by its columns and by what was read before it. (own choice)
 --
 -- A row that begins with a digit belongs to the section that was opened last. Any other row begins with a word. A row without columns,
--- one that begins with a slash and a label are skipped. Columns after those that a row needs are not read.
+-- one that begins with a slash and a label are skipped. Columns after those that a row needs are a remark, and are not read; that of a word
+-- does not begin with a digit.
 --
 -- After a mistake reading goes on. The row with the mistake adds nothing to the file, but the next address follows its own.
 use Rattle.std.specs.Prelude.{ℕ, ◌+◌, ◌%◌, Bool, true, false, ◌&&◌, ◌||◌, nat_le, nat_lt, nat_eq, eqb, if◌then◌else◌, List, [], ◌∷◌, ◌++◌, length}
@@ -12,10 +13,10 @@ use Rattle.aout_core.specs.Addresses.{data_start}
 use Rattle.listings.specs.declared.draft.Addresses.{Addresses}
 use Rattle.listings.specs.declared.draft.Addresses.TheVariants.{Compared, Computed}
 use Rattle.listings.specs.declared.fault.Reason.TheVariants.{WrongAddress, WrongNumber, TooManyWords, TooManySymbols, NoSection}
-use Rattle.listings.specs.declared.fault.Reason.TheVariants.{UnknownWord, OutOfOrder, TooLate, AfterTable, NoMagic, OddSize}
+use Rattle.listings.specs.declared.fault.Reason.TheVariants.{UnknownWord, OutOfOrder, TooLate, AfterTable, NoMagic, OddSize, ExtraNumber}
 use Rattle.listings.specs.declared.fault.Section.TheVariants.{InHeader, InText, InData, InSymbols}
 use Rattle.listings.specs.declared.fault.Word.TheVariants.{Text, Data, Symbols, Bss, Entry, Unused, Magic, Flag, Unknown}
-use Rattle.listings.specs.Columns.{Row, row_of, column_place}
+use Rattle.listings.specs.Columns.{Row, row_of, skip, column_place}
 use Rattle.listings.specs.Drafts.{Segment, Draft, empty_draft, finished}
 use Rattle.listings.specs.{declared.fault.Reason.Reason, declared.fault.Section.Section, declared.fault.Word.Word}
 use Rattle.listings.specs.{declared.fault.Fault.Fault, Octal.number, Names.name_of}
@@ -34,9 +35,26 @@ abbrev pub in_column : {A : Type 0} → ℕ → Result A Reason → Result A Mis
 in_column k (Ok x) = Ok x
 in_column k (Err reason) = Err (k, reason)
 
--- a relocation word, if the file has relocation by its flag
-abbrev pub relocs_of : ℕ → List ℕ → Result (List Reloc) Mistake
-relocs_of flag third = if eqb flag 0 then in_column 2 (number third) >>= (λ n. Ok ((let r : Reloc = record { 0 = n } in r) ∷ [])) else Ok []
+abbrev pub is_decimal : ℕ → Bool
+is_decimal b = nat_le 48 b && nat_lt b 58
+
+abbrev pub begins_with_digit : List ℕ → Bool
+begins_with_digit [] = false
+begins_with_digit (b ∷ bs) = is_decimal b
+
+-- the first column of a remark begins with a digit
+abbrev pub is_numbered : List ℕ → Bool
+is_numbered remark = begins_with_digit (skip remark)
+
+-- no number is in the column of a remark
+abbrev pub unnumbered : {A : Type 0} → ℕ → List ℕ → A → Result A Mistake
+unnumbered k remark x = if begins_with_digit remark then Err (k, ExtraNumber) else Ok x
+
+-- a relocation word, if the file has relocation by its flag, and then a remark
+abbrev pub relocs_of : ℕ → List ℕ → List ℕ → Result (List Reloc) Mistake
+relocs_of flag third fourth =
+    if eqb flag 0 then in_column 2 (number third) >>= (λ n. unnumbered 3 fourth ((let r : Reloc = record { 0 = n } in r) ∷ []))
+    else unnumbered 2 third []
 
 abbrev pub with_word : Segment → ℕ → List Reloc → Segment
 with_word s w rs = record { words = s.words ++ w ∷ []; relocs = s.relocs ++ rs }
@@ -51,7 +69,7 @@ abbrev pub word_entry : Addresses → ℕ → ℕ → Segment → Row → Result
 word_entry a next flag s r =
     in_column 0 (number r.first) >>= λ at.
     in_column 1 (number r.second) >>= λ w.
-    relocs_of flag r.third >>= λ rs.
+    relocs_of flag r.third r.fourth >>= λ rs.
     if nat_lt (length s.words) 32767
     then (if is_right a at next then Ok (with_word s w rs) else Err (0, WrongAddress next))
     else Err (0, TooManyWords)
@@ -131,18 +149,11 @@ named_by Unknown d n = Err (0, UnknownWord)
 abbrev pub named : Draft → Row → Result Draft Mistake
 named d r = not_last d.section (named_by (word_in r.first) d (in_column 1 (number r.second)))
 
-abbrev pub is_decimal : ℕ → Bool
-is_decimal b = nat_le 48 b && nat_lt b 58
-
 -- `NAME:` alone, or `NAME = .+K`
 abbrev pub is_label : Row → Bool
 is_label r =
     (is_word r.second [] && ends_with eqb r.first (codes ":"))
     || (is_word r.second (codes "=") && starts_with eqb r.third (codes ".+"))
-
-abbrev pub begins_with_digit : List ℕ → Bool
-begins_with_digit [] = false
-begins_with_digit (b ∷ bs) = is_decimal b
 
 abbrev pub row_by : List ℕ → Draft → Row → Result Draft Mistake
 row_by [] d r = Ok d

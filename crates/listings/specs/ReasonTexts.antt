@@ -4,7 +4,7 @@ use Rattle.texts.specs.Numbers.{six_digits, octal}
 use Rattle.listings.specs.declared.fault.Reason.{Reason}
 use Rattle.listings.specs.declared.fault.Reason.TheVariants.{Missing, NotOctal, TooLarge, BadName, WrongAddress, WrongNumber, TooManyWords}
 use Rattle.listings.specs.declared.fault.Reason.TheVariants.{TooManySymbols, NoSection, UnknownWord, OutOfOrder, TooLate, AfterTable}
-use Rattle.listings.specs.declared.fault.Reason.TheVariants.{NoMagic, OddSize, LongName}
+use Rattle.listings.specs.declared.fault.Reason.TheVariants.{NoMagic, OddSize, LongName, ExtraNumber}
 
 abbrev pub next_text : List ℕ → List ℕ → List ℕ
 next_text front digits = front ++ digits ++ codes " is next"
@@ -26,3 +26,4 @@ reason_text AfterTable = codes "only symbols can follow symbols"
 reason_text NoMagic = codes "bad magic number"
 reason_text OddSize = codes "odd size"
 reason_text LongName = codes "more than 8 bytes in a name"
+reason_text ExtraNumber = codes "one number too many"

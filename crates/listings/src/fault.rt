@@ -68,6 +68,8 @@ pub enum Reason {
     OddSize,
     /// The name has more than 8 bytes.
     LongName,
+    /// A number is where a remark on a word begins.
+    ExtraNumber,
 }
 
 /// Puts which address or number is next.
@@ -117,6 +119,7 @@ impl Reason {
             Reason::NoMagic => line.put("bad magic number"),
             Reason::OddSize => line.put("odd size"),
             Reason::LongName => line.put("more than 8 bytes in a name"),
+            Reason::ExtraNumber => line.put("one number too many"),
         }
     }
 }

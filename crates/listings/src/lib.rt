@@ -16,7 +16,9 @@
 //! Functions:
 //!
 //! - `write_listing`: the listing of a file, with remarks
+//! - `write_cut_listing`: the same with its first relocation words alone
 //! - `read_listing`: the file of a listing
+//! - `is_numbered`: whether a remark begins with a digit, as none on a word does
 //!
 //! Modules:
 //!
@@ -49,4 +51,5 @@ pub use draft::Addresses;
 pub use fault::{Fault, ListingFault, Mistakes, Reason};
 pub use read::read_listing;
 pub use remark::{Nothing, Remark};
-pub use write::write_listing;
+pub use rows::is_numbered;
+pub use write::{write_cut_listing, write_listing};

@@ -1,5 +1,5 @@
 //! What is remarked in a listing.
-ghost use Rattle.std.specs.Prelude.{◌≡◌, []};
+ghost use Rattle.std.specs.Prelude.{◌≡◌, false, []};
 ghost use Rattle.texts.specs.Lines.{text_of};
 ghost use Rattle.texts.specs.Texts.{Puts};
 ghost use Rattle.listings.specs.Listing.{Remarks, no_remarks, remarked, note_lines};
@@ -25,7 +25,8 @@ pub trait Remark {
     fn put_labels(&self, text: &mut Text, part: Part, place: usize)
         ensures { Puts text.old text.new (text_of ((said self.now).labels part place)) };
 
-    /// Appends two blanks and what is remarked of the word at a place of a part, or nothing if there is no remark.
+    /// Appends two blanks and what is remarked of the word at a place of a part, or nothing if there is no remark. It does not begin with
+    /// a digit.
     fn put_word(&self, text: &mut Text, part: Part, place: usize)
         ensures { Puts text.old text.new (remarked ((said self.now).word part place)) };
 
@@ -52,5 +53,5 @@ impl Remark for Nothing {
 
     fn put_symbol(&self, text: &mut Text, symbol: &Symbol) {}
 
-    ghost are = { λ r. record { notes = tt; findings = tt; labels = λ p i. tt; word = λ p i. tt; symbol = λ s. tt } };
+    ghost are = { λ r. record { notes = tt; findings = tt; labels = λ p i. tt; word = λ p i. (tt, λ k. false); symbol = λ s. tt } };
 }

@@ -8,27 +8,48 @@ ghost use Rattle.listings.specs.declared.fault.Section.TheVariants.{InHeader, In
 ghost use Rattle.listings.specs.declared.fault.Word.TheVariants.{Bss, Magic, Flag};
 ghost use Rattle.listings.specs.Octal.{number};
 ghost use Rattle.aout_core.specs.Refusals.{refused};
-ghost use Rattle.listings.specs.Reading.{in_column, relocs_of, with_word, is_right, word_entry, symbol_entry, entry_in, is_word, word_in, rank, first_in, opened, named_by, named, is_label, begins_with_digit, row_read};
+ghost use Rattle.listings.specs.Reading.{in_column, is_numbered, relocs_of, unnumbered, with_word, is_right, word_entry, symbol_entry, entry_in, is_word, word_in, rank, first_in, opened, named_by, named, is_label, begins_with_digit, row_read};
 ghost use Rattle.listings.specs.Reading.{own, next_after, passed};
 ghost use Rattle.listings.specs.MemoryWanted.{IsEntry};
 ghost use Rattle.listings.specs.internal.DraftParts.{segment_of, draft_of};
 ghost use Rattle.listings.specs.internal.Answers.{Found, Leaves};
 
-use crate::columns::{Columns, columns_of};
+use crate::columns::{Columns, columns_of, skip};
 use crate::draft::{Addresses, FileDraft, SegmentDraft};
 use crate::fault::{Reason, RowFault, Section, Word};
 use crate::numbers::{name_at, number_at};
 use aout_core::{Reloc, Symbol, data_start, is_magic};
 use std::alloc::Global;
 
-/// A relocation word, if the file has relocation.
-fn reloc_of(flag: u16, third: &[u8]) -> Result<Option<Reloc>, RowFault>
-    ensures found { Found (λ r. option_to_list r) result (relocs_of flag third.now) }
+/// Whether the first column of a remark begins with a digit. Such a remark on a word is a mistake. (own choice)
+pub fn is_numbered(remark: &[u8]) -> bool
+    ensures { result ≡ is_numbered remark.now }
+{
+    begins_with_digit(skip(remark))
+}
+
+/// Refuses a number in the column of a remark.
+fn refuse_number(place: usize, remark: &[u8]) -> Result<(), RowFault>
+    ensures found { Found (λ u. u) result (unnumbered place remark.now tt) }
+    ensures no_memory { IfErr result (λ fault. fault ≢ Memory refused) }
+{
+    if begins_with_digit(remark) {
+        return Err(RowFault::Wrong(place, Reason::ExtraNumber));
+    }
+    Ok(())
+}
+
+/// A relocation word, if the file has relocation, and then a remark.
+fn reloc_of(flag: u16, third: &[u8], fourth: &[u8]) -> Result<Option<Reloc>, RowFault>
+    ensures found { Found (λ r. option_to_list r) result (relocs_of flag third.now fourth.now) }
     ensures no_memory { IfErr result (λ fault. fault ≢ Memory refused) }
 {
     if flag == 0 {
-        Ok(Some(Reloc(number_at(2, third)?)))
+        let number = number_at(2, third)?;
+        refuse_number(3, fourth)?;
+        Ok(Some(Reloc(number)))
     } else {
+        refuse_number(2, third)?;
         Ok(None)
     }
 }
@@ -68,7 +89,7 @@ fn word_entry(
 {
     let at = number_at(0, columns.first)?;
     let word = number_at(1, columns.second)?;
-    let reloc = reloc_of(flag, columns.third)?;
+    let reloc = reloc_of(flag, columns.third, columns.fourth)?;
     if segment.words.len() >= 32767 {
         return Err(RowFault::Wrong(0, Reason::TooManyWords));
     }

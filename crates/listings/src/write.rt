@@ -1,11 +1,11 @@
 //! Writes the listing of a file.
-ghost use Rattle.std.specs.Prelude.{◌≡◌, ◌<◌, [], ◌∷◌, ◌++◌, codes, length, replicate, slice_get, Ok, IfOk};
+ghost use Rattle.std.specs.Prelude.{◌≡◌, ◌<◌, ◌+◌, [], ◌∷◌, ◌++◌, codes, length, replicate, slice_get, Ok, IfOk};
 ghost use Rattle.texts.specs.Numbers.{six_digits, octal};
 ghost use Rattle.texts.specs.Names.{printable_name};
 ghost use Rattle.texts.specs.Lines.{text_of};
 ghost use Rattle.texts.specs.Texts.{Puts};
 ghost use Rattle.listings.specs.Listing.{gap, wide, word_columns, word_line, word_lines, symbol_numbers, symbol_line, symbol_lines};
-ghost use Rattle.listings.specs.Listing.{named_line, unusual, head_lines, text_lines, data_lines, bss_lines, table_lines, listing};
+ghost use Rattle.listings.specs.Listing.{named_line, unusual, head_lines, text_lines, data_lines, bss_lines, table_lines, listing, with_relocs};
 ghost use Rattle.listings.specs.Reading.{read};
 ghost use Rattle.listings.specs.declared.draft.Addresses.TheVariants.{Compared};
 
@@ -225,34 +225,40 @@ fn put_bss(text: &mut Text, file: &File)
     put_bss_words(text, file.header());
 }
 
-/// Appends the lines of the text.
-fn put_text<R: Remark>(remarks: &R, text: &mut Text, file: &File)
-    ensures { Puts text.old text.new (text_of (text_lines (R.said remarks.now) file.now)) }
+/// Appends the lines of the text, with so many relocation words.
+fn put_text<R: Remark>(remarks: &R, text: &mut Text, file: &File, relocs: usize)
+    ensures { Puts text.old text.new
+        (text_of (text_lines (R.said remarks.now) (with_relocs relocs file.now))) }
 {
     text.put("text\n");
+    let count = relocs.min(file.text_reloc().len());
     put_words(
         remarks,
         text,
         Part::Text,
         0,
         file.text_words(),
-        file.text_reloc(),
+        &file.text_reloc()[..count],
     );
 }
 
-/// Appends the lines of the data.
-fn put_data<R: Remark>(remarks: &R, text: &mut Text, file: &File)
-    ensures { Puts text.old text.new (text_of (data_lines (R.said remarks.now) file.now)) }
+/// Appends the lines of the data, with the relocation words of these that are not of text.
+fn put_data<R: Remark>(remarks: &R, text: &mut Text, file: &File, relocs: usize)
+    ensures { Puts text.old text.new
+        (text_of (data_lines (R.said remarks.now) (with_relocs relocs file.now))) }
 {
     let header = file.header();
     text.put("data\n");
+    let count = relocs
+        .saturating_sub(file.text_reloc().len())
+        .min(file.data_reloc().len());
     put_words(
         remarks,
         text,
         Part::Data,
         header.data_start(),
         file.data_words(),
-        file.data_reloc(),
+        &file.data_reloc()[..count],
     );
 }
 
@@ -264,26 +270,41 @@ fn put_table<R: Remark>(remarks: &R, text: &mut Text, file: &File)
     put_symbols(remarks, text, file.symbols());
 }
 
-/// Appends the listing of a file, with remarks.
-fn put_listing<R: Remark>(remarks: &R, text: &mut Text, file: &File)
-    ensures { Puts text.old text.new (listing (R.said remarks.now) file.now) }
+/// Appends the listing of a file, with remarks and so many relocation words.
+fn put_listing<R: Remark>(remarks: &R, text: &mut Text, file: &File, relocs: usize)
+    ensures { Puts text.old text.new (listing (R.said remarks.now) (with_relocs relocs file.now)) }
 {
     remarks.put_notes(text);
     put_head(text, file);
-    put_text(remarks, text, file);
-    put_data(remarks, text, file);
+    put_text(remarks, text, file, relocs);
+    put_data(remarks, text, file, relocs);
     put_bss(text, file);
     put_table(remarks, text, file);
     remarks.put_findings(text);
 }
 
-/// The listing of a file, with remarks.
-fn listing_of<R: Remark>(alloc: Global, file: &File, remarks: &R) -> Result<Vec<u8>, AllocError>
-    ensures { IfOk result (λ v. v.items ≡ listing (R.said remarks.now) file.now) }
+/// The listing of a file with its first relocation words alone, as they are in a file that ends early. (own choice)
+///
+/// Errors: `AllocError` if memory runs out for the text.
+pub fn write_cut_listing<R: Remark>(
+    alloc: Global,
+    file: &File,
+    relocs: usize,
+    remarks: &R,
+) -> Result<Vec<u8>, AllocError>
+    ensures { IfOk result (λ v.
+        v.items ≡ listing (R.said remarks.now) (with_relocs relocs file.now)) }
 {
     let mut text = Text::new(alloc);
-    put_listing(remarks, &mut text, file);
+    put_listing(remarks, &mut text, file, relocs);
     text.finish()
+}
+
+/// How many relocation words a file has.
+fn reloc_count(file: &File) -> usize
+    ensures { result ≡ length file.now.text_reloc + length file.now.data_reloc }
+{
+    file.text_reloc().len() + file.data_reloc().len()
 }
 
 /// Writes a file as a listing, with remarks. Whatever is remarked, reading the listing gives the file. (own choice)
@@ -298,5 +319,5 @@ pub fn write_listing<R: Remark>(
     ensures again { IfOk result (λ v. read Compared v.items ≡ Ok file.now) }
 {
     sound_law(file);
-    listing_of(alloc, file, remarks)
+    write_cut_listing(alloc, file, reloc_count(file), remarks)
 }

@@ -1,5 +1,5 @@
 -- A file that is read whole, and why one is not; and what is reported of a file that is not stored. (own choice)
-use Rattle.std.specs.Prelude.{◌≡◌, ℕ, List, [], ◌∷◌, Option, Some, None, IfSome, codes}
+use Rattle.std.specs.Prelude.{◌≡◌, ℕ, List, [], ◌∷◌, take, Option, Some, None, IfSome, codes}
 use Rattle.surroundings.specs.{Answers.HasAnswer, Answers.failed_at, Events.History, Events.Extends, Events.opened}
 use Rattle.surroundings.specs.{declared.answer.Fault.Fault, declared.office.Stored.Stored}
 use Rattle.surroundings.specs.declared.office.Stored.TheVariants as office
@@ -7,6 +7,11 @@ use Rattle.surroundings.specs.declared.office.Stored.TheVariants as office
 -- the file at a path was opened, and these are its bytes
 abbrev pub ReadsAt : History → History → List ℕ → List ℕ → Type 0
 ReadsAt old new path bytes = (known : Option (List ℕ)) × Extends old new (opened path (Some known) ∷ []) × IfSome known (λ all. bytes ≡ all)
+
+-- the same, and these are its first bytes, at most so many
+abbrev pub ReadsFront : ℕ → History → History → List ℕ → List ℕ → Type 0
+ReadsFront most old new path bytes =
+    (known : Option (List ℕ)) × Extends old new (opened path (Some known) ∷ []) × IfSome known (λ all. bytes ≡ take most all)
 
 -- the line of a file that was not opened (`None`), or opened and not read
 abbrev pub unread_text : Option (Option (List ℕ)) → List ℕ

@@ -49,8 +49,10 @@ fn argument<R: Env>(alloc: Global, rt: &R, number: usize) -> Result<Option<Vec<u
     }
 }
 
-/// Bytes as a text: as they are if they are UTF-8, and else each that does not print as a backslash and three octal digits.
-fn readable(alloc: Global, bytes: Vec<u8>) -> Result<String, AllocError>
+/// Bytes as a text: as they are if they are UTF-8, and else each that does not print as a backslash and three octal digits. (own choice)
+///
+/// Errors: `AllocError` if memory runs out.
+pub fn readable(alloc: Global, bytes: Vec<u8>) -> Result<String, AllocError>
     ensures { IsUtf8 bytes.items → IfOk result (λ text. string_bytes text ≡ bytes.items) }
 {
     match String::from_utf8(bytes) {

@@ -7,7 +7,7 @@ use crate::nodes::Node;
 use crate::office::{Office, Stored};
 use crate::pieces::PieceWriter;
 use aout_core::{File, Wire, write_file};
-use std::fs;
+use std::fs::{self, FileType};
 use std::io::Write;
 use std::os::unix::fs::MetadataExt;
 use std::rt::{Files, Runtime};
@@ -38,15 +38,36 @@ pub fn store_text_on<W: Write>(text: &[u8], out: &mut Wire<W>) -> Stored
     }
 }
 
+/// The type of what is at a path, if this is itself a device, a FIFO or a socket. A link to one has none. (own choice)
+pub fn special_at<H: Files>(rt: &H, path: &str) -> Option<FileType> {
+    let kind = fs::symlink_metadata(rt, path).ok()?.file_type();
+    if kind.is_file() || kind.is_dir() || kind.is_symlink() {
+        return None;
+    }
+    Some(kind)
+}
+
 /// The files of a runtime.
 #[derive(Drop)]
 pub struct Disk<'a, H> {
     rt: &'a H,
+    opens_special: bool,
 }
 
 impl<'a, H> Disk<'a, H> {
     pub fn new(rt: &'a H) -> Disk<'a, H> {
-        Disk { rt }
+        Disk {
+            rt,
+            opens_special: true,
+        }
+    }
+
+    /// The files that end: a device, a FIFO or a socket is opened through a link alone, as `/dev/stdin` is. (own choice)
+    pub fn of_files(rt: &'a H) -> Disk<'a, H> {
+        Disk {
+            rt,
+            opens_special: false,
+        }
     }
 }
 
@@ -54,6 +75,9 @@ impl<H: Runtime> Office for Disk<'_, H> {
     type Source = H::File;
 
     fn open(&mut self, path: &str) -> Option<H::File> {
+        if !self.opens_special && special_at(self.rt, path).is_some() {
+            return None;
+        }
         fs::open(self.rt, path).ok()
     }
 

@@ -13,10 +13,12 @@
 //! Functions:
 //!
 //! - `words`, `readable_words`: the arguments of a program, which are UTF-8, or may be any bytes
+//! - `readable`: bytes as a text that can be shown
+//! - `special_at`: whether a path is that of a device, a FIFO or a socket
 //! - `given_in`: the letters of options in the arguments, their values, and paths; or why the arguments are refused
 //! - `hold_streams`: keeps files from the descriptors of closed standard streams
 //! - `end`: the status of a program that ended, or could not begin
-//! - `read_whole`: all bytes of a file
+//! - `read_whole`, `read_front`: all bytes of a file, and so many from its beginning
 //! - `store_on`, `store_text_on`: stores a file, or a text, on a device
 //! - `stored_text`: what is said of a file that was not stored
 //! - `nodes_at`, `is_input`, `check_output`: the files to which paths lead; whether an output is one of the inputs, and refuses it
@@ -44,8 +46,8 @@ mod sources;
 mod standard_error;
 
 pub use answer::{Answer, Fault, answer_stored, error_answer, fault_at, give, refused_answer};
-pub use arguments::{readable_words, words};
-pub use disk::{Disk, store_on, store_text_on};
+pub use arguments::{readable, readable_words, words};
+pub use disk::{Disk, special_at, store_on, store_text_on};
 pub use given::{Given, given_in};
 pub use held::{end, hold_streams};
 pub use lines::{put_fault_line, put_line_front, put_object_fault};
@@ -54,5 +56,5 @@ pub use office::{Office, Stored, stored_text};
 pub use outputs::Outputs;
 pub use reasons::Reason;
 pub use shown::{Shown, VERSION, refuse, show, shown_answer, shown_in};
-pub use sources::read_whole;
+pub use sources::{read_front, read_whole};
 pub use standard_error::StandardError;

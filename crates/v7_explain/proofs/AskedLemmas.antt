@@ -1,16 +1,16 @@
--- A call as the code has it; and the names that a map is asked for.
+-- A call as the code has it; and what a map is asked for.
 use Rattle.std.proofs.Common.{◌≡◌, ℕ, ◌-◌, ◌≤◌, Bool, true, List, [], ◌∷◌, ◌++◌, length, map, take, drop, get_or, Option, Some, None}
 use Rattle.std.proofs.Common.{refl, sym, ap, ◌∙◌, subst, inl, inr, arith}
 use Rattle.std.proofs.lemmas.List.{take_all}
 use Rattle.std.specs.Prelude.{Ok, Err, Result, String, string_bytes, if◌then◌else◌}
 use Rattle.std.specs.declared.alloc.Global.{Global}
-use Rattle.aout_core.specs.{Names.before_nul, Refusals.refused}
+use Rattle.aout_core.specs.Refusals.{refused}
 use Rattle.surroundings.proofs.ShownLemmas.{no_call, one_call, some_words}
 use Rattle.surroundings.specs.{Answer.Answer, Events.History, Programs.CallsOr, Programs.DoesWords, declared.answer.Fault.Fault}
 use Rattle.surroundings.specs.declared.reasons.Reason.{Reason}
 use Rattle.v7_explain.specs.Calls.{Mapping, after_map, asked_in, asked_or, map_link, mapping, mapping_after}
 use Rattle.v7_explain.specs.{Files.program, Help.usage, Maps.IsMapCall, Runs.IsCall, Runs.MapsAsked}
-use Rattle.v7_explain.specs.{Walks.Folders, declared.arguments.Call.Call as Code, internal.Asked.asks_for_name, internal.Asked.call_in}
+use Rattle.v7_explain.specs.{Walks.Folders, declared.arguments.Call.Call as Code, internal.Asked.asks_of_map, internal.Asked.call_in}
 use Rattle.surroundings.specs.declared.answer.Fault.TheVariants as faults
 
 -- a call is done, as the code has it
@@ -35,35 +35,35 @@ of_files folders words old new result is h =
 pub ruleset by_first = (of_map, of_files)
 
 out_of : (asked : Result Mapping Reason) (h : History) →
-    CallsOr program usage (λ m. IsMapCall m.names m.words) asked h h (Err (faults.Memory refused))
+    CallsOr program usage (λ m. IsMapCall m.asked m.words) asked h h (Err (faults.Memory refused))
 out_of (Err reason) h = (refl, inr refl)
 out_of (Ok m) h = inl (refl, refl)
 
--- one name more
-pub name_taken : (names words rest : List (List ℕ)) (word name : List ℕ) → words ≡ word ∷ name ∷ rest → asks_for_name words ≡ true →
-    mapping_after names words ≡ mapping_after (names ++ take 8 (before_nul name) ∷ []) rest
-name_taken names words rest word name are asks =
-    ap (mapping_after names) are
+-- one argument more
+pub argument_taken : (asked words rest : List (List ℕ)) (word argument : List ℕ) → words ≡ word ∷ argument ∷ rest → asks_of_map words ≡ true →
+    mapping_after asked words ≡ mapping_after (asked ++ argument ∷ []) rest
+argument_taken asked words rest word argument are asks =
+    ap (mapping_after asked) are
     ∙ ap (λ (b : Bool).
-    if b then mapping_after (names ++ take 8 (before_nul name) ∷ []) rest else Ok (record { names = names; words = word ∷ name ∷ rest }))
-    (sym (ap asks_for_name are) ∙ asks)
+    if b then mapping_after (asked ++ argument ∷ []) rest else Ok (record { asked = asked; words = word ∷ argument ∷ rest }))
+    (sym (ap asks_of_map are) ∙ asks)
 
 -- as the code has it
-pub name_taken_at : (names : List (List ℕ)) (words after : List (String Global)) (name d : String Global) → 2 ≤ length words →
-    name ≡ get_or words 1 d → after ≡ take (length words - 2) (drop 2 words) → asks_for_name (map string_bytes words) ≡ true →
-    mapping_after names (map string_bytes words)
-    ≡ mapping_after (names ++ take 8 (before_nul (string_bytes name)) ∷ []) (map string_bytes after)
-name_taken_at names [] after name d two is left asks = absurd (omega (arith, two))
-name_taken_at names (w ∷ []) after name d two is left asks = absurd (omega (arith, two))
-name_taken_at names (w ∷ n ∷ rest) after name d two is left asks =
+pub argument_taken_at : (asked : List (List ℕ)) (words after : List (String Global)) (argument d : String Global) → 2 ≤ length words →
+    argument ≡ get_or words 1 d → after ≡ take (length words - 2) (drop 2 words) → asks_of_map (map string_bytes words) ≡ true →
+    mapping_after asked (map string_bytes words)
+    ≡ mapping_after (asked ++ string_bytes argument ∷ []) (map string_bytes after)
+argument_taken_at asked [] after argument d two is left asks = absurd (omega (arith, two))
+argument_taken_at asked (w ∷ []) after argument d two is left asks = absurd (omega (arith, two))
+argument_taken_at asked (w ∷ n ∷ rest) after argument d two is left asks =
     let whole : after ≡ rest = left ∙ take_all (length (w ∷ n ∷ rest) - 2) rest (omega (arith)) in
-    name_taken names (map string_bytes (w ∷ n ∷ rest)) (map string_bytes rest) (string_bytes w) (string_bytes n) refl asks
-    ∙ ap (λ (s : String Global). mapping_after (names ++ take 8 (before_nul (string_bytes s)) ∷ []) (map string_bytes rest)) (sym is)
-    ∙ ap (λ (l : List (String Global)). mapping_after (names ++ take 8 (before_nul (string_bytes name)) ∷ []) (map string_bytes l))
+    argument_taken asked (map string_bytes (w ∷ n ∷ rest)) (map string_bytes rest) (string_bytes w) (string_bytes n) refl asks
+    ∙ ap (λ (s : String Global). mapping_after (asked ++ string_bytes s ∷ []) (map string_bytes rest)) (sym is)
+    ∙ ap (λ (l : List (String Global)). mapping_after (asked ++ string_bytes argument ∷ []) (map string_bytes l))
     (sym whole)
 
--- memory runs out for the names
-pub names_out : (words : List (List ℕ)) (h : History) → MapsAsked words h h (Err (faults.Memory refused))
-names_out words h = out_of (mapping words) h
+-- memory runs out for the arguments
+pub asked_out : (words : List (List ℕ)) (h : History) → MapsAsked words h h (Err (faults.Memory refused))
+asked_out words h = out_of (mapping words) h
 
-pub ruleset by_asked = (names_out, no_call, one_call)
+pub ruleset by_asked = (asked_out, no_call, one_call)

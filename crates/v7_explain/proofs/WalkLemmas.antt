@@ -6,7 +6,7 @@ use Rattle.std.specs.Prelude.{Option, Some, None, Result, Ok, Err, OnOk, String,
 use Rattle.std.specs.{List.flat_map, List.Sorted.IsSortedBy, List.Sorted.IsStableBy, declared.alloc.Global.Global}
 use Rattle.symtools.proofs.SortLemmas.{in_order-from_sort}
 use Rattle.symtools.specs.NmLists.{in_order, inserted}
-use Rattle.v7_explain.specs.Walks.{Folder, Folders, itself_unless, name_before, path_in, walked, walked_at}
+use Rattle.v7_explain.specs.Walks.{Folder, Folders, Found, folder_in, itself_unless, name_before, path_found, path_in, unnamed_in, walked, walked_at}
 use Rattle.v7_explain.specs.internal.Walking.{Walks, ordered, ordered_at, ordered_if}
 
 -- ---- names in order
@@ -46,11 +46,13 @@ sorted_names xs ys sorted stable =
 -- ---- a folder at a level
 
 -- what is found at a path, by the folder with its names in order
-abbrev pub found_at : (List ℕ → List (List ℕ)) → List ℕ → Option Folder → List (List ℕ)
-found_at below path None = path ∷ []
-found_at below path (Some folder) = itself_unless folder.is_whole path ++ flat_map (λ name. below (path_in path name)) folder.names
+abbrev pub found_at : (List ℕ → List Found) → List ℕ → Option Folder → List Found
+found_at below path None = path_found path ∷ []
+found_at below path (Some folder) =
+    itself_unless folder.is_whole path ++ flat_map (λ name. below (path_in path name)) folder.names
+    ++ map (unnamed_in path) folder.unnamed
 
-found_in_order : (below : List ℕ → List (List ℕ)) (path : List ℕ) (folder : Option Folder) →
+found_in_order : (below : List ℕ → List Found) (path : List ℕ) (folder : Option Folder) →
     walked_at below path folder ≡ found_at below path (ordered_if folder)
 found_in_order below path None = refl
 found_in_order below path (Some folder) = refl
@@ -60,45 +62,63 @@ pub walked_by : (levels : ℕ) (at : Folders) (path : List ℕ) →
 walked_by zero at path = refl
 walked_by (suc levels) at path =
     let same : levels ≡ suc levels - 1 = omega arith in
-    found_in_order (walked levels at) path (at path)
-    ∙ ap (λ n. found_at (walked n at) path (ordered_if (at path))) same
+    found_in_order (walked levels at) path (folder_in (at path))
+    ∙ ap (λ n. found_at (walked n at) path (ordered_if (folder_in (at path)))) same
 
 -- ---- one after another
 
 -- what is found below a further name
-pub found_more : (below : List ℕ → List (List ℕ)) (whole before after : List (List ℕ)) (left later : List (List ℕ)) (name : List ℕ) →
+pub found_more : (below : List ℕ → List Found) (whole before after : List Found) (left later : List (List ℕ)) (name : List ℕ) →
     before ++ flat_map below left ≡ whole → left ≡ name ∷ later → after ≡ before ++ below name →
     after ++ flat_map below later ≡ whole
 found_more below whole before after left later name all is added =
-    ap (λ (l : List (List ℕ)). l ++ flat_map below later) added
+    ap (λ (l : List Found). l ++ flat_map below later) added
     ∙ append_assoc before (below name) (flat_map below later)
     ∙ ap (λ (l : List (List ℕ)). before ++ flat_map below l) (sym is)
     ∙ all
 
+-- a further name is added
+pub added_more : (one : List ℕ → Found) (whole before after : List Found) (left later : List (List ℕ)) (name : List ℕ) →
+    before ++ map one left ≡ whole → left ≡ name ∷ later → after ≡ before ++ (one name ∷ []) → after ++ map one later ≡ whole
+added_more one whole before after left later name all is added =
+    ap (λ (l : List Found). l ++ map one later) added
+    ∙ append_assoc before (one name ∷ []) (map one later)
+    ∙ ap (λ (l : List (List ℕ)). before ++ map one l) (sym is)
+    ∙ all
+
 -- ---- what the functions leave
 
-pub sorts : {E : Type 0} (result : Result (Unit {0}) E) (is_whole : Bool) (xs ys : List (String Global)) →
-    OnOk result (IsSortedBy string_before ys) → IsStableBy string_before xs ys →
-    OnOk result (record { names = map string_bytes ys; is_whole = is_whole }
-    ≡ ordered (record { names = map string_bytes xs; is_whole = is_whole }))
-sorts (Ok done) is_whole xs ys sorted stable =
-    ap (λ (l : List (List ℕ)). record { names = l; is_whole = is_whole }) (sorted_names xs ys sorted stable)
-sorts (Err fault) is_whole xs ys sorted stable = tt
+pub sorts : {E : Type 0} (result : Result (Unit {0}) E) (is_whole : Bool) (names now unnamed later : List (String Global)) →
+    IsSortedBy string_before now → IsStableBy string_before names now →
+    OnOk result (IsSortedBy string_before later) → IsStableBy string_before unnamed later →
+    OnOk result (record { names = map string_bytes now; unnamed = map string_bytes later; is_whole = is_whole }
+    ≡ ordered (record { names = map string_bytes names; unnamed = map string_bytes unnamed; is_whole = is_whole }))
+sorts (Ok done) is_whole names now unnamed later sorted stable sorted_too stable_too =
+    ap (λ (l : List (List ℕ)). record { names = l; unnamed = map string_bytes later; is_whole = is_whole }) (sorted_names names now sorted stable)
+    ∙ ap (λ (l : List (List ℕ)). record { names = in_order name_before (map string_bytes names); unnamed = l; is_whole = is_whole })
+    (sorted_names unnamed later sorted_too stable_too)
+sorts (Err fault) is_whole names now unnamed later sorted stable sorted_too stable_too = tt
 
 -- a path without a folder is added
 pub walks_alone : {E : Type 0} (result : Result (Unit {0}) E) (known : Option Folders) (levels : ℕ) (path : List ℕ)
-    (before after : List (List ℕ)) → ((at : Folders) → known ≡ Some at → None ≡ ordered_at levels at path) →
-    OnOk result (after ≡ before ++ (path ∷ [])) → OnOk result (Walks known levels path before after)
+    (before after : List Found) → ((at : Folders) → known ≡ Some at → None ≡ ordered_at levels at path) →
+    OnOk result (after ≡ before ++ (path_found path ∷ [])) → OnOk result (Walks known levels path before after)
 walks_alone result known levels path before after none =
-    on_ok_weaker result (λ added at is. added ∙ ap (λ (l : List (List ℕ)). before ++ l)
+    on_ok_weaker result (λ added at is. added ∙ ap (λ (l : List Found). before ++ l)
     (sym (walked_by levels at path ∙ ap (found_at (walked (levels - 1) at) path) (sym (none at is)))))
 
--- all names of a folder are gone through
-pub walks_through : (levels : ℕ) (at : Folders) (path : List ℕ) (folder : Folder) (before first after : List (List ℕ)) →
-    Some folder ≡ ordered_at levels at path → first ≡ before ++ itself_unless folder.is_whole path →
-    after ≡ first ++ flat_map (λ name. walked (levels - 1) at (path_in path name)) folder.names →
-    after ≡ before ++ walked levels at path
-walks_through levels at path folder before first after is front rest =
+-- all names of a folder are gone through, and then its names that are not UTF-8
+pub walks_through : {E : Type 0} (result : Result (Unit {0}) E) (known : Option Folders) (levels : ℕ) (path : List ℕ) (folder : Folder)
+    (before first mid after : List Found) → ((at : Folders) → known ≡ Some at → Some folder ≡ ordered_at levels at path) →
+    first ≡ before ++ itself_unless folder.is_whole path →
+    ((at : Folders) → known ≡ Some at → mid ≡ first ++ flat_map (λ name. walked (levels - 1) at (path_in path name)) folder.names) →
+    OnOk result (after ≡ mid ++ map (unnamed_in path) folder.unnamed) → OnOk result (Walks known levels path before after)
+walks_through result known levels path folder before first mid after is front rest =
+    on_ok_weaker result (λ added at here.
+    let itself = itself_unless folder.is_whole path in
     let inside = flat_map (λ name. walked (levels - 1) at (path_in path name)) folder.names in
-    rest ∙ ap (λ (l : List (List ℕ)). l ++ inside) front ∙ append_assoc before (itself_unless folder.is_whole path) inside
-    ∙ ap (λ (l : List (List ℕ)). before ++ l) (sym (walked_by levels at path ∙ ap (found_at (walked (levels - 1) at) path) (sym is)))
+    let last = map (unnamed_in path) folder.unnamed in
+    added ∙ ap (λ (l : List Found). l ++ last) (rest at here ∙ ap (λ (l : List Found). l ++ inside) front ∙ append_assoc before itself inside)
+    ∙ append_assoc before (itself ++ inside) last
+    ∙ ap (λ (l : List Found). before ++ l)
+    (sym (walked_by levels at path ∙ ap (found_at (walked (levels - 1) at) path) (sym (is at here)))))

@@ -2,10 +2,10 @@
 --
 -- Options and paths may be in any order, but for -m, which is the first argument: those after it are of a map. With no option the files
 -- at these paths are listed.
-use Rattle.std.specs.Prelude.{ℕ, Bool, ◌&&◌, not, if◌then◌else◌, bytes_eq, codes, List, [], ◌∷◌, ◌++◌, take}
+use Rattle.std.specs.Prelude.{ℕ, Bool, ◌&&◌, not, if◌then◌else◌, bytes_eq, codes, List, [], ◌∷◌, ◌++◌}
 use Rattle.std.specs.Prelude.{Option, Some, None, Result, Ok, Err}
 use Rattle.std.specs.Option.{option_or}
-use Rattle.aout_core.specs.{Names.before_nul, Words.letter_of}
+use Rattle.aout_core.specs.{Words.letter_of}
 use Rattle.explanations.specs.declared.rows.Base.TheVariants.{Octal, Hexadecimal}
 use Rattle.instructions.specs.declared.unix.Decoder.TheVariants.{Pdp11, Unix}
 use Rattle.surroundings.specs.Arguments.{Given, excluded_in, given_in, has_letter, if_given, value_of}
@@ -103,20 +103,19 @@ asked_in words = asked_or (after_map words) words
 
 -- ---- the arguments of a map
 
--- the names that are asked for, and the arguments of ld
+-- the arguments of -y, and those of ld
 pub record Mapping : Type 0 where
-  pub names : List (List ℕ)
+  pub asked : List (List ℕ)
   pub words : List (List ℕ)
 
--- -y and a word ask for a name, the word up to its first NUL and its eighth byte, after the names so far; the other words are the
--- arguments of ld. With -y alone there is no map
+-- the word after -y is its argument, after those so far; the other words are the arguments of ld. With -y alone there is no map
 abbrev pub mapping_after : List (List ℕ) → List (List ℕ) → Result Mapping Reason
-mapping_after names [] = Ok (record { names = names; words = [] })
-mapping_after names (word ∷ []) =
-    if bytes_eq word (codes "-y") then Err (NoValue (letter_of (codes "y"))) else Ok (record { names = names; words = word ∷ [] })
-mapping_after names (word ∷ name ∷ rest) =
-    if bytes_eq word (codes "-y") then mapping_after (names ++ take 8 (before_nul name) ∷ []) rest
-    else Ok (record { names = names; words = word ∷ name ∷ rest })
+mapping_after asked [] = Ok (record { asked = asked; words = [] })
+mapping_after asked (word ∷ []) =
+    if bytes_eq word (codes "-y") then Err (NoValue (letter_of (codes "y"))) else Ok (record { asked = asked; words = word ∷ [] })
+mapping_after asked (word ∷ argument ∷ rest) =
+    if bytes_eq word (codes "-y") then mapping_after (asked ++ argument ∷ []) rest
+    else Ok (record { asked = asked; words = word ∷ argument ∷ rest })
 
 abbrev pub mapping : List (List ℕ) → Result Mapping Reason
 mapping words = mapping_after [] words

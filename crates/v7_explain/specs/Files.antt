@@ -12,14 +12,16 @@ use Rattle.findings.specs.Wrong.{is_damaged, wrong_bytes, wrong_in, wrong_words}
 use Rattle.findings.specs.{Found.Found, Kinds.kind_text, Kinds.or_nothing, Notes.byte_text, Notes.header_lines, Notes.note_text}
 use Rattle.findings.specs.{OtherFiles.is_of_gnu, OtherFiles.likeness}
 use Rattle.instructions.specs.declared.unix.Decoder.TheVariants.{Unix}
-use Rattle.listings.specs.Listing.{listing, note_lines}
+use Rattle.findings.specs.Remains.{decode_there, missing_text, relocs_there}
+use Rattle.listings.specs.Listing.{listing, note_lines, with_relocs}
 use Rattle.surroundings.specs.{Answer.Answer, Answers.line_front, Answers.only_errors}
 use Rattle.suspicions.specs.{Suspicions.all_odd, declared.evidence.Evidence.Evidence}
 use Rattle.texts.specs.{Lines.text_of, Numbers.octal_and_decimal}
-use Rattle.explanations.specs.Inventories.{file_row, refused_row, row_line}
+use Rattle.explanations.specs.Inventories.{file_row, plain_row, refused_row, row_line}
 use Rattle.explanations.specs.{Dumps.dump, Said.explained, Said.printed, declared.inventory.InventoryRow.InventoryRow}
 use Rattle.v7_explain.specs.{declared.views.View.View, declared.views.View.TheVariants.Instructions, declared.views.View.TheVariants.Rows}
 use Rattle.aout_core.specs.declared.file.ReadFault.TheVariants as faults
+use Rattle.explanations.specs.declared.file_kind.FileKind.TheVariants as kinds
 
 abbrev pub program : List ℕ
 program = codes "v7-explain"
@@ -172,9 +174,34 @@ refused_notes path bytes fault =
     title path (length bytes) ∷ [] ++ header_notes (likeness_of fault bytes) bytes ++ found_notes (codes "wrong") (wrong_bytes fault bytes)
     ++ note_if (likeness_of fault bytes) ++ gnu_notes true bytes
 
-abbrev pub refused_as : Bool → List ℕ → List ℕ → ReadFault → Answer
-refused_as tells path bytes fault = record {
-  output = lines_of (refused_notes path bytes fault);
+-- ---- what is there of a file that ends early
+
+-- as a listing
+unfoldable pub remains_listing : ℕ → Contents → List ℕ
+remains_listing relocs c = listing (explained (starts Unix c) c [] []) (with_relocs relocs c)
+
+-- or in another view
+abbrev pub remains_shown : Option View → ℕ → Contents → List ℕ
+remains_shown None relocs c = remains_listing relocs c
+remains_shown (Some view) relocs c = body_of view c
+
+-- after it, where the file ends. The line begins with no slash, so it is not a note: a listing that has it describes no file
+unfoldable pub end_line : Header → ℕ → List ℕ
+end_line h n = missing_text h n ++ codes "\n"
+
+abbrev pub remains_by : Option View → List ℕ → Result Contents ReadFault → List ℕ
+remains_by view bytes (Ok c) =
+    remains_shown view (relocs_there (header_in bytes) (length bytes)) c ++ end_line (header_in bytes) (length bytes)
+remains_by view bytes (Err fault) = []
+
+abbrev pub remains : Option View → ReadFault → List ℕ → List ℕ
+remains view faults.Truncated bytes = remains_by view bytes (decode_there bytes)
+remains view fault bytes = []
+
+-- bytes that are not a file, and what is there of one
+abbrev pub refused_in : Option View → Bool → List ℕ → List ℕ → ReadFault → Answer
+refused_in view tells path bytes fault = record {
+  output = lines_of (refused_notes path bytes fault) ++ remains view fault bytes;
   errors = reported tells path (wrong_bytes fault bytes);
   status = 1;
 }
@@ -192,10 +219,10 @@ by_reading file refused (Ok c) = file c (first_object_fault c)
 by_reading file refused (Err fault) = refused fault
 
 abbrev pub listed : Evidence → Bool → List ℕ → List ℕ → Answer
-listed e tells path bytes = by_reading (listed_as e tells path bytes) (refused_as tells path bytes) (decode bytes)
+listed e tells path bytes = by_reading (listed_as e tells path bytes) (refused_in None tells path bytes) (decode bytes)
 
 abbrev pub viewed : View → List ℕ → List ℕ → Answer
-viewed view path bytes = by_reading (viewed_as view path bytes) (refused_as false path bytes) (decode bytes)
+viewed view path bytes = by_reading (viewed_as view path bytes) (refused_in (Some view) false path bytes) (decode bytes)
 
 abbrev pub checked : Evidence → List ℕ → List ℕ → Answer
 checked e path bytes = by_reading (checked_as e path bytes) (λ fault. only_errors (refused_lines path bytes fault) 1) (decode bytes)
@@ -209,3 +236,8 @@ abbrev pub inventoried : List ℕ → List ℕ → Answer
 inventoried path bytes =
     by_reading (λ c refused. row_said path (file_row bytes c (wrong_in refused c)))
     (λ fault. row_said path (refused_row fault bytes (wrong_bytes fault bytes))) (decode bytes)
+
+-- a path that can't be opened, since a name in it is not UTF-8
+abbrev pub unnamed_said : List ℕ → Answer
+unnamed_said path =
+    record { output = row_line (plain_row kinds.NotUtf8) path; errors = line_of path (codes "cannot open"); status = 2 }

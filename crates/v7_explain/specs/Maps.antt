@@ -1,8 +1,8 @@
 -- The map of a link: which files are opened, what is said of those that are not objects, and the map with its status. (own choice)
 --
 -- The files are those that `ld` takes with the same arguments. Each is read whole before the next one is opened. There is a map if all are
--- objects; else the answer has a line for each that is not. If names are asked for, the map has only these.
-use Rattle.std.specs.Prelude.{◌≡◌, ◌⊎◌, ℕ, List, [], ◌∷◌, ◌++◌, eqb, map, max, Option, Result, Ok, Err, codes, string_bytes}
+-- objects; else the answer has a line for each that is not. With -y the map has only what is asked for.
+use Rattle.std.specs.Prelude.{◌≡◌, ◌⊎◌, ℕ, Bool, if◌then◌else◌, List, [], ◌∷◌, ◌++◌, eqb, map, max, Option, Result, Ok, Err, codes, string_bytes}
 use Rattle.aout_core.specs.{Contents.Contents, Decoding.decode, FaultTexts.object_text, FaultTexts.read_text, Refusals.refused, Words.letter_of}
 use Rattle.command_words.specs.Calls.{AsksForNone, IsAsked, IsWhole, dashes_in, files_of}
 use Rattle.command_words.specs.{declared.fault.WordsFault.TheVariants.Usage, declared.words.Call.Call, declared.words.Call.TheVariants.Ld}
@@ -11,7 +11,7 @@ use Rattle.link_maps.specs.{declared.map.LinkMap.LinkMap, declared.members.Objec
 use Rattle.link_out.specs.Inputs.{Cause, Refusal, bad_file, bad_object, linked, object_in}
 use Rattle.link_out.specs.{function.Link.Outcome, function.Reports.status_of}
 use Rattle.link_session.specs.Labelled.{Labelled}
-use Rattle.map_texts.specs.Whole.{absent_names, map_text, names_map}
+use Rattle.map_texts.specs.{Asked.asked_of, Asked.has_some, Whole.asked_map, Whole.map_text}
 use Rattle.surroundings.specs.{Answer.Answer, Answers.AnswersOr, Answers.failed_at, Answers.only_errors, Answers.says_reason, Events.History}
 use Rattle.surroundings.specs.{Events.Extends, Events.opened, Sources.ReadsAt, Sources.unread_text, declared.answer.Fault.Fault}
 use Rattle.surroundings.specs.{declared.reasons.Reason.Reason, declared.reasons.Reason.TheVariants.NotOfLd}
@@ -80,18 +80,17 @@ pub record AreTaken (forced : List (List ℕ)) (inputs : List (List ℕ × List 
   pub objects : HaveObjects inputs (all_of o)
   pub taken : split_of o ≡ split forced (all_of o)
 
--- the text of a map: the whole one, or only the names that are asked for
+-- the text of a map: the whole one, or only what is asked for
 abbrev pub text_asked : List (List ℕ) → Choices → Objects → LinkMap → List ℕ
 text_asked [] choices o m = map_text choices o m
-text_asked (name ∷ names) choices o m = names_map o m (name ∷ names) (absent_names m.uses.items (name ∷ names))
+text_asked (argument ∷ more) choices o m = asked_map o m (asked_of m (argument ∷ more))
 
-abbrev pub status_with : List (List ℕ) → ℕ → ℕ
-status_with [] status = status
-status_with (name ∷ names) status = max status 1
+abbrev pub status_with : Bool → ℕ → ℕ
+status_with has_absent status = if has_absent then max status 1 else status
 
--- a name that is asked for and absent is something to report
+-- what is asked for and absent is something to report
 abbrev pub status_asked : List (List ℕ) → LinkMap → ℕ → ℕ
-status_asked asked m status = status_with (absent_names m.uses.items asked) status
+status_asked asked m status = status_with (has_some (asked_of m asked).absent) status
 
 -- the map of these objects, with its status
 abbrev pub answer_of : List (List ℕ) → Choices → Objects → LinkMap → ℕ → Answer

@@ -2,20 +2,23 @@
 --
 -- Each file is read whole and explained before the next one is opened. The answer has what is shown of each, in order, and the largest
 -- status. If memory runs out, that is the answer, and nothing was stored.
-use Rattle.std.specs.Prelude.{◌≡◌, ◌⊎◌, ℕ, true, false, eqb, List, [], ◌∷◌, Option, Result, Ok, Err}
+use Rattle.std.specs.Prelude.{◌≡◌, ◌⊎◌, ℕ, true, false, eqb, List, [], ◌∷◌, map, Option, Some, None, Result, Ok, Err}
 use Rattle.aout_core.specs.Refusals.{refused}
+use Rattle.explanations.specs.Inventories.{plain_row}
+use Rattle.explanations.specs.declared.file_kind.FileKind.{FileKind}
 use Rattle.surroundings.specs.Answers.{AnswersOr, IsPerformed, failed_at, only_errors}
 use Rattle.surroundings.specs.Events.{History, Extends, Surroundings, opened, written}
 use Rattle.surroundings.specs.Programs.{AnswersGiven, CallsOr, Finds, Reads, Step, Stores, Then}
-use Rattle.surroundings.specs.Sources.{ReadsAt, unread_text}
+use Rattle.surroundings.specs.Sources.{ReadsAt, ReadsFront, unread_text}
 use Rattle.surroundings.specs.{Answer.Answer, Nodes.ChecksOutput, declared.answer.Fault.Fault}
 use Rattle.suspicions.specs.declared.evidence.Evidence.TheVariants.{Flow}
 use Rattle.v7_explain.specs.Calls.{Call, asked_in, explain, map_link, mapping, store, walk}
-use Rattle.v7_explain.specs.Files.{checked, inventoried, listed, program, viewed}
+use Rattle.v7_explain.specs.Files.{checked, inventoried, listed, program, row_said, unnamed_said, viewed}
 use Rattle.v7_explain.specs.Help.{help, usage}
 use Rattle.v7_explain.specs.Joined.{either, joined, nothing_said}
 use Rattle.v7_explain.specs.declared.explaining.Mode.TheVariants.{Listing, Show, Check, Inventory}
-use Rattle.v7_explain.specs.{Maps.IsMapCall, Walks.AreWalked, Walks.Folders, declared.explaining.Mode.Mode}
+use Rattle.v7_explain.specs.Walks.{AreWalked, Folders, Found, kind_in, path_found}
+use Rattle.v7_explain.specs.{Maps.IsMapCall, declared.explaining.Mode.Mode}
 use Rattle.surroundings.specs.declared.answer.Fault.TheVariants as faults
 
 -- ---- files one after another
@@ -27,21 +30,55 @@ said_of (Show view) path bytes = viewed view path bytes
 said_of (Check e) path bytes = checked e path bytes
 said_of Inventory path bytes = inventoried path bytes
 
+-- an inventory reads the front of a file: one byte more than the largest core file has, 1,024 bytes and 131,070 blocks of 64
+abbrev pub ReadsFor : Mode → History → History → List ℕ → List ℕ → Type 0
+ReadsFor Inventory old new path bytes = ReadsFront 8389505 old new path bytes
+ReadsFor _ old new path bytes = ReadsAt old new path bytes
+
 -- the file at a path is read and explained, or it is not opened or not read, and a line reports that
 abbrev pub SaysAt : Mode → History → History → List ℕ → Answer → Type 0
 SaysAt mode old new path said =
-    ((bytes : List ℕ) × ReadsAt old new path bytes × (said ≡ said_of mode path bytes))
+    ((bytes : List ℕ) × ReadsFor mode old new path bytes × (said ≡ said_of mode path bytes))
     ⊎ ((found : Option (Option (List ℕ))) × Extends old new (opened path found ∷ []) × (said ≡ failed_at program path (unread_text found)))
 
 abbrev pub Explains : Mode → History → History → List ℕ → Result Answer Fault → Type 0
 Explains mode old new path result = (said : Answer) × SaysAt mode old new path said × AnswersOr result said
 
--- what is shown of each file, after what was shown before; or memory runs out after a file
-abbrev pub IsExplaining : Mode → History → History → Answer → List (List ℕ) → Result Answer Fault → Type 0
-IsExplaining mode old new said [] result = (new ≡ old) × AnswersOr result said
-IsExplaining mode old new said (path ∷ paths) result =
-    (more : Answer) × (between : History) × SaysAt mode old between path more
-    × (((new ≡ between) × (result ≡ Err (faults.Memory refused))) ⊎ IsExplaining mode between new (joined said more) paths result)
+-- an inventory does not read what has a kind of its own, as a device
+abbrev pub IsKind : Option Folders → Mode → List ℕ → Option FileKind → Type 0
+IsKind folders Inventory path kind = (at : Folders) → folders ≡ Some at → kind ≡ kind_in (at path)
+IsKind folders _ path kind = kind ≡ None
+
+abbrev pub SaysBy : Option FileKind → Mode → History → History → List ℕ → Answer → Type 0
+SaysBy None mode old new path said = SaysAt mode old new path said
+SaysBy (Some kind) mode old new path said = (new ≡ old) × (said ≡ row_said path (plain_row kind))
+
+abbrev pub SaysNamed : Option Folders → Mode → History → History → List ℕ → Answer → Type 0
+SaysNamed folders mode old new path said =
+    (kind : Option FileKind) × IsKind folders mode path kind × SaysBy kind mode old new path said
+
+abbrev pub ExplainsNamed : Option Folders → Mode → History → History → List ℕ → Result Answer Fault → Type 0
+ExplainsNamed folders mode old new path result = (said : Answer) × SaysNamed folders mode old new path said × AnswersOr result said
+
+-- what was found is explained; what is not named can't be opened
+abbrev pub SaysFound : Option Folders → Mode → History → History → Found → Answer → Type 0
+SaysFound folders mode old new found said =
+    either found.is_named (SaysNamed folders mode old new found.path said) ((new ≡ old) × (said ≡ unnamed_said found.path))
+
+abbrev pub ExplainsFound : Option Folders → Mode → History → History → Found → Result Answer Fault → Type 0
+ExplainsFound folders mode old new found result = (said : Answer) × SaysFound folders mode old new found said × AnswersOr result said
+
+-- what is shown of each, after what was shown before; or memory runs out after one
+abbrev pub IsExplaining : Option Folders → Mode → History → History → Answer → List Found → Result Answer Fault → Type 0
+IsExplaining folders mode old new said [] result = (new ≡ old) × AnswersOr result said
+IsExplaining folders mode old new said (found ∷ all) result =
+    (more : Answer) × (between : History) × SaysFound folders mode old between found more
+    × (((new ≡ between) × (result ≡ Err (faults.Memory refused))) ⊎ IsExplaining folders mode between new (joined said more) all result)
+
+-- the files at these paths are explained; or memory runs out first
+abbrev pub ExplainsAll : Option Folders → Mode → List (List ℕ) → Step Answer
+ExplainsAll folders mode paths old new result =
+    ((new ≡ old) × (result ≡ Err (faults.Memory refused))) ⊎ IsExplaining folders mode old new nothing_said (map path_found paths) result
 
 -- ---- folders
 
@@ -49,7 +86,7 @@ IsExplaining mode old new said (path ∷ paths) result =
 abbrev pub IsWalk : Option Folders → History → History → List (List ℕ) → Result Answer Fault → Type 0
 IsWalk folders old new paths result =
     ((new ≡ old) × (result ≡ Err (faults.Memory refused)))
-    ⊎ ((found : List (List ℕ)) × AreWalked folders paths found × IsExplaining Inventory old new nothing_said found result)
+    ⊎ ((found : List Found) × AreWalked folders paths found × IsExplaining folders Inventory old new nothing_said found result)
 
 -- ---- a listing that is stored
 
@@ -72,13 +109,13 @@ StoresListing to path =
 
 -- ---- the program
 
--- the map of the names and of the link that the arguments after -m ask for
+-- the map of the link, or only of what is asked of it, that the arguments after -m ask for
 abbrev pub MapsAsked : List (List ℕ) → Step Answer
-MapsAsked words = CallsOr program usage (λ asked. IsMapCall asked.names asked.words) (mapping words)
+MapsAsked words = CallsOr program usage (λ m. IsMapCall m.asked m.words) (mapping words)
 
 -- what the arguments ask for
 abbrev pub IsCall : Option Folders → Call → Step Answer
-IsCall folders (explain mode paths) old new result = IsExplaining mode old new nothing_said paths result
+IsCall folders (explain mode paths) old new result = ExplainsAll folders mode paths old new result
 IsCall folders (walk paths) old new result = IsWalk folders old new paths result
 IsCall folders (store to path) old new result = StoresListing to path old new result
 IsCall folders (map_link words) old new result = MapsAsked words old new result

@@ -1,14 +1,13 @@
-//! The names that a map is asked for.
+//! What a map is asked for.
 ghost use Rattle.std.specs.Prelude.{◌≡◌, map, option_map, IfOk, string_bytes};
 ghost use Rattle.v7_explain.specs.Calls.{mapping_after};
-ghost use Rattle.v7_explain.specs.internal.Asked.{asks_for_name, mapping_with};
+ghost use Rattle.v7_explain.specs.internal.Asked.{asks_of_map, mapping_with};
 
-use aout_core::Name;
-use std::alloc::AllocError;
+use std::alloc::{AllocError, Global};
 
-/// Whether the first of these words is the option that asks for a name.
-fn asks_for_name(words: &[String]) -> bool
-    ensures { result ≡ asks_for_name (map string_bytes words.now) }
+/// Whether the first of these words is `-y`.
+fn asks_of_map(words: &[String]) -> bool
+    ensures { result ≡ asks_of_map (map string_bytes words.now) }
 {
     match words {
         [] => false,
@@ -16,20 +15,21 @@ fn asks_for_name(words: &[String]) -> bool
     }
 }
 
-/// Takes the names that pairs of `-y` and a name ask for, and returns the words after these; none if a name is missing.
-pub(crate) fn take_names<'a>(
-    names: &mut Vec<Name>,
+/// Takes the arguments of `-y`, and returns the words after these; none if an argument is missing.
+pub(crate) fn take_asked<'a>(
+    alloc: Global,
+    asked: &mut Vec<String>,
     words: &'a [String],
 ) -> Result<Option<&'a [String]>, AllocError>
-    ensures { IfOk result (λ rest. mapping_after names.old.items (map string_bytes words.now)
-        ≡ mapping_with names.new.items (option_map (λ words. map string_bytes words.now) rest)) }
+    ensures { IfOk result (λ rest. mapping_after (map string_bytes asked.old.items) (map string_bytes words.now)
+        ≡ mapping_with (map string_bytes asked.new.items) (option_map (λ words. map string_bytes words.now) rest)) }
 {
     let mut rest = words;
-    while asks_for_name(rest) {
-        let [_, name, after @ ..] = rest else {
+    while asks_of_map(rest) {
+        let [_, argument, after @ ..] = rest else {
             return Ok(None);
         };
-        names.push(Name::from_bytes(name.as_bytes()))?;
+        asked.push(String::from_str(alloc, argument.as_str())?)?;
         rest = after;
     }
     Ok(Some(rest))

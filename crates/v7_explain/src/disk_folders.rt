@@ -1,11 +1,14 @@
-//! The folders of a runtime. No contract can say what a folder has, so these lines are to be read: the names are those of the files and
-//! folders at the very path that is asked for. Links, and what is neither a file nor a folder, are left out.
-use crate::folders::{Folder, Folders};
+//! The folders of a runtime. No contract can say what a folder has, so these lines are to be read: the names are those at the very path
+//! that is asked for. Links are left out.
+use crate::folders::{Folder, Folders, path_in};
 use aout_core::Refused;
-use std::alloc::{AllocError, Allocator, Global};
-use std::fs::{self, DirEntry};
-use std::io;
+use explanations::FileKind;
+use std::alloc::{AllocError, Global};
+use std::fs;
+use std::io::{self, BufRead, BufReader};
+use std::os::unix::fs::FileTypeExt;
 use std::rt::{Files, Runtime};
+use surroundings::{readable, special_at};
 
 /// The folders of a runtime.
 #[derive(Drop)]
@@ -19,11 +22,11 @@ impl<'a, H> DiskFolders<'a, H> {
     }
 }
 
-/// Whether the entry of a folder is a file or a folder, or can't be looked at.
-fn is_taken<H: Files, A: Allocator>(entry: &DirEntry<H, A>) -> bool {
-    match entry.file_type() {
-        Ok(kind) => kind.is_file() || kind.is_dir(),
-        Err(_) => true,
+/// Whether a path is that of a link. What can't be looked at is taken for something else.
+fn is_link<H: Files>(rt: &H, path: &str) -> bool {
+    match fs::symlink_metadata(rt, path) {
+        Ok(about) => about.is_symlink(),
+        Err(_) => false,
     }
 }
 
@@ -35,24 +38,37 @@ fn check_memory(error: &io::Error) -> Result<(), AllocError> {
     }
 }
 
-/// Adds an entry of a folder, if it is a file or a folder. One that can't be read, or whose name is not UTF-8, is missing.
-fn take<H: Files + Drop, A: Allocator>(
+/// Adds a name of the folder at a path, unless it is that of a link. One that is not UTF-8 can't be looked at.
+fn take<H: Files>(
     alloc: Global,
+    rt: &H,
+    path: &str,
     folder: &mut Folder,
-    entry: io::Result<DirEntry<H, A>>,
+    name: Vec<u8>,
 ) -> Result<(), AllocError> {
-    match entry {
-        Ok(entry) => {
-            if is_taken(&entry) {
-                folder
-                    .names
-                    .push(String::from_str(alloc, entry.file_name())?)?;
-            }
-        }
-        Err(error) => {
-            check_memory(&error)?;
-            folder.is_whole = false;
-        }
+    if name.as_slice() == b".".as_slice() || name.as_slice() == b"..".as_slice() {
+        return Ok(());
+    }
+    let is_named = str::from_utf8(&name).is_ok();
+    let name = readable(alloc, name)?;
+    if !is_named {
+        folder.unnamed.push(name)?;
+    } else if !is_link(rt, path_in(alloc, path, name.as_str())?.as_str()) {
+        folder.names.push(name)?;
+    }
+    Ok(())
+}
+
+/// Adds the names of the folder at a path, each of which ends with a NUL.
+fn take_all<H: Files>(
+    alloc: Global,
+    rt: &H,
+    path: &str,
+    folder: &mut Folder,
+) -> Result<(), io::Error> {
+    let names = BufReader::new(alloc, rt.open_dir(path)?)?;
+    for name in names.split(alloc, 0) {
+        take(alloc, rt, path, folder, name?)?;
     }
     Ok(())
 }
@@ -69,19 +85,24 @@ impl<H: Runtime> Folders for DiskFolders<'_, H> {
         }
         let mut folder = Folder {
             names: Vec::new(alloc),
+            unnamed: Vec::new(alloc),
             is_whole: true,
         };
-        match fs::read_dir(self.rt, path) {
-            Ok(entries) => {
-                for entry in entries {
-                    take(alloc, &mut folder, entry)?;
-                }
-            }
-            Err(error) => {
-                check_memory(&error)?;
-                folder.is_whole = false;
-            }
+        if let Err(error) = take_all(alloc, self.rt, path, &mut folder) {
+            check_memory(&error)?;
+            folder.is_whole = false;
         }
         Ok(Some(folder))
+    }
+
+    fn kind_at(&self, path: &str) -> Option<FileKind> {
+        let kind = special_at(self.rt, path)?;
+        Some(if kind.is_fifo() {
+            FileKind::Fifo
+        } else if kind.is_socket() {
+            FileKind::Socket
+        } else {
+            FileKind::Device
+        })
     }
 }

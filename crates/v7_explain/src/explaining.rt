@@ -1,17 +1,20 @@
 //! Files that are explained one after another: each is read whole and explained before the next one is opened.
-ghost use Rattle.std.specs.Prelude.{◌≡◌, OnOk, IfOk, map, string_bytes};
+ghost use Rattle.std.specs.Prelude.{◌≡◌, OnOk, IfErr, IfOk, map, string_bytes};
+ghost use Rattle.surroundings.specs.Sources.{EndsReading};
+ghost use Rattle.v7_explain.specs.Files.{program};
 ghost use Rattle.v7_explain.specs.Joined.{joined, nothing_said};
-ghost use Rattle.v7_explain.specs.Runs.{IsExplaining, IsWalk, Explains, said_of};
+ghost use Rattle.v7_explain.specs.Runs.{Explains, ExplainsAll, ExplainsFound, ExplainsNamed, IsExplaining, IsKind, IsWalk, ReadsFor, said_of};
 
 use crate::checking::check;
-use crate::folders::{Folders, walk_all};
-use crate::inventory::take_inventory;
+use crate::folders::{Folders, Found, add_all, walk_all};
+use crate::inventory::{take_inventory, take_kind, take_unnamed};
 use crate::listing::list;
 use crate::program::NAME;
 use crate::source::Source;
 use crate::views::{View, show};
+use explanations::FileKind;
 use std::alloc::{AllocError, Global};
-use surroundings::{Answer, Fault, Office, read_whole};
+use surroundings::{Answer, Fault, Office, read_front, read_whole};
 use suspicions::Evidence;
 
 /// What is said of each file.
@@ -60,6 +63,27 @@ fn explain(alloc: Global, mode: Mode, source: Source<'_>) -> Result<Answer, Allo
     }
 }
 
+/// How many bytes of a file an inventory reads: one more than the largest core file has, which is larger than any a.out file.
+const MOST_BYTES: u64 = 1024 + 64 * 2 * 65_535 + 1;
+
+/// The bytes of a file by which it is explained.
+fn bytes_for<O: Office>(
+    alloc: Global,
+    office: &mut O,
+    mode: Mode,
+    path: &str,
+) -> Result<Vec<u8>, Fault>
+    ensures ok { IfOk result (λ bytes.
+        ReadsFor mode (O.history office.old) (O.history office.new) path.now bytes.items) }
+    ensures err { IfErr result (λ fault.
+        EndsReading program (O.history office.old) (O.history office.new) path.now fault) }
+{
+    match mode {
+        Mode::Inventory => read_front(alloc, office, NAME, path, MOST_BYTES),
+        _ => read_whole(alloc, office, NAME, path),
+    }
+}
+
 /// What is said of the file at a path; of one that can't be opened or read its line.
 fn explain_at<O: Office>(
     alloc: Global,
@@ -69,7 +93,7 @@ fn explain_at<O: Office>(
 ) -> Result<Answer, Fault>
     ensures { Explains mode (O.history office.old) (O.history office.new) path.now result }
 {
-    match read_whole(alloc, office, NAME, path) {
+    match bytes_for(alloc, office, mode, path) {
         Ok(bytes) => {
             let source = Source {
                 path,
@@ -82,25 +106,91 @@ fn explain_at<O: Office>(
     }
 }
 
-/// What is said of each file, in order, and the largest status.
-pub(crate) fn explain_each<O: Office>(
+/// The kind of what is at a path, if an inventory does not read it.
+#[tactic(auto, using(crate::proofs::ExplainingLemmas::by_mode))]
+fn kind_for<F: Folders>(folders: &F, mode: Mode, path: &str) -> Option<FileKind>
+    ensures { IsKind (F.folders folders.now) mode path.now result }
+{
+    match mode {
+        Mode::Inventory => folders.kind_at(path),
+        _ => None,
+    }
+}
+
+/// What is said of what is at a path.
+#[tactic(auto, using(crate::proofs::ExplainingLemmas::by_kind))]
+fn explain_named<O: Office, F: Folders>(
     alloc: Global,
     office: &mut O,
+    folders: &F,
     mode: Mode,
-    paths: &[String],
+    path: &str,
 ) -> Result<Answer, Fault>
-    ensures { IsExplaining mode (O.history office.old) (O.history office.new) nothing_said
-        (map string_bytes paths.now) result }
+    ensures { ExplainsNamed (F.folders folders.now) mode
+        (O.history office.old) (O.history office.new) path.now result }
+{
+    match kind_for(folders, mode, path) {
+        Some(kind) => Ok(take_kind(alloc, path, kind)?),
+        None => explain_at(alloc, office, mode, path),
+    }
+}
+
+/// What is said of what was found at a path.
+#[tactic(auto, using(crate::proofs::ExplainingLemmas::by_found))]
+fn explain_found<O: Office, F: Folders>(
+    alloc: Global,
+    office: &mut O,
+    folders: &F,
+    mode: Mode,
+    found: &Found,
+) -> Result<Answer, Fault>
+    ensures { ExplainsFound (F.folders folders.now) mode
+        (O.history office.old) (O.history office.new) found.now result }
+{
+    let path = found.path.as_str();
+    if found.is_named {
+        explain_named(alloc, office, folders, mode, path)
+    } else {
+        Ok(take_unnamed(alloc, path)?)
+    }
+}
+
+/// What is said of each, in order, and the largest status.
+fn explain_each<O: Office, F: Folders>(
+    alloc: Global,
+    office: &mut O,
+    folders: &F,
+    mode: Mode,
+    all: &[Found],
+) -> Result<Answer, Fault>
+    ensures { IsExplaining (F.folders folders.now) mode
+        (O.history office.old) (O.history office.new) nothing_said all.now result }
 {
     let mut said = nothing_said(alloc);
-    for path in paths {
-        let more = match explain_at(alloc, office, mode, path.as_str()) {
+    for found in all {
+        let more = match explain_found(alloc, office, folders, mode, found) {
             Ok(more) => more,
             Err(fault) => return Err(fault),
         };
         join(&mut said, &more)?;
     }
     Ok(said)
+}
+
+/// What is said of each file at these paths.
+#[tactic(auto, using(crate::proofs::ExplainingLemmas::by_paths))]
+pub(crate) fn explain_all<O: Office, F: Folders>(
+    alloc: Global,
+    office: &mut O,
+    folders: &F,
+    mode: Mode,
+    paths: &[String],
+) -> Result<Answer, Fault>
+    ensures { ExplainsAll (F.folders folders.now) mode (map string_bytes paths.now)
+        (O.history office.old) (O.history office.new) result }
+{
+    let all = add_all(alloc, paths)?;
+    explain_each(alloc, office, folders, mode, &all)
 }
 
 /// A line of an inventory of each file at these paths, and in the folders there. All files are found before the first is opened.
@@ -114,5 +204,5 @@ pub(crate) fn explain_walked<O: Office, F: Folders>(
         (map string_bytes paths.now) result }
 {
     let found = walk_all(alloc, folders, paths)?;
-    explain_each(alloc, office, Mode::Inventory, &found)
+    explain_each(alloc, office, folders, Mode::Inventory, &found)
 }

@@ -4,7 +4,7 @@
 pub(crate) const USAGE: &str = "usage: v7-explain [-c [-t]|-d|-l|-p|-s|-t|-x] FILE...
        v7-explain -l -R PATH...
        v7-explain -o LISTING FILE
-       v7-explain -m [-y NAME]... [OPTIONS OF LD] FILE...
+       v7-explain -m [-y WHAT]... [OPTIONS OF LD] FILE...
        v7-explain --help | --version
 ";
 
@@ -12,7 +12,7 @@ pub(crate) const USAGE: &str = "usage: v7-explain [-c [-t]|-d|-l|-p|-s|-t|-x] FI
 pub(crate) const HELP: &str = "usage: v7-explain [-c [-t]|-d|-l|-p|-s|-t|-x] FILE...
        v7-explain -l -R PATH...
        v7-explain -o LISTING FILE
-       v7-explain -m [-y NAME]... [OPTIONS OF LD] FILE...
+       v7-explain -m [-y WHAT]... [OPTIONS OF LD] FILE...
 
 Lists each FILE: its header, its words with what they mean, its symbols, and
 what is wrong or odd. An option asks for something else.
@@ -27,7 +27,7 @@ what is wrong or odd. An option asks for something else.
   -l          shows an inventory, a line for each FILE
   -R          goes into folders too, with -l
   -m          shows the map of a link; it is the first argument
-  -y NAME     shows of the map only the external NAME
+  -y WHAT     shows of the map only a name, an object or an octal address
 
 examples:
   v7-explain -d main.o

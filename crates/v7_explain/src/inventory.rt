@@ -1,13 +1,13 @@
 //! Files in an inventory, a line each.
 ghost use Rattle.std.specs.Prelude.{◌≡◌, IfOk};
 ghost use Rattle.aout_core.specs.WellFormed.{first_object_fault};
-ghost use Rattle.explanations.specs.Inventories.{file_row, refused_row};
+ghost use Rattle.explanations.specs.Inventories.{file_row, plain_row, refused_row};
 ghost use Rattle.findings.specs.Wrong.{wrong_bytes, wrong_in};
-ghost use Rattle.v7_explain.specs.Files.{inventoried, row_said};
+ghost use Rattle.v7_explain.specs.Files.{inventoried, row_said, unnamed_said};
 
-use crate::source::Source;
+use crate::source::{Source, put_text_line};
 use aout_core::{File, ReadFault, decode_file, object_fault};
-use explanations::{InventoryRow, file_row, put_row, refused_row};
+use explanations::{FileKind, InventoryRow, file_row, plain_row, put_row, refused_row};
 use findings::{wrong_bytes, wrong_in};
 use std::alloc::{AllocError, Global};
 use surroundings::Answer;
@@ -53,4 +53,25 @@ pub(crate) fn take_inventory(alloc: Global, source: Source<'_>) -> Result<Answer
         Err(fault) => row_of_bytes(alloc, source.bytes, fault)?,
     };
     line_of(alloc, source.path, &row)
+}
+
+/// The line of what is not read, by its kind.
+pub(crate) fn take_kind(alloc: Global, path: &str, kind: FileKind) -> Result<Answer, AllocError>
+    ensures { IfOk result (λ answer. answer ≡ row_said path.now (plain_row kind)) }
+{
+    line_of(alloc, path, &plain_row(kind))
+}
+
+/// The line of a path that can't be opened, since a name in it is not UTF-8, and the error.
+pub(crate) fn take_unnamed(alloc: Global, path: &str) -> Result<Answer, AllocError>
+    ensures { IfOk result (λ answer. answer ≡ unnamed_said path.now) }
+{
+    let line = take_kind(alloc, path, FileKind::NotUtf8)?;
+    let mut errors = Text::new(alloc);
+    put_text_line(&mut errors, path, "cannot open");
+    Ok(Answer {
+        output: line.output,
+        errors: errors.finish()?,
+        status: 2,
+    })
 }

@@ -100,6 +100,6 @@ pub(crate) fn list(
 {
     match decode_file(alloc, source.bytes)? {
         Ok(file) => list_file(alloc, evidence, source, is_reported, &file),
-        Err(fault) => explain_refused(alloc, source, is_reported, fault),
+        Err(fault) => explain_refused(alloc, None, source, is_reported, fault),
     }
 }

@@ -14,6 +14,7 @@ mod listing;
 mod map;
 mod map_objects;
 mod program;
+mod remains;
 mod source;
 mod storing;
 mod views;
@@ -36,7 +37,7 @@ fn run(rt: &HostRuntime) -> io::Result<u8> {
     };
     Ok(perform(
         rt.alloc(),
-        &mut Disk::new(rt),
+        &mut Disk::of_files(rt),
         &DiskFolders::new(rt),
         &mut outputs,
         &words,

@@ -1,22 +1,21 @@
 //! The map of a link, made or refused.
 ghost use Rattle.std.specs.Prelude.{◌≡◌, ◌⊎◌, IfOk, Err, map, string_bytes};
 ghost use Rattle.aout_core.specs.Refusals.{refused};
-ghost use Rattle.map_texts.specs.Whole.{absent_names};
+ghost use Rattle.map_texts.specs.Asked.{asked_of};
 ghost use Rattle.surroundings.specs.declared.answer.Fault.TheVariants.{Memory};
 ghost use Rattle.v7_explain.specs.Maps.{IsMapCall, IsMapping, MapsCall, link_words, not_of_ld, status_with, text_asked};
 ghost use Rattle.v7_explain.specs.Runs.{MapsAsked};
 ghost use Rattle.v7_explain.specs.internal.Takes.{IsMapAnswer, status_mapped};
 
-use crate::asked::take_names;
+use crate::asked::take_asked;
 use crate::help::USAGE;
 use crate::map_objects::take_objects;
 use crate::program::NAME;
-use aout_core::Name;
 use command_words::{Call, WordsFault, parse};
 use link_maps::{LinkMap, Objects, map_of};
 use link_out::Options;
 use link_session::Forced;
-use map_texts::{absent_names, map_text, names_map};
+use map_texts::{Asked, asked_map, map_text};
 use std::alloc::{AllocError, Global};
 use surroundings::{Answer, Fault, Office, Reason, refused_answer};
 
@@ -33,52 +32,49 @@ fn status_of(map: &LinkMap) -> u8
     }
 }
 
-/// The text of a map: the whole one, or only the names that are asked for. Those of them that the link does not have are absent.
+/// The text of a map: the whole one, or only what is asked for by some arguments.
 fn text_with(
     alloc: Global,
     objects: &Objects,
-    map: &LinkMap,
+    link: &LinkMap,
     options: &Options,
-    asked: &[Name],
-    absent: &[Name],
+    arguments: &[String],
+    asked: &Asked,
 ) -> Result<Vec<u8>, AllocError>
-    requires { absent.now ≡ absent_names map.now.uses.items asked.now }
+    requires { asked.now ≡ asked_of link.now (map string_bytes arguments.now) }
     ensures { IfOk result (λ text.
-        text.items ≡ text_asked asked.now options.now objects.now map.now) }
+        text.items ≡ text_asked (map string_bytes arguments.now) options.now objects.now link.now) }
 {
-    match asked {
-        [] => map_text(alloc, objects, map, options),
-        _ => names_map(alloc, objects, map, asked, absent),
+    match arguments {
+        [] => map_text(alloc, objects, link, options),
+        _ => asked_map(alloc, objects, link, asked),
     }
 }
 
-/// The status of a map in which these names are absent.
-fn status_with(absent: &[Name], status: u8) -> u8
-    ensures { result ≡ status_with absent.now status }
+/// The status of a map in which something that is asked for is absent, or nothing.
+fn status_with(has_absent: bool, status: u8) -> u8
+    ensures { result ≡ status_with has_absent status }
 {
-    match absent {
-        [] => status,
-        _ => status.max(1),
-    }
+    if has_absent { status.max(1) } else { status }
 }
 
-/// The map of a link of objects, with its status: the whole map, or only the names that are asked for.
+/// The map of a link of objects, with its status: the whole map, or only what is asked for by some arguments.
 fn map_answer(
     alloc: Global,
-    asked: &[Name],
+    arguments: &[String],
     objects: &Objects,
     forced: &Forced,
     options: &Options,
 ) -> Result<Answer, AllocError>
-    ensures { IfOk result (λ a.
-        IsMapAnswer asked.now objects.now forced.now options.now a) }
+    ensures { IfOk result (λ a. IsMapAnswer (map string_bytes arguments.now)
+        objects.now forced.now options.now a) }
 {
     let map = map_of(alloc, objects, forced, options)?;
-    let absent = absent_names(alloc, &map, asked)?;
+    let asked = Asked::of(alloc, &map, arguments)?;
     Ok(Answer {
-        output: text_with(alloc, objects, &map, options, asked, &absent)?,
+        output: text_with(alloc, objects, &map, options, arguments, &asked)?,
         errors: Vec::new(alloc),
-        status: status_with(&absent, status_of(&map)),
+        status: status_with(asked.has_absent(), status_of(&map)),
     })
 }
 
@@ -86,13 +82,13 @@ fn map_answer(
 fn map_link<O: Office>(
     alloc: Global,
     office: &mut O,
-    asked: &[Name],
+    asked: &[String],
     forced: &Forced,
     options: &Options,
     files: &[String],
 ) -> Result<Answer, Fault>
     ensures { ((O.history office.new ≡ O.history office.old) × (result ≡ Err (Memory refused)))
-        ⊎ IsMapping asked.now forced.now options.now (map string_bytes files.now)
+        ⊎ IsMapping (map string_bytes asked.now) forced.now options.now (map string_bytes files.now)
         (O.history office.old) (O.history office.new) result }
 {
     let mut objects = Objects::new(alloc, forced)?;
@@ -127,11 +123,11 @@ fn not_of_ld(alloc: Global) -> Result<Answer, AllocError>
 fn map_call<O: Office>(
     alloc: Global,
     office: &mut O,
-    asked: &[Name],
+    asked: &[String],
     call: &Call,
 ) -> Result<Answer, Fault>
     ensures { ((O.history office.new ≡ O.history office.old) × (result ≡ Err (Memory refused)))
-        ⊎ MapsCall asked.now call.now (O.history office.old) (O.history office.new) result }
+        ⊎ MapsCall (map string_bytes asked.now) call.now (O.history office.old) (O.history office.new) result }
 {
     match call {
         Call::Ld {
@@ -149,10 +145,10 @@ fn map_call<O: Office>(
 fn map_words<O: Office>(
     alloc: Global,
     office: &mut O,
-    asked: &[Name],
+    asked: &[String],
     words: &[String],
 ) -> Result<Answer, Fault>
-    ensures { IsMapCall asked.now (map string_bytes words.now)
+    ensures { IsMapCall (map string_bytes asked.now) (map string_bytes words.now)
         (O.history office.old) (O.history office.new) result }
 {
     match parse(alloc, link_words(alloc, words)?) {
@@ -162,7 +158,7 @@ fn map_words<O: Office>(
     }
 }
 
-/// The map of the link that the arguments of `ld` ask for, or only the names that the arguments in front of these ask for.
+/// The map of the link that the arguments of `ld` ask for, or only what the arguments in front of these ask for.
 #[tactic(auto, using(crate::proofs::AskedLemmas::by_asked))]
 pub(crate) fn map_files<O: Office>(
     alloc: Global,
@@ -172,9 +168,9 @@ pub(crate) fn map_files<O: Office>(
     ensures { MapsAsked (map string_bytes words.now)
         (O.history office.old) (O.history office.new) result }
 {
-    let mut names = Vec::new(alloc);
-    match take_names(&mut names, words)? {
-        Some(rest) => map_words(alloc, office, &names, rest),
+    let mut asked = Vec::new(alloc);
+    match take_asked(alloc, &mut asked, words)? {
+        Some(rest) => map_words(alloc, office, &asked, rest),
         None => Ok(refused_answer(alloc, NAME, USAGE, Reason::NoValue(b'y'))?),
     }
 }

@@ -8,7 +8,7 @@ ghost use Rattle.v7_explain.specs.Runs.{IsCall, PerformsExplain};
 ghost use Rattle.v7_explain.specs.internal.Asked.{call_in};
 
 use crate::arguments::{Call, after_map, call_of};
-use crate::explaining::{explain_each, explain_walked};
+use crate::explaining::{explain_all, explain_walked};
 use crate::folders::Folders;
 use crate::help::{HELP, USAGE};
 use crate::map::map_files;
@@ -34,7 +34,7 @@ fn do_call<O: Office, F: Folders>(
         (O.history office.old) (O.history office.new) result }
 {
     match call {
-        Call::Explain(mode, paths) => explain_each(alloc, office, mode, paths),
+        Call::Explain(mode, paths) => explain_all(alloc, office, folders, mode, paths),
         Call::Walk(paths) => explain_walked(alloc, office, folders, paths),
         Call::Store(to, path) => store_listing(alloc, office, to, path),
     }

@@ -1,5 +1,5 @@
 //! A file that is explained, and what is said of it whatever becomes of it.
-ghost use Rattle.std.specs.Prelude.{◌≡◌, ◌∷◌, [], false, length, option_map, take, IfOk, OnOk};
+ghost use Rattle.std.specs.Prelude.{◌≡◌, ◌∷◌, ◌++◌, [], false, length, option_map, take, IfOk, OnOk};
 ghost use Rattle.findings.specs.Found.{all_found};
 ghost use Rattle.findings.specs.Notes.{AddsNotes, finding_text};
 ghost use Rattle.findings.specs.Kinds.{kind_text};
@@ -8,11 +8,13 @@ ghost use Rattle.surroundings.specs.Answers.{line_front};
 ghost use Rattle.texts.specs.Texts.{Puts};
 ghost use Rattle.v7_explain.specs.Files.{found_notes, front_notes, gnu_notes, header_notes, likeness_of};
 ghost use Rattle.v7_explain.specs.Files.{line_if, more_odd, more_text, odd_lines, odd_notes};
-ghost use Rattle.v7_explain.specs.Files.{line_of, lines_of, note_if, program, refused_as, refused_notes, reported, reports};
+ghost use Rattle.v7_explain.specs.Files.{line_of, lines_of, note_if, program, refused_in, refused_notes, remains, reported, reports};
 ghost use Rattle.v7_explain.specs.Files.{status_in, title};
 ghost use Rattle.v7_explain.specs.internal.Notes.{HasNotes};
 
 use crate::program::NAME;
+use crate::remains::put_remains;
+use crate::views::View;
 use aout_core::{Header, ObjectFault, ReadFault};
 use explanations::put_lines;
 use findings::{
@@ -269,31 +271,40 @@ fn refused_notes(
     Ok(notes)
 }
 
-/// Notes as lines.
-fn lines_of(alloc: Global, notes: &Notes) -> Result<Vec<u8>, AllocError>
-    ensures { IfOk result (λ lines.
-        (notes.now.is_cut ≡ false) × (lines.items ≡ lines_of notes.now.lines)) }
+/// Notes as lines, and what is there of the file.
+fn refused_text(
+    alloc: Global,
+    view: Option<View>,
+    bytes: &[u8],
+    fault: ReadFault,
+    notes: &Notes,
+) -> Result<Vec<u8>, AllocError>
+    ensures whole { IfOk result (λ text. notes.now.is_cut ≡ false) }
+    ensures text { IfOk result (λ text.
+        text.items ≡ lines_of notes.now.lines ++ remains view fault bytes.now) }
 {
     notes.whole()?;
-    let mut lines = Text::new(alloc);
-    put_lines(&mut lines, notes);
-    lines.finish()
+    let mut text = Text::new(alloc);
+    put_lines(&mut text, notes);
+    put_remains(&mut text, view, fault, bytes);
+    text.finish()
 }
 
-/// Explains bytes that are not a file.
+/// Explains bytes that are not a file, and shows what is there of one: in a view, or as a listing.
 pub(crate) fn explain_refused(
     alloc: Global,
+    view: Option<View>,
     source: Source<'_>,
     is_reported: bool,
     fault: ReadFault,
 ) -> Result<Answer, AllocError>
-    ensures { IfOk result (λ answer.
-        answer ≡ refused_as is_reported source.entry.path.now source.entry.bytes.now fault) }
+    ensures { IfOk result (λ answer. answer
+        ≡ refused_in view is_reported source.entry.path.now source.entry.bytes.now fault) }
 {
     let wrong = wrong_bytes(alloc, source.bytes, fault)?;
     let notes = refused_notes(alloc, source, fault, &wrong)?;
     Ok(Answer {
-        output: lines_of(alloc, &notes)?,
+        output: refused_text(alloc, view, source.bytes, fault, &notes)?,
         errors: reported(alloc, is_reported, source.path, &wrong)?,
         status: 1,
     })

@@ -26,7 +26,7 @@ pub(crate) enum View {
 }
 
 /// Appends the contents of a file.
-fn put_body(text: &mut Text, view: View, file: &File)
+pub(crate) fn put_body(text: &mut Text, view: View, file: &File)
     ensures { Puts text.old text.new (body_of view file.now) }
 {
     match view {
@@ -86,6 +86,6 @@ pub(crate) fn show(alloc: Global, source: Source<'_>, view: View) -> Result<Answ
 {
     match decode_file(alloc, source.bytes)? {
         Ok(file) => show_file(alloc, source, view, &file),
-        Err(fault) => explain_refused(alloc, source, false, fault),
+        Err(fault) => explain_refused(alloc, Some(view), source, false, fault),
     }
 }

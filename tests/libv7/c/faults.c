@@ -344,6 +344,7 @@ static const struct mistake {
     {V7_NO_MAGIC, 7, 1, 0, "magic 406\n"},
     {V7_ODD_BSS, 7, 3, 0, "/ a note\n\n  bss 1\n"},
     {V7_LONG_SYMBOL, 3, 2, 1, "symbols\n0 _ninebyte 42 0\n"},
+    {V7_EXTRA_NUMBER, 7, 3, 1, "flag 1\ntext\n0 207 0\n"},
 };
 
 static void check_mistake(const struct mistake *m)

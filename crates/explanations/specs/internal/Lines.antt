@@ -1,14 +1,15 @@
 -- What is printed keeps to its line.
-use Rattle.std.proofs.Common.{◌≡◌, ℕ, ◌≤◌, Bool, true, false, ltb, List, [], ◌∷◌, ◌++◌, map, refl, arith}
+use Rattle.std.proofs.Common.{◌≡◌, ℕ, ◌≤◌, Bool, true, false, ltb, eqb-true, List, [], ◌∷◌, ◌++◌, map, refl, arith, rules}
 use Rattle.std.proofs.lemmas.Bool.{ltb-false}
 use Rattle.std.specs.{List.AllByRecursion, Prelude.◌*◌, Prelude.◌&&◌, Prelude.eqb, Prelude.nat_lt, Prelude.if◌then◌else◌, Prelude.length}
 use Rattle.aout_core.specs.{Contents.Contents, declared.part.Part.Part}
-use Rattle.listings.specs.Laws.{IsLine, IsLabel, AreRemarks}
+use Rattle.listings.specs.Laws.{IsLine, IsLabel, IsWordRemark, AreRemarks}
+use Rattle.listings.specs.Reading.{is_numbered}
 use Rattle.instructions.specs.{declared.unix.Decoder.TheVariants.Unix, UnixLines.unix_length}
 use Rattle.disassemblies.specs.{Lines.unix_line_in, Labels.label_lines, Starts.is_start}
 use Rattle.disassemblies.proofs.StartLemmas.{length_in}
 use Rattle.explanations.specs.internal.SilentLabels.{are_labels, labels_append}
-use Rattle.explanations.specs.Said.{printed_byte, printed, word_remark, data_address, labels_before, explained}
+use Rattle.explanations.specs.Said.{printed_byte, printed, from_slash, without_number, word_said_in, data_address, labels_before, explained}
 use Rattle.symtools.specs.SymbolLines.{letter}
 use Rattle.aout_core.specs.declared.part.Part.TheVariants as parts
 use Rattle.aout_core.specs.declared.symbol.Segment.TheVariants as segments
@@ -28,6 +29,32 @@ printed_line (b ∷ bs) = append_line (printed_byte b) (printed bs) (byte_line b
 printed_lines : (ls : List (List ℕ)) → AllByRecursion IsLine (map printed ls)
 printed_lines [] = tt
 printed_lines (l ∷ ls) = (printed_line l, printed_lines ls)
+
+-- a remark that does not begin with a digit does not when it is printed
+printed_by : (b : ℕ) (bs : List ℕ) (low blank : Bool) → ltb b 32 ≡ low → ltb b 33 ≡ blank → is_numbered (b ∷ bs) ≡ false →
+    (is_numbered bs ≡ false → is_numbered (printed bs) ≡ false) → is_numbered (printed (b ∷ bs)) ≡ false
+printed_by b bs true blank l k h more = rw l refl
+printed_by b bs false true l k h more = search rules
+printed_by b bs false false l k h more = search rules
+
+printed_word : (bs : List ℕ) → is_numbered bs ≡ false → is_numbered (printed bs) ≡ false
+printed_word [] h = refl
+printed_word (b ∷ bs) h = printed_by b bs (ltb b 32) (ltb b 33) refl refl h (printed_word bs)
+
+slash_by : (b : ℕ) (bs : List ℕ) (t : Bool) → eqb b 47 ≡ t → is_numbered (from_slash bs) ≡ false → is_numbered (from_slash (b ∷ bs)) ≡ false
+slash_by b bs true e h = rw (e, eqb-true b 47 e) refl
+slash_by b bs false e h = rw e h
+
+slash_first : (bs : List ℕ) → is_numbered (from_slash bs) ≡ false
+slash_first [] = refl
+slash_first (b ∷ bs) = slash_by b bs (eqb b 47) refl (slash_first bs)
+
+without_by : (said : List ℕ) (t : Bool) → is_numbered said ≡ t → is_numbered (without_number said) ≡ false
+without_by said true e = rw e (slash_first said)
+without_by said false e = rw e e
+
+word_line : (said : List ℕ) → IsWordRemark (printed (without_number said))
+word_line said = (printed_line (without_number said), printed_word (without_number said) (without_by said (is_numbered said) refl))
 
 labels_by : (c : Contents) (i : ℕ) (last first : Bool) →
     AllByRecursion IsLabel (if last then label_lines c.symbols segments.TextSeg (2 * i) 0
@@ -58,6 +85,6 @@ explained_lines starts c notes findings = record {
   notes = printed_lines notes;
   findings = printed_lines findings;
   labels = λ p i. labels_are starts c p i;
-  word = λ p i. printed_line (word_remark starts c p i);
+  word = λ p i. word_line (word_said_in starts c p i);
   symbol = λ s. printed_line (letter s ∷ []);
 }

@@ -17,12 +17,12 @@ abbrev pub result_in : Result Code Reason → Result Call Reason
 result_in (Ok call) = Ok (call_in call)
 result_in (Err reason) = Err reason
 
--- the first word is the option that asks for a name
-abbrev pub asks_for_name : List (List ℕ) → Bool
-asks_for_name [] = false
-asks_for_name (word ∷ words) = bytes_eq word (codes "-y")
+-- the first word is -y
+abbrev pub asks_of_map : List (List ℕ) → Bool
+asks_of_map [] = false
+asks_of_map (word ∷ words) = bytes_eq word (codes "-y")
 
--- the names taken so far, and the words that are left; or a name is missing
+-- the arguments of -y so far, and the words that are left; or one is missing
 abbrev pub mapping_with : List (List ℕ) → Option (List (List ℕ)) → Result Mapping Reason
-mapping_with names None = Err (NoValue (letter_of (codes "y")))
-mapping_with names (Some words) = Ok (record { names = names; words = words })
+mapping_with asked None = Err (NoValue (letter_of (codes "y")))
+mapping_with asked (Some words) = Ok (record { asked = asked; words = words })

@@ -43,6 +43,7 @@ pub const V7_AFTER_TABLE: u32 = 73;
 pub const V7_NO_MAGIC: u32 = 74;
 pub const V7_ODD_BSS: u32 = 75;
 pub const V7_LONG_SYMBOL: u32 = 76;
+pub const V7_EXTRA_NUMBER: u32 = 77;
 pub const V7_BAD_STRINGS: u32 = 81;
 pub const V7_OVERLAY: u32 = 82;
 pub const V7_BAD_PLACE: u32 = 83;

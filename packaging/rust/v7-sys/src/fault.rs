@@ -76,6 +76,7 @@ fn text(fault: u32) -> &'static str {
         74 => "no such magic number",
         75 => "odd size of bss",
         76 => "more than 8 bytes in a name",
+        77 => "one number too many",
         81 => "the strings have a length under 4",
         82 => "a symbol belongs to an overlay",
         83 => "a symbol has its name at no place of the strings",

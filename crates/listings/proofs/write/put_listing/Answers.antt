@@ -1,10 +1,10 @@
-use Rattle.listings.specs.Listing.{note_lines, head_lines, text_lines, data_lines, bss_lines, table_lines}
+use Rattle.listings.specs.Listing.{note_lines, head_lines, text_lines, data_lines, bss_lines, table_lines, with_relocs}
 use Rattle.listings.proofs.WriteLemmas.{whole}
 use Rattle.listings.proofs.write.put_listing.Goals as goal
 
 pub returns : goal.returns
 returns g c =
-    let file = c.args.file.now in
+    let file = with_relocs c.args.relocs c.args.file.now in
     let x = g.R.Remark.said c.args.remarks.now in
     λ is_whole.
     let e7 = c.put_findings.ensures is_whole in

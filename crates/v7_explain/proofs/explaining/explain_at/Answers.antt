@@ -4,10 +4,10 @@ use Rattle.v7_explain.proofs.explaining.explain_at.Goals as goal
 
 pub returns-in_err-explain-in-Ok : goal.returns-in_err-explain-in-Ok
 returns-in_err-explain-in-Ok g c =
-    explains_out c.args.mode (g.O.Office.history c.args.office.now) (g.O.Office.history c.read_whole.new.office) c.args.path.now
+    explains_out c.args.mode (g.O.Office.history c.args.office.now) (g.O.Office.history c.bytes_for.new.office) c.args.path.now
     c.in-Ok.bytes.items _ c.in-Ok.ensures.ok (search rules)
 
 pub returns-in-Err-Memory : goal.returns-in-Err-Memory
 returns-in-Err-Memory g c =
-    explains_unread c.args.mode (g.O.Office.history c.args.office.now) (g.O.Office.history c.read_whole.new.office) c.args.path.now
+    explains_unread c.args.mode (g.O.Office.history c.args.office.now) (g.O.Office.history c.bytes_for.new.office) c.args.path.now
     _ c.in-Err-Memory.ensures.err

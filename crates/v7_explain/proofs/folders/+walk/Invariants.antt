@@ -10,7 +10,7 @@ decreases-walk g l = l.levels
 abbrev pub invariant-loop-name : goal.invariant-loop-name
 invariant-loop-name g l =
     (at : Folders) → g.F.Folders.folders l.fn.folders ≡ Some at →
-    map string_bytes l.found.items
+    l.found.items
     ++ flat_map (λ name. walked (l.fn.levels - 1) at (path_in l.fn.path name)) (map string_bytes (drop l.name-index l.name-items))
-    ≡ map string_bytes l.initial.found.items
+    ≡ l.initial.found.items
     ++ flat_map (λ name. walked (l.fn.levels - 1) at (path_in l.fn.path name)) (map string_bytes l.name-items)

@@ -11,8 +11,8 @@ loop-path-preserved g c = λ at is.
     let path = c.path-item.result in
     let same : c.as_str.result.now ≡ string_bytes path = search rules in
     let more = c.in_ok-walk.ensures at is
-    ∙ ap (λ (p : List ℕ). map string_bytes c.loop-path.found.items ++ walked 2048 at p) same in
+    ∙ ap (λ (p : List ℕ). c.loop-path.found.items ++ walked 2048 at p) same in
     found_more (walked 2048 at) (flat_map (walked 2048 at) (map string_bytes all))
-    (map string_bytes c.loop-path.found.items) (map string_bytes c.walk.new.found.items)
+    c.loop-path.found.items c.walk.new.found.items
     (map string_bytes (drop i all)) (map string_bytes (drop (i + 1) all)) (string_bytes path)
     (c.loop-path.invariant at is) (paths_left all i path c.loop-path-test.true c.path-item.is) more

@@ -7,5 +7,5 @@ use Rattle.v7_explain.proofs.folders.walk_all.Given as goal
 abbrev pub invariant-loop-path : goal.invariant-loop-path
 invariant-loop-path g l =
     (at : Folders) → g.F.Folders.folders l.fn.folders ≡ Some at →
-    map string_bytes l.found.items ++ flat_map (walked 2048 at) (map string_bytes (drop l.path-index l.paths))
+    l.found.items ++ flat_map (walked 2048 at) (map string_bytes (drop l.path-index l.paths))
     ≡ flat_map (walked 2048 at) (map string_bytes l.paths)

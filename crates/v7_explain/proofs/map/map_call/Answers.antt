@@ -13,13 +13,13 @@ returns-in-Ld g c =
     let forced = c.in-Ld.forced in
     let options = c.in-Ld.options in
     let same : c.deref.result.now ≡ c.in-Ld.files.items = search rules in
-    subst (λ call. ((new ≡ old) × (c.map_link.result ≡ Err (Memory refused))) ⊎ MapsCall c.args.asked.now call old new c.map_link.result)
+    subst (λ call. ((new ≡ old) × (c.map_link.result ≡ Err (Memory refused))) ⊎ MapsCall (map string_bytes c.args.asked.now) call old new c.map_link.result)
     (sym c.in-Ld.is)
     (subst (λ files. ((new ≡ old) × (c.map_link.result ≡ Err (Memory refused)))
-    ⊎ IsMapping c.args.asked.now forced options (map string_bytes files) old new c.map_link.result) same c.map_link.ensures)
+    ⊎ IsMapping (map string_bytes c.args.asked.now) forced options (map string_bytes files) old new c.map_link.result) same c.map_link.ensures)
 
 pub returns-in_ok-not_of_ld-in_default : goal.returns-in_ok-not_of_ld-in_default
 returns-in_ok-not_of_ld-in_default g c =
     let old = g.O.Office.history c.args.office.now in
-    inr (maps_other c.args.asked.now c.args.call.now old old _ c.in_default.not-Ld refl
+    inr (maps_other (map string_bytes c.args.asked.now) c.args.call.now old old _ c.in_default.not-Ld refl
     (inl (ap answered c.in_ok-not_of_ld-in_default.ensures)))

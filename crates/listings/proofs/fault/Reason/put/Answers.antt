@@ -20,3 +20,6 @@ returns-in-NoMagic c = rw c.in-NoMagic.is c.put-in-NoMagic.ensures
 
 pub returns-in-LongName : goal.returns-in-LongName
 returns-in-LongName c = rw c.in-LongName.is c.put-in-LongName.ensures
+
+pub returns-in-ExtraNumber : goal.returns-in-ExtraNumber
+returns-in-ExtraNumber c = rw c.in-ExtraNumber.is c.put-in-ExtraNumber.ensures
