@@ -1,0 +1,49 @@
+"""Compares the stored run of each program with what it prints: with the words of `args` of its crate, the input `stdin`, and in a copy of
+`data/`, it has to print the bytes of `stdout`, and to end with the status of `status`. `rt ci` compares those of proved programs, once all
+is proved.
+
+tier: test, 3 seconds; programs: v7 v7-explain v7-object v7-from-gnu v7-lesson library_uses; for: crates/v7_explain crates/v7_lesson crates/library_uses
+"""
+import os
+import sys
+
+from tests.lib.compare import Differs, notices, same
+from tests.lib.files import TOP, read_bytes, room
+from tests.lib.programs import program, ran
+from tools.compiling import CRATES
+
+
+def stored(crate, name):
+    """A file of a stored run, or nothing."""
+    path = f"{TOP}/crates/{crate}/{name}"
+    return read_bytes(path) if os.path.exists(path) else b""
+
+
+def compare(crate, done):
+    same(f"crates/{crate}/stdout", done.out.split(b"\n"), stored(crate, "stdout").split(b"\n"))
+    same(f"crates/{crate}/status, with {done.err!r}", done.status, int(stored(crate, "status") or 0))
+
+
+def differs(name, crate):
+    """Runs a program as it is stored, and whether another output or status came."""
+    data = f"crates/{crate}/data"
+    with room(data if os.path.isdir(f"{TOP}/{data}") else ""):
+        done = ran(program(name), *stored(crate, "args").decode().splitlines(), given=stored(crate, "stdin"))
+    notices(compare, crate, done._replace(out=b"planted" + stored(crate, "stdout")))
+    notices(compare, crate, done._replace(out=stored(crate, "stdout"), status=3))
+    try:
+        compare(crate, done)
+    except Differs as difference:
+        print(difference)
+        return True
+    return False
+
+
+def main():
+    differing = [name for name, crate in CRATES.items() if differs(name, crate)]
+    print(f"{len(CRATES)} stored runs compared{': not as stored: ' * bool(differing)}{', '.join(differing)}")
+    return 1 if differing else 0
+
+
+if __name__ == "__main__":
+    sys.exit(main())
