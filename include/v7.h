@@ -95,7 +95,7 @@ enum v7_fault {
     V7_NO_MAGIC = 74,          /* no file has this magic number */
     V7_ODD_BSS = 75,           /* the size of bss is odd */
     V7_LONG_SYMBOL = 76,       /* a name has more than 8 bytes */
-    V7_EXTRA_NUMBER = 77,      /* a remark on a word begins with a digit */
+    V7_EXTRA_NUMBER = 77,      /* a remark on a word begins with a number */
     /* an object in GNU's form: `place` is the byte of the file, and `word` a number, as said here */
     V7_BAD_STRINGS = 81,       /* the strings have a length under 4 */
     V7_OVERLAY = 82,           /* the symbol of number `word` belongs to an overlay */

@@ -80,7 +80,7 @@ abbrev pub from_slash : List ℕ → List ℕ
 from_slash [] = []
 from_slash (b ∷ bs) = if eqb b 47 then b ∷ bs else from_slash bs
 
--- without the digits with which the text of a word begins that begins no instruction, as `000002 / _x+2`: a listing has them already
+-- without the number with which the text of a word begins that begins no instruction, as `000002 / _x+2`: a listing has it already
 abbrev pub without_number : List ℕ → List ℕ
 without_number said = if is_numbered said then from_slash said else said
 

@@ -120,7 +120,7 @@ fn from_slash(bytes: &[u8]) -> &[u8]
     &[]
 }
 
-/// A remark on a word without the digits at its front.
+/// A remark on a word without the number at its front.
 fn without_number(remark: &[u8]) -> &[u8]
     ensures { result.now ≡ without_number remark.now }
 {
@@ -131,7 +131,7 @@ fn without_number(remark: &[u8]) -> &[u8]
     }
 }
 
-/// Appends two blanks and a remark on a word that was made, without the digits at its front, or nothing if it is empty.
+/// Appends two blanks and a remark on a word that was made, without the number at its front, or nothing if it is empty.
 fn put_made(text: &mut Text, remark: Text)
     ensures { text.new.is_cut ≡ false → (remark.is_cut ≡ false) × (text.old.is_cut ≡ false)
         × (text.new.bytes ≡ text.old.bytes ++ remarked (printed (without_number remark.bytes))) }

@@ -3,9 +3,8 @@ use Rattle.std.proofs.Common.{◌≡◌, ℕ, zero, suc, replicate, ◌≤◌, L
 use Rattle.std.proofs.Common.{rules}
 use Rattle.std.proofs.{lemmas.Bool.ne_eqb, lemmas.List.append-nil}
 use Rattle.std.specs.List.{AllByRecursion}
-use Rattle.std.specs.Prelude.{Bool, true, false, nat_lt}
 use Rattle.listings.specs.Columns.{skip, column, after_column, from_third, from_fourth, row_of}
-use Rattle.listings.specs.{Laws.IsLine, Listing.gap, Listing.remarked, Reading.begins_with_digit, Reading.is_numbered}
+use Rattle.listings.specs.{Laws.IsLine, Listing.gap, Listing.remarked, Reading.is_digits, Reading.is_numbered}
 use Rattle.listings.proofs.OctalLemmas.{AreDigits, IsNumber}
 use Rattle.texts.specs.Lines.{lines_in, text_of}
 
@@ -88,28 +87,17 @@ left_last : (f t : List ℕ) → IsColumn f → skip (after_column (skip (f ++ r
 left_last f [] h = rw (append-nil f, skip_all f h, past_all f (ink f h)) refl
 left_last f (b ∷ bs) h = left_more 1 f (b ∷ bs) h
 
-digit_by : (b : ℕ) (bs : List ℕ) (t : Bool) → nat_lt b 33 ≡ t → begins_with_digit (column (skip bs)) ≡ is_numbered bs →
-    begins_with_digit (column (skip (b ∷ bs))) ≡ is_numbered (b ∷ bs)
-digit_by b bs true e h = rw e h
-digit_by b bs false e h = rw (e, e) refl
+pub third_numbered : (i : ℕ) (f g t : List ℕ) → IsColumn f → IsColumn g →
+    is_digits (column (from_third (gap i f (g ++ remarked t)))) ≡ is_numbered t
+third_numbered i f g t hf hg =
+    ap (λ (l : List ℕ). is_digits (column (skip (after_column l)))) (left_more i f (g ++ remarked t) hf)
+    ∙ ap (λ (l : List ℕ). is_digits (column l)) (left_last g t hg)
 
-digit_first : (t : List ℕ) → begins_with_digit (column (skip t)) ≡ is_numbered t
-digit_first [] = refl
-digit_first (b ∷ bs) = digit_by b bs (nat_lt b 33) refl (digit_first bs)
-
-pub third_digit : (i : ℕ) (f g t : List ℕ) → IsColumn f → IsColumn g →
-    begins_with_digit (column (from_third (gap i f (g ++ remarked t)))) ≡ is_numbered t
-third_digit i f g t hf hg =
-    ap (λ (l : List ℕ). begins_with_digit (column (skip (after_column l)))) (left_more i f (g ++ remarked t) hf)
-    ∙ ap (λ (l : List ℕ). begins_with_digit (column l)) (left_last g t hg)
-    ∙ digit_first t
-
-pub fourth_digit : (i j : ℕ) (f g k t : List ℕ) → IsColumn f → IsColumn g → IsColumn k →
-    begins_with_digit (column (from_fourth (gap i f (gap j g (k ++ remarked t))))) ≡ is_numbered t
-fourth_digit i j f g k t hf hg hk =
-    ap (λ (l : List ℕ). begins_with_digit (column (skip (after_column (skip (after_column l))))))
-    (left_more i f (gap j g (k ++ remarked t)) hf)
-    ∙ third_digit j g k t hg hk
+pub fourth_numbered : (i j : ℕ) (f g k t : List ℕ) → IsColumn f → IsColumn g → IsColumn k →
+    is_digits (column (from_fourth (gap i f (gap j g (k ++ remarked t))))) ≡ is_numbered t
+fourth_numbered i j f g k t hf hg hk =
+    ap (λ (l : List ℕ). is_digits (column (skip (after_column (skip (after_column l)))))) (left_more i f (gap j g (k ++ remarked t)) hf)
+    ∙ third_numbered j g k t hg hk
 
 -- lines
 pub line_of_column : (f : List ℕ) → IsInk f → IsLine f

@@ -3,14 +3,16 @@ use Rattle.std.proofs.lemmas.Grind.{common_steps}
 use Rattle.std.proofs.Common.{◌≡◌, ℕ, ◌+◌, ◌<◌, Bool, true, false, eqb, eqb-true, List, [], ◌∷◌, length}
 use Rattle.std.proofs.Common.{arith, length-append, rules}
 use Rattle.std.proofs.lemmas.Bool.{ltb-true}
-use Rattle.std.specs.Prelude.{if◌then◌else◌, Result, Ok, Err}
+use Rattle.std.specs.Prelude.{◌%◌, if◌then◌else◌, nat_lt, Result, Ok, Err}
 use Rattle.aout_core.specs.{declared.reloc.Reloc.Reloc, declared.symbol.Symbol.Symbol}
 use Rattle.listings.specs.Drafts.{Segment, Draft}
-use Rattle.listings.specs.Reading.{Mistake, ◌>>=◌, unnumbered, with_word, word_entry, symbol_entry, entry_in}
+use Rattle.listings.specs.Reading.{Mistake, ◌>>=◌, in_column, unnumbered, relocs_of, is_right, with_word, word_entry, symbol_entry, entry_in}
 use Rattle.listings.specs.Reading.{only_first, not_last, named_by, begins_with_digit, row_by, row_read, own, next_after}
 use Rattle.listings.specs.Reading.{State, line_by, line_read}
 use Rattle.listings.specs.declared.draft.Addresses.{Addresses}
+use Rattle.listings.specs.declared.fault.Reason.TheVariants.{WrongAddress, TooManyWords}
 use Rattle.listings.specs.internal.Whole.{IsWhole, Begins, IsDraft}
+use Rattle.listings.specs.declared.fault.Section.TheVariants.{InHeader, InText, InData, InSymbols}
 use Rattle.listings.specs.{declared.fault.Section.Section, declared.fault.Word.Word, Columns.Row, Columns.row_of, Octal.number}
 
 -- what holds of a value that may be missing
@@ -39,12 +41,22 @@ relocs_by : (t : Bool) (m : Result ℕ Mistake) (third fourth : List ℕ) →
     (if t then m >>= (λ n. unnumbered 3 fourth ((let r : Reloc = record { 0 = n } in r) ∷ [])) else unnumbered 2 third [])
 relocs_by t m third fourth = search (rules, then_holds, if_holds)
 
+relocs_few : (flag : ℕ) (third fourth : List ℕ) →
+    Holds (λ (rs : List Reloc). length rs ≡ (if eqb flag 0 then 1 else 0)) (relocs_of flag third fourth)
+relocs_few flag third fourth = relocs_by (eqb flag 0) (in_column 2 (number third)) third fourth
+
 word_more : (flag : ℕ) (s : Segment) (w : ℕ) (rs : List Reloc) → IsWhole flag s → length s.words < 32767 →
     length rs ≡ (if eqb flag 0 then 1 else 0) → IsWhole flag (with_word s w rs)
 word_more flag s w rs h room few = search (rules, length-append, one_more)
 
+last_whole : (a : Addresses) (next flag at w : ℕ) (s : Segment) (rs : List Reloc) → IsWhole flag s →
+    length rs ≡ (if eqb flag 0 then 1 else 0) →
+    Holds (IsWhole flag) (if nat_lt (length s.words) 32767
+    then (if is_right a at next then Ok (with_word s w rs) else Err (0, WrongAddress next)) else Err (0, TooManyWords))
+last_whole a next flag at w s rs h few = search (rules, if_holds, word_more, ltb-true)
+
 word_whole : (a : Addresses) (next flag : ℕ) (s : Segment) (r : Row) → IsWhole flag s → Holds (IsWhole flag) (word_entry a next flag s r)
-word_whole a next flag s r h = search (rules, then_holds, both_hold, relocs_by, if_holds, word_more, ltb-true)
+word_whole a next flag s r h = search (rules, then_holds, both_hold, relocs_few, last_whole)
 
 abbrev Few : List Symbol → Type 0
 Few ss = length ss < 5462
@@ -52,9 +64,22 @@ Few ss = length ss < 5462
 symbol_few : (next : ℕ) (ss : List Symbol) (r : Row) → Few ss → Holds Few (symbol_entry next ss r)
 symbol_few next ss r h = search (rules, then_holds, if_holds, ltb-true, length-append)
 
+text_keeps : (d : Draft) (m : Result Segment Mistake) → d.section ≡ InText → Holds (IsWhole d.flag) m → IsDraft d →
+    Holds IsDraft (m >>= (λ s. Ok (record d { text_part = s; next = (d.next + 2) % 65536 })))
+text_keeps d m is few h = search rules
+
+data_keeps : (d : Draft) (m : Result Segment Mistake) → d.section ≡ InData → Holds (IsWhole d.flag) m → IsDraft d →
+    Holds IsDraft (m >>= (λ s. Ok (record d { data_part = s; next = (d.next + 2) % 65536 })))
+data_keeps d m is few h = search rules
+
 -- a row that begins with a digit
 entry_keeps : (d : Draft) (r : Row) (s : Section) → d.section ≡ s → IsDraft d → Holds IsDraft (entry_in s d r)
-entry_keeps d r s is h = grind (arith, common_steps, both_hold, word_whole, symbol_few)
+entry_keeps d r InHeader is h = tt
+entry_keeps d r InText is h = text_keeps d (word_entry d.addresses d.next d.flag d.text_part r) is
+    (word_whole d.addresses d.next d.flag d.text_part r h.text_part) h
+entry_keeps d r InData is h = data_keeps d (word_entry d.addresses d.next d.flag d.data_part r) is
+    (word_whole d.addresses d.next d.flag d.data_part r h.data_part) h
+entry_keeps d r InSymbols is h = grind (arith, common_steps, both_hold, symbol_few)
 
 flag_keeps : (d : Draft) (n : Result ℕ Mistake) (s : Section) → d.section ≡ s → IsDraft d →
     Holds IsDraft (only_first s (n >>= (λ x. Ok (record d { flag = x }))))

@@ -6,7 +6,7 @@ use Rattle.std.specs.{Prelude.◌-◌, Prelude.Some, Prelude.None, Prelude.Resul
 use Rattle.aout_core.specs.{declared.reloc.Reloc.Reloc, declared.symbol.Symbol.Symbol, Contents.IsWord, Contents.IsSymbol}
 use Rattle.aout_core.specs.{declared.part.Part.Part}
 use Rattle.listings.specs.Listing.{Remarks, gap, wide, remarked, word_line, word_lines, symbol_line, symbol_lines}
-use Rattle.listings.specs.Reading.{Mistake, ◌>>=◌, begins_with_digit, relocs_of, with_word, is_right, word_entry, symbol_entry, entry_in, row_read}
+use Rattle.listings.specs.Reading.{Mistake, ◌>>=◌, is_digits, relocs_of, with_word, is_right, word_entry, symbol_entry, entry_in, row_read}
 use Rattle.listings.specs.Reading.{State, line_by, lines_read}
 use Rattle.listings.specs.declared.draft.Addresses.{Addresses}
 use Rattle.listings.specs.declared.draft.Addresses.TheVariants.{Compared, Computed}
@@ -14,7 +14,7 @@ use Rattle.listings.specs.{declared.fault.Section.TheVariants.InSymbols, Octal.n
 use Rattle.listings.specs.{Columns.from_fourth, Names.name_of, Drafts.Segment, Drafts.Draft, Laws.IsLabel, Laws.AreRemarks}
 use Rattle.texts.specs.{Numbers.six_digits, Numbers.octal, Names.printable_name}
 use Rattle.listings.proofs.OctalLemmas.{octal_again, short_again, IsNumber, octal_digits, short_digits}
-use Rattle.listings.proofs.ColumnLemmas.{number_column, row_two, row_three, row_four, third_digit, fourth_digit}
+use Rattle.listings.proofs.ColumnLemmas.{number_column, row_two, row_three, row_four, third_numbered, fourth_numbered}
 use Rattle.listings.proofs.NameLemmas.{name_column, name_again}
 
 -- without a mistake so far
@@ -55,11 +55,11 @@ word_found : (a : Addresses) (flag at w : ℕ) (s : Segment) (rs : List Reloc) (
     word_entry a at flag s (record { first = f; second = g; third = k; fourth = m }) ≡ Ok (with_word s w rs)
 word_found a flag at w s rs f g k m hf hg hk room = search (rules, right_here)
 
-relocs_there : (flag : ℕ) (r : Reloc) (m : List ℕ) → eqb flag 0 ≡ true → IsWord r.0 → begins_with_digit m ≡ false →
+relocs_there : (flag : ℕ) (r : Reloc) (m : List ℕ) → eqb flag 0 ≡ true → IsWord r.0 → is_digits m ≡ false →
     relocs_of flag (octal r.0) m ≡ Ok (r ∷ [])
 relocs_there flag r m on h said = rw (on, short_again r.0 h, said) refl
 
-relocs_none : (flag : ℕ) (k m : List ℕ) → eqb flag 0 ≡ false → begins_with_digit k ≡ false → relocs_of flag k m ≡ Ok []
+relocs_none : (flag : ℕ) (k m : List ℕ) → eqb flag 0 ≡ false → is_digits k ≡ false → relocs_of flag k m ≡ Ok []
 relocs_none flag k m off said = rw (off, said) refl
 
 abbrev pub joined : Segment → List ℕ → List Reloc → Segment
@@ -121,8 +121,8 @@ words_with x p i put a flag at s (w ∷ ws) (r ∷ rs) are enters on same words 
     let form = gap 1 f (gap (wide 4 k) b (k ++ remarked note)) in
     let t : Segment = with_word s w (r ∷ []) in
     let last = column (from_fourth form) in
-    let unnumbered_last : begins_with_digit last ≡ false =
-    fourth_digit 1 (wide 4 k) f b k note (number_column f (octal_digits here)) (number_column b (octal_digits w))
+    let unnumbered_last : is_digits last ≡ false =
+    fourth_numbered 1 (wide 4 k) f b k note (number_column f (octal_digits here)) (number_column b (octal_digits w))
     (number_column k (short_digits r.0))
     ∙ (are.word p i).1 in
     let found : row_read (put s here) (row_of line) ≡ Ok (put t ((here + 2) % 65536)) =
@@ -164,8 +164,8 @@ words_alone x p i put a flag at s (w ∷ ws) are enters off words room =
     let t : Segment = with_word s w [] in
     let third = column (from_third form) in
     let last = column (from_fourth form) in
-    let unnumbered_third : begins_with_digit third ≡ false =
-    third_digit 1 f b note (number_column f (octal_digits here)) (number_column b (octal_digits w)) ∙ (are.word p i).1 in
+    let unnumbered_third : is_digits third ≡ false =
+    third_numbered 1 f b note (number_column f (octal_digits here)) (number_column b (octal_digits w)) ∙ (are.word p i).1 in
     let found : row_read (put s here) (row_of line) ≡ Ok (put t ((here + 2) % 65536)) =
     ap (λ (l : List ℕ). row_read (put s here) (row_of l)) (line_alone note here w)
     ∙ ap (row_read (put s here)) (row_two 1 f b note (number_column f (octal_digits here)) (number_column b (octal_digits w)))

@@ -13,7 +13,7 @@ IsLine l = AllByRecursion (λ (b : ℕ). 32 ≤ b) l
 abbrev pub IsLabel : List ℕ → Type 0
 IsLabel l = IsLine l × ((d : Draft) → row_read d (row_of l) ≡ Ok d)
 
--- a remark on a word, which does not begin with a digit
+-- a remark on a word, which does not begin with a number
 abbrev pub IsWordRemark : List ℕ → Type 0
 IsWordRemark l = IsLine l × (is_numbered l ≡ false)
 
@@ -24,7 +24,7 @@ pub record AreRemarks (x : Remarks) : Type 0 where
   pub word : (p : Part) (i : ℕ) → IsWordRemark (x.word p i)
   pub symbol : (s : Symbol) → IsLine (x.symbol s)
 
--- whatever is remarked in it, if each remark is one line, that on a word does not begin with a digit, and a reader skips each label; also
+-- whatever is remarked in it, if each remark is one line, that on a word does not begin with a number, and a reader skips each label; also
 -- if addresses are computed
 abbrev pub ListingLaw : Type 0
 ListingLaw = (a : Addresses) (x : Remarks) (c : Contents) → AreRemarks x → IsSound c → read a (listing x c) ≡ Ok c

@@ -1,13 +1,13 @@
 -- Which file a listing describes: line by line, each line by its columns and by what was read before it. (own choice)
 --
 -- A row that begins with a digit belongs to the section that was opened last. Any other row begins with a word. A row without columns,
--- one that begins with a slash and a label are skipped. Columns after those that a row needs are a remark, and are not read; that of a word
--- does not begin with a digit.
+-- one that begins with a slash and a label are skipped. Columns after those that a row needs are a remark, and are not read; the first
+-- one of a remark on a word does not consist of digits alone.
 --
 -- After a mistake reading goes on. The row with the mistake adds nothing to the file, but the next address follows its own.
 use Rattle.std.specs.Prelude.{ℕ, ◌+◌, ◌%◌, Bool, true, false, ◌&&◌, ◌||◌, nat_le, nat_lt, nat_eq, eqb, if◌then◌else◌, List, [], ◌∷◌, ◌++◌, length}
 use Rattle.std.specs.Prelude.{Result, Ok, Err, Option, Some, None, codes}
-use Rattle.std.specs.{Cmp.Lexicographic.pointwise, List.starts_with, List.ends_with}
+use Rattle.std.specs.{Cmp.Lexicographic.pointwise, List.list_all, List.starts_with, List.ends_with}
 use Rattle.aout_core.specs.{declared.reloc.Reloc.Reloc, declared.symbol.Symbol.Symbol, Contents.Contents, Contents.is_magic}
 use Rattle.aout_core.specs.Addresses.{data_start}
 use Rattle.listings.specs.declared.draft.Addresses.{Addresses}
@@ -16,7 +16,7 @@ use Rattle.listings.specs.declared.fault.Reason.TheVariants.{WrongAddress, Wrong
 use Rattle.listings.specs.declared.fault.Reason.TheVariants.{UnknownWord, OutOfOrder, TooLate, AfterTable, NoMagic, OddSize, ExtraNumber}
 use Rattle.listings.specs.declared.fault.Section.TheVariants.{InHeader, InText, InData, InSymbols}
 use Rattle.listings.specs.declared.fault.Word.TheVariants.{Text, Data, Symbols, Bss, Entry, Unused, Magic, Flag, Unknown}
-use Rattle.listings.specs.Columns.{Row, row_of, skip, column_place}
+use Rattle.listings.specs.Columns.{Row, row_of, skip, column, column_place}
 use Rattle.listings.specs.Drafts.{Segment, Draft, empty_draft, finished}
 use Rattle.listings.specs.{declared.fault.Reason.Reason, declared.fault.Section.Section, declared.fault.Word.Word}
 use Rattle.listings.specs.{declared.fault.Fault.Fault, Octal.number, Names.name_of}
@@ -42,13 +42,17 @@ abbrev pub begins_with_digit : List ℕ → Bool
 begins_with_digit [] = false
 begins_with_digit (b ∷ bs) = is_decimal b
 
--- the first column of a remark begins with a digit
+-- a column of digits alone, which `1:` and `2f+4` are not
+abbrev pub is_digits : List ℕ → Bool
+is_digits bs = begins_with_digit bs && list_all is_decimal bs
+
+-- the first column of a remark consists of digits
 abbrev pub is_numbered : List ℕ → Bool
-is_numbered remark = begins_with_digit (skip remark)
+is_numbered remark = is_digits (column (skip remark))
 
 -- no number is in the column of a remark
 abbrev pub unnumbered : {A : Type 0} → ℕ → List ℕ → A → Result A Mistake
-unnumbered k remark x = if begins_with_digit remark then Err (k, ExtraNumber) else Ok x
+unnumbered k remark x = if is_digits remark then Err (k, ExtraNumber) else Ok x
 
 -- a relocation word, if the file has relocation by its flag, and then a remark
 abbrev pub relocs_of : ℕ → List ℕ → List ℕ → Result (List Reloc) Mistake

@@ -18,7 +18,7 @@
 //! - `write_listing`: the listing of a file, with remarks
 //! - `write_cut_listing`: the same with its first relocation words alone
 //! - `read_listing`: the file of a listing
-//! - `is_numbered`: whether a remark begins with a digit, as none on a word does
+//! - `is_numbered`: whether a remark begins with a number, as none on a word does
 //!
 //! Modules:
 //!

@@ -1,6 +1,6 @@
 //! Reads a row of a listing into a draft.
 ghost use Rattle.std.specs.Prelude.{◌≡◌, ◌≢◌, option_to_list, Ok, IfErr, IsTrue};
-ghost use Rattle.std.specs.Cmp.Lexicographic.{pointwise};
+ghost use Rattle.std.specs.{Cmp.Lexicographic.pointwise, List.list_all};
 ghost use Rattle.listings.specs.Columns.{row_of};
 ghost use Rattle.listings.specs.internal.Rows.{row_in};
 ghost use Rattle.listings.specs.declared.fault.RowFault.TheVariants.{Memory};
@@ -8,24 +8,43 @@ ghost use Rattle.listings.specs.declared.fault.Section.TheVariants.{InHeader, In
 ghost use Rattle.listings.specs.declared.fault.Word.TheVariants.{Bss, Magic, Flag};
 ghost use Rattle.listings.specs.Octal.{number};
 ghost use Rattle.aout_core.specs.Refusals.{refused};
-ghost use Rattle.listings.specs.Reading.{in_column, is_numbered, relocs_of, unnumbered, with_word, is_right, word_entry, symbol_entry, entry_in, is_word, word_in, rank, first_in, opened, named_by, named, is_label, begins_with_digit, row_read};
+ghost use Rattle.listings.specs.Reading.{in_column, is_decimal, is_digits, is_numbered, relocs_of, unnumbered, with_word, is_right, word_entry, symbol_entry, entry_in, is_word, word_in, rank, first_in, opened, named_by, named, is_label, begins_with_digit, row_read};
 ghost use Rattle.listings.specs.Reading.{own, next_after, passed};
 ghost use Rattle.listings.specs.MemoryWanted.{IsEntry};
 ghost use Rattle.listings.specs.internal.DraftParts.{segment_of, draft_of};
 ghost use Rattle.listings.specs.internal.Answers.{Found, Leaves};
 
-use crate::columns::{Columns, columns_of, skip};
+use crate::columns::{Columns, columns_of, cut_column, skip};
 use crate::draft::{Addresses, FileDraft, SegmentDraft};
 use crate::fault::{Reason, RowFault, Section, Word};
 use crate::numbers::{name_at, number_at};
 use aout_core::{Reloc, Symbol, data_start, is_magic};
 use std::alloc::Global;
 
-/// Whether the first column of a remark begins with a digit. Such a remark on a word is a mistake. (own choice)
+fn is_decimal(byte: u8) -> bool
+    ensures { result ≡ is_decimal byte }
+{
+    byte >= b'0' && byte <= b'9'
+}
+
+fn are_decimal(bytes: &[u8]) -> bool
+    ensures { result ≡ list_all is_decimal bytes.now }
+{
+    bytes.iter().all(|byte| is_decimal(*byte))
+}
+
+/// Whether a column consists of digits.
+fn is_digits(column: &[u8]) -> bool
+    ensures { result ≡ is_digits column.now }
+{
+    begins_with_digit(column) && are_decimal(column)
+}
+
+/// Whether the first column of a remark consists of digits. Such a remark on a word is a mistake. (own choice)
 pub fn is_numbered(remark: &[u8]) -> bool
     ensures { result ≡ is_numbered remark.now }
 {
-    begins_with_digit(skip(remark))
+    is_digits(cut_column(skip(remark)).0)
 }
 
 /// Refuses a number in the column of a remark.
@@ -33,7 +52,7 @@ fn refuse_number(place: usize, remark: &[u8]) -> Result<(), RowFault>
     ensures found { Found (λ u. u) result (unnumbered place remark.now tt) }
     ensures no_memory { IfErr result (λ fault. fault ≢ Memory refused) }
 {
-    if begins_with_digit(remark) {
+    if is_digits(remark) {
         return Err(RowFault::Wrong(place, Reason::ExtraNumber));
     }
     Ok(())
@@ -352,7 +371,7 @@ fn begins_with_digit(first: &[u8]) -> bool
     ensures { result ≡ begins_with_digit first.now }
 {
     match first.first() {
-        Some(byte) => *byte >= b'0' && *byte <= b'9',
+        Some(byte) => is_decimal(*byte),
         None => false,
     }
 }
@@ -371,7 +390,7 @@ pub(crate) fn read_row(alloc: Global, draft: &mut FileDraft, line: &[u8]) -> Res
     if byte == b'/' {
         return Ok(());
     }
-    if byte >= b'0' && byte <= b'9' {
+    if is_decimal(byte) {
         return entry_in(alloc, draft, columns);
     }
     if is_label(columns) {

@@ -1,10 +1,10 @@
 -- What is printed keeps to its line.
 use Rattle.std.proofs.Common.{◌≡◌, ℕ, ◌≤◌, Bool, true, false, ltb, eqb-true, List, [], ◌∷◌, ◌++◌, map, refl, arith, rules}
 use Rattle.std.proofs.lemmas.Bool.{ltb-false}
-use Rattle.std.specs.{List.AllByRecursion, Prelude.◌*◌, Prelude.◌&&◌, Prelude.eqb, Prelude.nat_lt, Prelude.if◌then◌else◌, Prelude.length}
+use Rattle.std.specs.{List.AllByRecursion, List.list_all, Prelude.◌*◌, Prelude.◌&&◌, Prelude.eqb, Prelude.nat_lt, Prelude.if◌then◌else◌, Prelude.length}
 use Rattle.aout_core.specs.{Contents.Contents, declared.part.Part.Part}
 use Rattle.listings.specs.Laws.{IsLine, IsLabel, IsWordRemark, AreRemarks}
-use Rattle.listings.specs.Reading.{is_numbered}
+use Rattle.listings.specs.{Columns.column, Reading.is_decimal, Reading.is_numbered}
 use Rattle.instructions.specs.{declared.unix.Decoder.TheVariants.Unix, UnixLines.unix_length}
 use Rattle.disassemblies.specs.{Lines.unix_line_in, Labels.label_lines, Starts.is_start}
 use Rattle.disassemblies.proofs.StartLemmas.{length_in}
@@ -30,16 +30,31 @@ printed_lines : (ls : List (List ℕ)) → AllByRecursion IsLine (map printed ls
 printed_lines [] = tt
 printed_lines (l ∷ ls) = (printed_line l, printed_lines ls)
 
--- a remark that does not begin with a digit does not when it is printed
-printed_by : (b : ℕ) (bs : List ℕ) (low blank : Bool) → ltb b 32 ≡ low → ltb b 33 ≡ blank → is_numbered (b ∷ bs) ≡ false →
-    (is_numbered bs ≡ false → is_numbered (printed bs) ≡ false) → is_numbered (printed (b ∷ bs)) ≡ false
-printed_by b bs true blank l k h more = rw l refl
-printed_by b bs false true l k h more = search rules
-printed_by b bs false false l k h more = search rules
+-- what is printed has no column of digits more
+column_by : (b : ℕ) (bs : List ℕ) (low blank digit : Bool) → ltb b 32 ≡ low → ltb b 33 ≡ blank → is_decimal b ≡ digit →
+    list_all is_decimal (column (b ∷ bs)) ≡ false →
+    (list_all is_decimal (column bs) ≡ false → list_all is_decimal (column (printed bs)) ≡ false) →
+    list_all is_decimal (column (printed (b ∷ bs))) ≡ false
+column_by b bs true blank digit l k d h more = rw l refl
+column_by b bs false true digit l k d h more = search rules
+column_by b bs false false true l k d h more = search rules
+column_by b bs false false false l k d h more = search rules
+
+printed_column : (bs : List ℕ) → list_all is_decimal (column bs) ≡ false → list_all is_decimal (column (printed bs)) ≡ false
+printed_column [] h = h
+printed_column (b ∷ bs) h = column_by b bs (ltb b 32) (ltb b 33) (is_decimal b) refl refl refl h (printed_column bs)
+
+-- a remark that does not begin with a number does not when it is printed
+printed_by : (b : ℕ) (bs : List ℕ) (low blank digit : Bool) → ltb b 32 ≡ low → ltb b 33 ≡ blank → is_decimal b ≡ digit →
+    is_numbered (b ∷ bs) ≡ false → (is_numbered bs ≡ false → is_numbered (printed bs) ≡ false) → is_numbered (printed (b ∷ bs)) ≡ false
+printed_by b bs true blank digit l k d h more = rw l refl
+printed_by b bs false true digit l k d h more = search rules
+printed_by b bs false false true l k d h more = search (rules, printed_column)
+printed_by b bs false false false l k d h more = search rules
 
 printed_word : (bs : List ℕ) → is_numbered bs ≡ false → is_numbered (printed bs) ≡ false
 printed_word [] h = refl
-printed_word (b ∷ bs) h = printed_by b bs (ltb b 32) (ltb b 33) refl refl h (printed_word bs)
+printed_word (b ∷ bs) h = printed_by b bs (ltb b 32) (ltb b 33) (is_decimal b) refl refl refl h (printed_word bs)
 
 slash_by : (b : ℕ) (bs : List ℕ) (t : Bool) → eqb b 47 ≡ t → is_numbered (from_slash bs) ≡ false → is_numbered (from_slash (b ∷ bs)) ≡ false
 slash_by b bs true e h = rw (e, eqb-true b 47 e) refl
