@@ -211,7 +211,7 @@ def word_line(given, starts, word):
     owner = given.file.owner(word)
     first = word if owner is None else owner
     before = label_before(given, 2, 2 * first) or f"  {starts['text'] + 2 * first:06o}"
-    return f"text {starts['text'] + 2 * word:06o}{before}: {given.file.line(first)[1]}"
+    return f"text {starts['text'] + 2 * word:06o}{before}: {given.file.whole_line(first)[1]}"
 
 
 def check_words(what, names, found, objects, asked=None):

@@ -21,7 +21,7 @@ def lines(file):
     """The places at which lines begin, and their lengths, but for words that begin no instruction."""
     place = 0
     while place < len(file.words):
-        length = file.line(place)[0]
+        length = file.whole_line(place)[0]
         if not file.is_relocated(place) and file.words[place] in FOUND and place + length <= len(file.words):
             yield place, length
         place += length
@@ -382,7 +382,7 @@ def two_operands(file):
 
 
 def exchange_operands(file, at):
-    word, length = file.words[at], file.line(at)[0]
+    word, length = file.words[at], file.whole_line(at)[0]
     if word >> 6 & 0o77 == word & 0o77:
         return False
     file.words[at] = word & 0o170000 | (word & 0o77) << 6 | word >> 6 & 0o77

@@ -1,5 +1,7 @@
 pub mod ChainLemmas
 pub mod BlockLemmas
+pub mod LineLemmas
+pub mod ListedLemmas
 pub mod StartLemmas
 pub mod LabelLemmas
 pub mod PlainLemmas

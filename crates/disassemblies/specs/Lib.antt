@@ -3,6 +3,7 @@ pub mod Near
 pub mod Strings
 pub mod Linked
 pub mod Lines
+pub mod Listed
 pub mod Remarks
 pub mod Labels
 pub mod Starts

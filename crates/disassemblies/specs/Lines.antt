@@ -71,14 +71,15 @@ abbrev pub unix_text_in : Contents → ℕ → UnixLine → List ℕ
 unix_text_in c place (Machine line) = text_with (references c place line) (2 * place) line
 unix_text_in c place (Call k) = call_text k ++ arguments_text c (place + 1) (take k.words (drop (place + 1) c.text_words))
 
-abbrev pub decoded_text : Decoder → Contents → ℕ → List ℕ
-decoded_text d c place = unix_text_in c place (unix_line_at d c.text_words place)
+abbrev pub text_by : Contents → ℕ → UnixLine → Option Reloc → List ℕ
+text_by c place line None = unix_text_in c place line
+text_by c place line (Some r) =
+    if is_relocated (Some r) then relocated_text c.symbols r (slice_index c.text_words place) (2 * place) else unix_text_in c place line
 
-abbrev pub text_by : Decoder → Contents → ℕ → Option Reloc → List ℕ
-text_by d c place None = decoded_text d c place
-text_by d c place (Some r) =
-    if is_relocated (Some r) then relocated_text c.symbols r (slice_index c.text_words place) (2 * place) else decoded_text d c place
+-- the text of a line at a place
+abbrev pub text_of : Contents → ℕ → UnixLine → List ℕ
+text_of c place line = text_by c place line (slice_get c.text_reloc place)
 
--- the text of the line at a place
+-- the text of the line that the words at a place begin
 abbrev pub line_text_in : Decoder → Contents → ℕ → List ℕ
-line_text_in d c place = text_by d c place (slice_get c.text_reloc place)
+line_text_in d c place = text_of c place (unix_line_in d c place)

@@ -16,7 +16,8 @@ use Rattle.instructions.specs.{declared.reference.Reference.Reference, declared.
 use Rattle.instructions.specs.{declared.line.Line.TheVariants.Plain, declared.line.Line.TheVariants.Decoded, declared.unix.Decoder.Decoder}
 use Rattle.instructions.specs.{declared.unix.UnixLine.UnixLine, declared.unix.UnixLine.TheVariants.Machine}
 use Rattle.instructions.specs.{declared.unix.UnixLine.TheVariants.Call, Instructions.word_count_of, Relocated.is_relocated}
-use Rattle.disassemblies.specs.Lines.{unix_line_in, references, argument_reference, line_text_in}
+use Rattle.disassemblies.specs.Lines.{unix_line_in, references, argument_reference, text_of}
+use Rattle.disassemblies.specs.Listed.{listed_line, cut_remark}
 use Rattle.instructions.specs.{declared.operand.Operand.Operand, declared.operand.Operand.TheVariants.General}
 use Rattle.instructions.specs.{declared.operation.Operation.Operation, declared.mode.Addressing.Addressing, Modes.addressing}
 use Rattle.instructions.specs.declared.mode.Addressing.TheVariants.{Immediate, Absolute}
@@ -124,8 +125,12 @@ linked_remarks c place line = if eqb c.header.flag 0 then [] else line_remarks c
 
 -- the text of the line at a place, as a listing has it
 unfoldable pub listed_text : Contents → ℕ → List ℕ
-listed_text c place = line_text_in Unix c place ++ linked_remarks c place (unix_line_in Unix c place)
+listed_text c place =
+    let line : UnixLine = listed_line Unix c place in
+    text_of c place line ++ (cut_remark line (unix_line_in Unix c place) ++ linked_remarks c place line)
 
 -- the text of the line at a place, and its remarks
 unfoldable pub remarked_text : Decoder → Contents → ℕ → List ℕ
-remarked_text d c place = line_text_in d c place ++ line_remarks c place (unix_line_in d c place)
+remarked_text d c place =
+    let line : UnixLine = listed_line d c place in
+    text_of c place line ++ (cut_remark line (unix_line_in d c place) ++ line_remarks c place line)

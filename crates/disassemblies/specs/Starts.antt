@@ -4,13 +4,13 @@ use Rattle.std.specs.Prelude.{length, replicate, slice_get}
 use Rattle.aout_core.specs.Contents.{Contents}
 use Rattle.instructions.specs.{declared.unix.Decoder.Decoder, declared.unix.Decoder.TheVariants.Unix, declared.unix.UnixLine.UnixLine}
 use Rattle.instructions.specs.{UnixLines.unix_length}
-use Rattle.disassemblies.specs.Lines.{unix_line_in}
+use Rattle.disassemblies.specs.Listed.{listed_line}
 
 -- what each line from a place on gives by its place and its words, at most so many lines, and what their end gives
 abbrev pub lines_from : {A : Type 0} → Decoder → Contents → (ℕ → ℕ → List A) → List A → ℕ → ℕ → List A
 lines_from d c of end zero place = end
 lines_from d c of end (suc most) place =
-    let n : ℕ = unix_length (unix_line_in d c place) in
+    let n : ℕ = unix_length (listed_line d c place) in
     if nat_lt place (length c.text_words) then of place n ++ lines_from d c of end most (place + n) else end
 
 -- what each line of the text gives, and what its end gives
@@ -40,4 +40,4 @@ line_start starts (suc i) = if is_start starts (suc i) then suc i else line_star
 
 -- the line that begins at a place of a text of Unix, if one does
 abbrev pub swept_line : Contents → ℕ → Option UnixLine
-swept_line c place = if is_start (starts Unix c) place then Some (unix_line_in Unix c place) else None
+swept_line c place = if is_start (starts Unix c) place then Some (listed_line Unix c place) else None

@@ -1,6 +1,7 @@
 -- Definitions for the code alone: what its loops and private functions do. No contract of a public function leads here.
 pub mod Blocks
 pub mod FirstNamed
+pub mod Labelled
 pub mod Swept
 pub mod Nearest
 pub mod Spots

@@ -1,21 +1,23 @@
 //! A text in columns.
-ghost use Rattle.std.specs.Prelude.{◌≡◌, ◌<◌, ◌≤◌, ◌+◌, ◌-◌, ◌*◌, [], ◌++◌, length, take, drop, replicate, codes};
+ghost use Rattle.std.specs.Prelude.{◌≡◌, ◌<◌, ◌≤◌, ◌+◌, ◌-◌, ◌*◌, [], ◌++◌, length, take, drop, replicate, codes, OnOk};
 ghost use Rattle.std.specs.List.{flat_map};
 ghost use Rattle.aout_core.specs.declared.symbol.Segment.TheVariants.{TextSeg};
 ghost use Rattle.texts.specs.Numbers.{six_digits};
 ghost use Rattle.texts.specs.Texts.{Puts};
 ghost use Rattle.instructions.specs.Lines.{words_of};
-ghost use Rattle.disassemblies.specs.Lines.{unix_line_in};
+ghost use Rattle.disassemblies.specs.Listed.{listed_line};
 ghost use Rattle.disassemblies.specs.Labels.{labels};
 ghost use Rattle.disassemblies.specs.Remarks.{remarked_text};
 ghost use Rattle.disassemblies.specs.Columns.{word_column, columns, rest_row, row_of, row, labelled_row, disassembly, plain_row, plain_disassembly};
 
 use crate::label::put_labels;
-use crate::line::{put_text_of, unix_line_in};
+use crate::line::put_text_of;
+use crate::listed::{ListedLines, put_cut};
 use crate::named::NamedFile;
 use crate::remarks::put_remarks;
 use aout_core::{File, Segment};
 use instructions::{Decoder, Line, UnixLine, decode};
+use std::alloc::AllocError;
 use texts::Text;
 
 /// Appends words, each with a blank after it.
@@ -106,21 +108,22 @@ struct PlacedLine<'a> {
 }
 
 /// Appends the text of a line, and its remarks.
-#[tactic(auto, unfolding(crate::specs::Remarks::remarked_text))]
+#[tactic(auto, unfolding(crate::specs::Remarks::remarked_text), using(crate::proofs::ListedLemmas::listed_fits))]
 fn put_remarked_text(text: &mut Text, at: &PlacedLine<'_>)
     requires within { at.now.place < length at.now.file.now.text_words }
-    requires line { at.now.line ≡ unix_line_in at.now.decoder at.now.file.now at.now.place }
+    requires line { at.now.line ≡ listed_line at.now.decoder at.now.file.now at.now.place }
     ensures { Puts text.old text.new
         (remarked_text at.now.decoder at.now.file.now at.now.place) }
 {
-    put_text_of(text, at.decoder, at.file, at.place, &at.line);
-    put_remarks(text, at.decoder, at.file, at.place, &at.line);
+    put_text_of(text, at.file, at.place, &at.line);
+    put_cut(text, at.decoder, at.file.file(), at.place, &at.line);
+    put_remarks(text, at.file, at.place, &at.line);
 }
 
 /// Appends these words of a line, in columns.
 fn put_row_of(text: &mut Text, at: &PlacedLine<'_>, words: &[u16])
     requires within { at.now.place < length at.now.file.now.text_words }
-    requires line { at.now.line ≡ unix_line_in at.now.decoder at.now.file.now at.now.place }
+    requires line { at.now.line ≡ listed_line at.now.decoder at.now.file.now at.now.place }
     requires some { 1 ≤ length words.now }
     ensures { Puts text.old text.new
         (row_of at.now.decoder at.now.file.now at.now.place words.now) }
@@ -135,7 +138,7 @@ fn put_row_of(text: &mut Text, at: &PlacedLine<'_>, words: &[u16])
 /// Appends a line of so many words, in columns.
 fn put_row(text: &mut Text, at: &PlacedLine<'_>, count: usize)
     requires within { at.now.place + count ≤ length at.now.file.now.text_words }
-    requires line { at.now.line ≡ unix_line_in at.now.decoder at.now.file.now at.now.place }
+    requires line { at.now.line ≡ listed_line at.now.decoder at.now.file.now at.now.place }
     requires some { 1 ≤ count }
     ensures { Puts text.old text.new (row at.now.decoder at.now.file.now at.now.place count) }
 {
@@ -146,7 +149,7 @@ fn put_row(text: &mut Text, at: &PlacedLine<'_>, count: usize)
 /// Appends the labels and the words of a line of so many words.
 fn put_labelled_row(text: &mut Text, at: &PlacedLine<'_>, count: usize)
     requires within { at.now.place + count ≤ length at.now.file.now.text_words }
-    requires line { at.now.line ≡ unix_line_in at.now.decoder at.now.file.now at.now.place }
+    requires line { at.now.line ≡ listed_line at.now.decoder at.now.file.now at.now.place }
     requires some { 1 ≤ count }
     requires short { count ≤ 5 }
     ensures { Puts text.old text.new
@@ -171,14 +174,14 @@ fn put_end_labels(text: &mut Text, file: &NamedFile<'_>)
 }
 
 /// Appends the lines of a file's text in columns, with the labels before each, and those of the end.
-fn put_rows(text: &mut Text, decoder: Decoder, named: &NamedFile<'_>, file: &File)
-    requires { named.now ≡ file.now }
-    ensures { Puts text.old text.new (disassembly decoder file.now) }
+fn put_rows(text: &mut Text, decoder: Decoder, named: &NamedFile<'_>, lines: &ListedLines<'_>)
+    requires { named.now ≡ lines.now }
+    ensures { Puts text.old text.new (disassembly decoder lines.now) }
 {
-    let end = file.text_words().len();
+    let end = lines.file().text_words().len();
     let mut place = 0;
     while place < end {
-        let line = unix_line_in(decoder, file, place);
+        let line = lines.at(decoder, place);
         let count = line.length();
         let at = PlacedLine {
             decoder,
@@ -192,15 +195,24 @@ fn put_rows(text: &mut Text, decoder: Decoder, named: &NamedFile<'_>, file: &Fil
     put_end_labels(text, named);
 }
 
+/// Appends the lines of a file's text in columns, with their labels. An error: out of memory.
+fn put_lines(text: &mut Text, decoder: Decoder, file: &File) -> Result<(), AllocError>
+    ensures { OnOk result (Puts text.old text.new (disassembly decoder file.now)) }
+{
+    let named = NamedFile::new(text.allocator(), file)?;
+    let lines = ListedLines::new(text.allocator(), file)?;
+    put_rows(text, decoder, &named, &lines);
+    Ok(())
+}
+
 /// Appends the lines of a file's text in columns: the address, two blanks, one to three words in 20 columns, two blanks, and
 /// the text of the line with its remarks. A system call may have more words, which are in a row below it. Labels precede their lines, and
 /// those of the end of the text are last. (own choice)
 pub fn put_disassembly(text: &mut Text, decoder: Decoder, file: &File)
     ensures { Puts text.old text.new (disassembly decoder file.now) }
 {
-    match NamedFile::new(text.allocator(), file) {
-        Ok(named) => put_rows(text, decoder, &named, file),
-        Err(error) => text.cut(error),
+    if let Err(error) = put_lines(text, decoder, file) {
+        text.cut(error);
     }
 }
 

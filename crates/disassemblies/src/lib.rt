@@ -15,8 +15,9 @@
 //! - `NamedFile`: a file whose symbols are found by their addresses, made once for all its lines
 //! - `put_disassembly`: appends the whole text of a file, in columns
 //! - `put_plain_disassembly`: appends words at an address in these columns, without names
-//! - `unix_line_in`: the line at a place of a file's text
+//! - `unix_line_in`: the line that the words at a place of a file's text begin
 //! - `put_line_text`: appends the text of that line
+//! - `ListedLines`: the lines that a listing shows: instructions begin anew at each symbol of text
 //! - `put_labels`: appends the labels of words
 //! - `put_pointed_text`: appends what a number refers to by its relocation word, with the string there
 //! - `put_string_in`: appends the string that begins in a word of data
@@ -33,6 +34,7 @@ mod columns;
 mod label;
 mod line;
 mod linked;
+mod listed;
 mod named;
 mod names;
 mod naming;
@@ -46,6 +48,7 @@ mod sweep;
 pub use columns::{put_disassembly, put_plain_disassembly};
 pub use label::put_labels;
 pub use line::{put_line_text, unix_line_in};
+pub use listed::ListedLines;
 pub use named::NamedFile;
 pub use remarks::put_pointed_text;
 pub use starts::{is_start, line_start, line_starts};

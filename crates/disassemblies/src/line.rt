@@ -4,7 +4,7 @@ ghost use Rattle.std.specs.Prelude.{◌≡◌, ◌≤◌, ◌<◌, ◌*◌, ◌+
 ghost use Rattle.texts.specs.Texts.{Puts};
 ghost use Rattle.instructions.specs.declared.unix.UnixLine.TheVariants.{Call};
 ghost use Rattle.disassemblies.specs.internal.Spots.{first_spot, second_spot};
-ghost use Rattle.disassemblies.specs.Lines.{unix_line_in, word_reference, general_reference, branch_reference, operand_reference, references, argument_reference, arguments_text, unix_text_in, line_text_in};
+ghost use Rattle.disassemblies.specs.Lines.{unix_line_in, word_reference, general_reference, branch_reference, operand_reference, references, argument_reference, arguments_text, unix_text_in, text_of, line_text_in};
 
 use crate::linked::{linked_reference, located};
 use crate::named::NamedFile;
@@ -209,18 +209,11 @@ fn put_decoded(text: &mut Text, file: &NamedFile<'_>, place: usize, line: &UnixL
     }
 }
 
-/// Appends the text of the line at a place of a file's text, which has been decoded.
-#[tactic(auto, using(crate::proofs::StartLemmas::line_fits))]
-pub(crate) fn put_text_of(
-    text: &mut Text,
-    decoder: Decoder,
-    file: &NamedFile<'_>,
-    place: usize,
-    line: &UnixLine,
-)
+/// Appends the text of a line at a place of a file's text.
+pub(crate) fn put_text_of(text: &mut Text, file: &NamedFile<'_>, place: usize, line: &UnixLine)
     requires within { place < length file.now.text_words }
-    requires line { line.now ≡ unix_line_in decoder file.now place }
-    ensures { Puts text.old text.new (line_text_in decoder file.now place) }
+    requires fits { place + unix_length line.now ≤ length file.now.text_words }
+    ensures { Puts text.old text.new (text_of file.now place line.now) }
 {
     let words = file.file().text_words();
     match reloc_at(file.file(), place) {
@@ -239,5 +232,5 @@ pub fn put_line_text(text: &mut Text, decoder: Decoder, file: &NamedFile<'_>, pl
     ensures { Puts text.old text.new (line_text_in decoder file.now place) }
 {
     let line = unix_line_in(decoder, file.file(), place);
-    put_text_of(text, decoder, file, place, &line);
+    put_text_of(text, file, place, &line);
 }

@@ -8,11 +8,13 @@ ghost use Rattle.instructions.specs.UnixLines.{unix_length};
 ghost use Rattle.instructions.specs.declared.line.Line.TheVariants.{Decoded};
 ghost use Rattle.instructions.specs.declared.unix.UnixLine.TheVariants.{Machine, Call};
 ghost use Rattle.instructions.specs.declared.unix.Decoder.TheVariants.{Unix};
-ghost use Rattle.disassemblies.specs.Lines.{unix_line_in, operand_reference, argument_reference};
+ghost use Rattle.disassemblies.specs.Lines.{operand_reference, argument_reference};
+ghost use Rattle.disassemblies.specs.Listed.{listed_line};
 ghost use Rattle.disassemblies.specs.Remarks.{near_referred, string_at, pointed_remark, pointed_text, target_remarks, perhaps, perhaps_data, perhaps_in, perhaps_at, addressing_of, unrelocated_remark, word_remarks, operand_remarks, argument_remarks, line_remarks, linked_remarks, listed_text};
 
 use crate::line::{Spot, argument_reference, operand_reference, put_text_of, reloc_at, spots};
 use crate::linked::segment_at;
+use crate::listed::put_cut;
 use crate::named::NamedFile;
 use crate::names::Names;
 use crate::naming::reference_at;
@@ -262,17 +264,10 @@ fn put_call(text: &mut Text, file: &NamedFile<'_>, place: usize, call: &CallRow)
     );
 }
 
-/// Appends the remarks on the words of the line at a place of a file's text, which has been decoded.
-#[tactic(auto, using(crate::proofs::StartLemmas::line_fits))]
-pub(crate) fn put_remarks(
-    text: &mut Text,
-    decoder: Decoder,
-    file: &NamedFile<'_>,
-    place: usize,
-    line: &UnixLine,
-)
+/// Appends the remarks on the words of a line at a place of a file's text.
+pub(crate) fn put_remarks(text: &mut Text, file: &NamedFile<'_>, place: usize, line: &UnixLine)
     requires within { place < length file.now.text_words }
-    requires line { line.now ≡ unix_line_in decoder file.now place }
+    requires fits { place + unix_length line.now ≤ length file.now.text_words }
     ensures { Puts text.old text.new (line_remarks file.now place line.now) }
 {
     match line {
@@ -284,15 +279,16 @@ pub(crate) fn put_remarks(
     }
 }
 
-/// Appends the text of the line at a place, which has been decoded, and in a linked file its remarks.
-#[tactic(auto, unfolding(crate::specs::Remarks::listed_text))]
+/// Appends the text of the line that a listing shows at a place, and in a linked file its remarks.
+#[tactic(auto, unfolding(crate::specs::Remarks::listed_text), using(crate::proofs::ListedLemmas::listed_fits))]
 pub(crate) fn put_listed_text(text: &mut Text, file: &NamedFile<'_>, place: usize, line: &UnixLine)
     requires within { place < length file.now.text_words }
-    requires line { line.now ≡ unix_line_in Unix file.now place }
+    requires line { line.now ≡ listed_line Unix file.now place }
     ensures { Puts text.old text.new (listed_text file.now place) }
 {
-    put_text_of(text, Decoder::Unix, file, place, line);
+    put_text_of(text, file, place, line);
+    put_cut(text, Decoder::Unix, file.file(), place, line);
     if file.file().header().flag != 0 {
-        put_remarks(text, Decoder::Unix, file, place, line);
+        put_remarks(text, file, place, line);
     }
 }

@@ -2,7 +2,7 @@
 ghost use Rattle.std.specs.Prelude.{◌≡◌, ◌≤◌, ◌++◌, IfOk, OnOk};
 ghost use Rattle.disassemblies.specs.Starts.{start, starts, is_start, line_start};
 
-use crate::line::unix_line_in;
+use crate::listed::ListedLines;
 use aout_core::File;
 use instructions::Decoder;
 use std::alloc::{AllocError, Global};
@@ -22,19 +22,27 @@ fn put_start(starts: &mut Vec<bool>, count: usize) -> Result<(), AllocError>
     }
 }
 
-/// For each word of a file's text, whether a line begins there. An error: out of memory.
-pub fn line_starts(alloc: Global, decoder: Decoder, file: &File) -> Result<Vec<bool>, AllocError>
-    ensures { IfOk result (λ v. v.items ≡ starts decoder file.now) }
+/// For each word of the text, whether a line begins there. An error: out of memory.
+fn starts(alloc: Global, decoder: Decoder, lines: &ListedLines<'_>) -> Result<Vec<bool>, AllocError>
+    ensures { IfOk result (λ v. v.items ≡ starts decoder lines.now) }
 {
-    let end = file.text_words().len();
+    let end = lines.file().text_words().len();
     let mut starts = Vec::new(alloc);
     let mut place = 0;
     while place < end {
-        let count = unix_line_in(decoder, file, place).length();
+        let count = lines.at(decoder, place).length();
         put_start(&mut starts, count)?;
         place += count;
     }
     Ok(starts)
+}
+
+/// For each word of a file's text, whether a line begins there in a listing. An error: out of memory.
+pub fn line_starts(alloc: Global, decoder: Decoder, file: &File) -> Result<Vec<bool>, AllocError>
+    ensures { IfOk result (λ v. v.items ≡ starts decoder file.now) }
+{
+    let lines = ListedLines::new(alloc, file)?;
+    starts(alloc, decoder, &lines)
 }
 
 /// Whether a line begins at a place, by what `line_starts` gives; none begins after the end of the text.

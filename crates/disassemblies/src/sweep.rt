@@ -4,11 +4,13 @@ ghost use Rattle.texts.specs.Texts.{Puts};
 ghost use Rattle.instructions.specs.UnixLines.{unix_length};
 ghost use Rattle.instructions.specs.declared.unix.Decoder.TheVariants.{Unix};
 ghost use Rattle.disassemblies.specs.Lines.{unix_line_in};
+ghost use Rattle.disassemblies.specs.Listed.{listed_line};
 ghost use Rattle.disassemblies.specs.Remarks.{listed_text};
 ghost use Rattle.disassemblies.specs.Starts.{starts, is_start, swept_line};
 ghost use Rattle.disassemblies.specs.internal.Swept.{swept, line_words};
 
 use crate::line::unix_line_in;
+use crate::listed::{ListedLines, is_plain_line};
 use crate::named::NamedFile;
 use crate::remarks::put_listed_text;
 use aout_core::File;
@@ -37,15 +39,15 @@ fn put_line(
     }
 }
 
-/// For each word of a file's text the line that begins there, if one does. An error: out of memory.
-fn swept(alloc: Global, file: &File) -> Result<Vec<Option<UnixLine>>, AllocError>
-    ensures { IfOk result (λ v. v.items ≡ swept Unix file.now) }
+/// For each word of the text the line that begins there, if one does. An error: out of memory.
+fn swept(alloc: Global, listed: &ListedLines<'_>) -> Result<Vec<Option<UnixLine>>, AllocError>
+    ensures { IfOk result (λ v. v.items ≡ swept Unix listed.now) }
 {
-    let end = file.text_words().len();
+    let end = listed.file().text_words().len();
     let mut lines = Vec::with_capacity(alloc, end)?;
     let mut place = 0;
     while place < end {
-        let line = unix_line_in(Decoder::Unix, file, place);
+        let line = listed.at(Decoder::Unix, place);
         let count = line.length();
         put_line(&mut lines, line, count)?;
         place += count;
@@ -80,9 +82,10 @@ impl<'a> Sweep<'a> {
     pub fn new(alloc: Global, file: &'a File) -> Result<Sweep<'a>, AllocError>
         ensures { IfOk result (λ s. s ≡ file.now) }
     {
+        let listed = ListedLines::new(alloc, file)?;
         Ok(Sweep {
             named: NamedFile::new(alloc, file)?,
-            lines: swept(alloc, file)?,
+            lines: swept(alloc, &listed)?,
         })
     }
 
@@ -100,7 +103,7 @@ impl<'a> Sweep<'a> {
         self.named.file()
     }
 
-    /// The line that begins at a place of the text, which counts words, if one does when a line follows the other. (own choice)
+    /// The line that a listing shows at a place of the text, which counts words, if one begins there. (own choice)
     pub fn line_from(&self, place: usize) -> Option<UnixLine>
         ensures { result ≡ swept_line self.now place }
     {
@@ -117,7 +120,7 @@ impl<'a> Sweep<'a> {
         self.line_from(place).is_some()
     }
 
-    /// The line at a place of the text, whether or not one begins there when a line follows the other.
+    /// The line that the words at a place of the text begin, whether or not a listing shows it there.
     pub fn line_at(&self, place: usize) -> UnixLine
         requires { place < length self.now.text_words }
         ensures line { result ≡ unix_line_in Unix self.now place }
@@ -126,15 +129,15 @@ impl<'a> Sweep<'a> {
         ensures short { unix_length result ≤ 5 }
     {
         match self.line_from(place) {
-            Some(line) => line,
-            None => unix_line_in(Decoder::Unix, self.file(), place),
+            Some(line) if !is_plain_line(&line) => line,
+            _ => unix_line_in(Decoder::Unix, self.file(), place),
         }
     }
 
     /// Appends the text of a line at a place, and in a linked file its remarks, as `put_disassembly` has them.
     pub fn put_listed_text(&self, text: &mut Text, place: usize, line: &UnixLine)
         requires within { place < length self.now.text_words }
-        requires line { line.now ≡ unix_line_in Unix self.now place }
+        requires line { line.now ≡ listed_line Unix self.now place }
         ensures { Puts text.old text.new (listed_text self.now place) }
     {
         put_listed_text(text, &self.named, place, line);

@@ -15,7 +15,7 @@ use Rattle.texts.specs.{Names.escaped, Names.printable_name}
 use Rattle.listings.specs.{Listing.Remarks, Reading.is_numbered}
 use Rattle.instructions.specs.{declared.unix.Decoder.TheVariants.Unix, UnixLines.unix_length}
 use Rattle.instructions.specs.{Relocated.is_relocated}
-use Rattle.disassemblies.specs.{Lines.unix_line_in, Labels.label_lines, Remarks.listed_text, Remarks.pointed_text, Starts.is_start}
+use Rattle.disassemblies.specs.{Listed.listed_line, Labels.label_lines, Remarks.listed_text, Remarks.pointed_text, Starts.is_start}
 use Rattle.disassemblies.specs.{Strings.string_in}
 use Rattle.aout_core.specs.declared.symbol.Segment.TheVariants as segments
 use Rattle.aout_core.specs.declared.reloc.Kind.TheVariants as kinds
@@ -96,7 +96,7 @@ abbrev pub labels_said : List Bool → Contents → ℕ → List (List ℕ)
 labels_said starts c i =
     if eqb i (length c.text_words) then label_lines c.symbols segments.TextSeg (2 * i) 0
     else (if nat_lt i (length c.text_words) && is_start starts i
-    then label_lines c.symbols segments.TextSeg (2 * i) (unix_length (unix_line_in Unix c i)) else [])
+    then label_lines c.symbols segments.TextSeg (2 * i) (unix_length (listed_line Unix c i)) else [])
 
 -- the labels before a word of data; at their end also those of bss, which begins there: a segment has at most 32,768 words
 abbrev pub data_labels_said : Contents → ℕ → List (List ℕ)

@@ -6,7 +6,7 @@ ghost use Rattle.listings.specs.Listing.{remarked, note_lines};
 ghost use Rattle.findings.specs.Found.{Holds};
 ghost use Rattle.instructions.specs.declared.unix.Decoder.TheVariants.{Unix};
 ghost use Rattle.aout_core.specs.declared.symbol.Segment.TheVariants.{TextSeg, DataSeg, BssSeg};
-ghost use Rattle.disassemblies.specs.Lines.{unix_line_in};
+ghost use Rattle.disassemblies.specs.Listed.{listed_line};
 ghost use Rattle.disassemblies.specs.Remarks.{listed_text};
 ghost use Rattle.disassemblies.specs.Strings.{string_in};
 ghost use Rattle.disassemblies.specs.Starts.{starts};
@@ -201,7 +201,7 @@ fn data_spot(file: &File, place: usize) -> PlacedWord
 /// The instruction that begins at a place of the text, and in a linked file its remarks.
 fn instruction_text(alloc: Global, sweep: &Sweep<'_>, place: usize, line: &UnixLine) -> Text
     requires within { place < length sweep.now.text_words }
-    requires line { line.now ≡ unix_line_in Unix sweep.now place }
+    requires line { line.now ≡ listed_line Unix sweep.now place }
     ensures { Holds result (listed_text sweep.now place) }
 {
     let mut text = Text::new(alloc);
@@ -212,7 +212,7 @@ fn instruction_text(alloc: Global, sweep: &Sweep<'_>, place: usize, line: &UnixL
 /// Appends the instruction that begins at a place of the text.
 fn put_instruction(text: &mut Text, sweep: &Sweep<'_>, place: usize, line: &UnixLine)
     requires within { place < length sweep.now.text_words }
-    requires line { line.now ≡ unix_line_in Unix sweep.now place }
+    requires line { line.now ≡ listed_line Unix sweep.now place }
     ensures { Puts text.old text.new (remarked (printed (without_number (listed_text sweep.now place)))) }
 {
     let remark = instruction_text(text.allocator(), sweep, place, line);

@@ -33,7 +33,7 @@ use Rattle.instructions.specs.{declared.call.SystemCall.SystemCall, declared.uni
 use Rattle.instructions.specs.{declared.unix.UnixLine.TheVariants.Machine, declared.unix.UnixLine.TheVariants.Call, Modes.addressing}
 use Rattle.instructions.specs.{Modes.counts_from_pc, Instructions.jumps, Instructions.word_count_of, Relocated.is_relocated, Texts.number}
 use Rattle.instructions.specs.{Texts.branch_target, Texts.branch_back_target, UnixLines.unix_length}
-use Rattle.disassemblies.specs.{Lines.unix_line_in, Starts.starts, Starts.is_start}
+use Rattle.disassemblies.specs.{Lines.unix_line_in, Listed.listed_line, Starts.starts, Starts.is_start}
 use Rattle.suspicions.specs.declared.evidence.Evidence.{Evidence}
 use Rattle.suspicions.specs.declared.evidence.Evidence.TheVariants.{Names, Flow, Promise}
 use Rattle.instructions.specs.declared.operation.Operation.TheVariants as operations
@@ -250,7 +250,7 @@ is_shown_by c place line = false
 
 -- the address of a place at which such a line begins
 abbrev pub shown : Contents → ℕ → Option ℕ
-shown c place = if is_start (starts Unix c) place && is_shown_by c place (unix_line_in Unix c place) then Some (2 * place) else None
+shown c place = if is_start (starts Unix c) place && is_shown_by c place (listed_line Unix c place) then Some (2 * place) else None
 
 -- the same of each word from a place on
 abbrev pub shown_from : Contents → ℕ → List ℕ → List (Option ℕ)

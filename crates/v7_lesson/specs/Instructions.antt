@@ -3,7 +3,7 @@ use Rattle.std.specs.{Prelude.ℕ, Prelude.if◌then◌else◌, Prelude.List, Pr
 use Rattle.aout_core.specs.Contents.{Contents}
 use Rattle.instructions.specs.{declared.line.Line.TheVariants.Decoded, declared.unix.Decoder.TheVariants.Pdp11}
 use Rattle.instructions.specs.{declared.unix.UnixLine.UnixLine, declared.unix.UnixLine.TheVariants.Machine}
-use Rattle.disassemblies.specs.{Lines.unix_line_in, Lines.line_text_in, Starts.starts, Starts.is_start}
+use Rattle.disassemblies.specs.{Listed.listed_line, Lines.line_text_in, Starts.starts, Starts.is_start}
 use Rattle.link_session.specs.Labelled.{Labelled}
 use Rattle.session_states.specs.Items.{each}
 
@@ -14,7 +14,7 @@ instruction_by c place _ = []
 
 -- the instruction that begins at a place of the text; nothing if none does
 abbrev pub instruction_at : Contents → ℕ → List ℕ
-instruction_at c place = if is_start (starts Pdp11 c) place then instruction_by c place (unix_line_in Pdp11 c place) else []
+instruction_at c place = if is_start (starts Pdp11 c) place then instruction_by c place (listed_line Pdp11 c place) else []
 
 -- for each word of an object's text
 abbrev pub instructions : Contents → List (List ℕ)

@@ -6,25 +6,28 @@ ghost use Rattle.v7_lesson.specs.Instructions.{instruction_at, instructions};
 
 use crate::row_list::RowList;
 use aout_core::File;
-use disassemblies::{NamedFile, is_start, line_starts, put_line_text, unix_line_in};
+use disassemblies::{ListedLines, NamedFile, is_start, line_starts, put_line_text};
 use instructions::{Decoder, Line, UnixLine};
 use session_states::JsonWriter;
 use std::alloc::{AllocError, Global};
 use texts::Text;
 
 /// The instruction that begins at a place of a file's text, whose lines begin so; an empty text if none does.
-fn instruction_at(alloc: Global, file: &NamedFile<'_>, lines: &[bool], place: usize) -> Text
-    requires lines { lines.now ≡ starts Pdp11 file.now }
+fn instruction_at(
+    alloc: Global,
+    file: &NamedFile<'_>,
+    lines: &ListedLines<'_>,
+    begins: &[bool],
+    place: usize,
+) -> Text
+    requires lines { lines.now ≡ file.now }
+    requires begins { begins.now ≡ starts Pdp11 file.now }
     requires place { place < length file.now.text_words }
     ensures { result.is_cut ≡ false → result.bytes ≡ instruction_at file.now place }
 {
     let mut text = Text::new(alloc);
-    if is_start(lines, place)
-        && let UnixLine::Machine(Line::Decoded(..)) = unix_line_in(
-            Decoder::Pdp11,
-            file.file(),
-            place,
-        )
+    if is_start(begins, place)
+        && let UnixLine::Machine(Line::Decoded(..)) = lines.at(Decoder::Pdp11, place)
     {
         put_line_text(&mut text, Decoder::Pdp11, file, place);
     }
@@ -40,9 +43,10 @@ pub(crate) fn push_instructions(
     ensures { OnOk result (rows.new ≡ rows.old ++ instructions file.now) }
 {
     let named = NamedFile::new(alloc, file)?;
+    let lines = ListedLines::new(alloc, file)?;
     let starts = line_starts(alloc, Decoder::Pdp11, file)?;
     for (place, _) in file.text_words().iter().enumerate() {
-        rows.push(instruction_at(alloc, &named, &starts, place))?;
+        rows.push(instruction_at(alloc, &named, &lines, &starts, place))?;
     }
     Ok(())
 }

@@ -6,8 +6,8 @@ use Rattle.aout_core.specs.{Contents.Contents, declared.part.Part.Part}
 use Rattle.listings.specs.Laws.{IsLine, IsLabel, IsWordRemark, AreRemarks}
 use Rattle.listings.specs.{Columns.column, Reading.is_decimal, Reading.is_numbered}
 use Rattle.instructions.specs.{declared.unix.Decoder.TheVariants.Unix, UnixLines.unix_length}
-use Rattle.disassemblies.specs.{Lines.unix_line_in, Labels.label_lines, Starts.is_start}
-use Rattle.disassemblies.proofs.StartLemmas.{length_in}
+use Rattle.disassemblies.specs.{Listed.listed_line, Labels.label_lines, Starts.is_start}
+use Rattle.disassemblies.proofs.ListedLemmas.{listed_short}
 use Rattle.explanations.specs.internal.SilentLabels.{are_labels, labels_append}
 use Rattle.explanations.specs.Said.{printed_byte, printed, from_slash, without_number, word_said_in, data_address, labels_before, explained}
 use Rattle.symtools.specs.SymbolLines.{letter}
@@ -73,11 +73,11 @@ word_line said = (printed_line (without_number said), printed_word (without_numb
 
 labels_by : (c : Contents) (i : ℕ) (last first : Bool) →
     AllByRecursion IsLabel (if last then label_lines c.symbols segments.TextSeg (2 * i) 0
-    else (if first then label_lines c.symbols segments.TextSeg (2 * i) (unix_length (unix_line_in Unix c i)) else []))
+    else (if first then label_lines c.symbols segments.TextSeg (2 * i) (unix_length (listed_line Unix c i)) else []))
 labels_by c i true first = are_labels c.symbols segments.TextSeg (2 * i) 0 (omega arith)
 labels_by c i false true =
-    let short = (length_in Unix c i).1 in
-    are_labels c.symbols segments.TextSeg (2 * i) (unix_length (unix_line_in Unix c i)) (omega (arith, short))
+    let short = (listed_short Unix c i).1 in
+    are_labels c.symbols segments.TextSeg (2 * i) (unix_length (listed_line Unix c i)) (omega (arith, short))
 labels_by c i false false = tt
 
 data_labels_by : (c : Contents) (at : ℕ) (last within : Bool) →

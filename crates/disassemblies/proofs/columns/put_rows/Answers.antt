@@ -2,16 +2,16 @@ use Rattle.std.proofs.Common.{◌≡◌, ℕ, List, ◌+◌, ◌*◌, ◌<◌, �
 use Rattle.aout_core.specs.Contents.{Contents}
 use Rattle.instructions.specs.UnixLines.{unix_length}
 use Rattle.aout_core.specs.declared.symbol.Segment.TheVariants.{TextSeg}
-use Rattle.disassemblies.specs.{Lines.unix_line_in, Columns.labelled_row, Columns.disassembly, Labels.labels}
+use Rattle.disassemblies.specs.{Listed.listed_line, Columns.labelled_row, Columns.disassembly, Labels.labels}
 use Rattle.disassemblies.proofs.StartLemmas.{line_more, end_more}
 use Rattle.disassemblies.proofs.columns.put_rows.Goals as goal
 
 pub loop-place-preserved : goal.loop-place-preserved
 loop-place-preserved c =
-    let file = c.args.file.now in
+    let file = c.args.lines.now in
     let d = c.args.decoder in
-    let count : c.length-count.result ≡ unix_length (unix_line_in d file c.loop-place.place) =
-    c.length-count.ensures ∙ ap unix_length c.unix_line_in-line.ensures.line in
+    let count : c.length-count.result ≡ unix_length (listed_line d file c.loop-place.place) =
+    c.length-count.ensures ∙ ap unix_length c.at-line.ensures.line in
     let inside : c.loop-place.place < length file.text_words = search rules in
     let fits : c.loop-place.place + c.length-count.result ≤ length file.text_words = search rules in (
       λ whole.
@@ -32,7 +32,7 @@ loop-place-preserved c =
 
 pub returns : goal.returns
 returns c =
-    let file = c.args.file.now in
+    let file = c.args.lines.now in
     let end_labels : List ℕ = labels file.symbols TextSeg (2 * length file.text_words) 0 in
     let end : c.loop-place.place ≡ length file.text_words = omega (arith, c.loop-place.invariant.1, c.loop-place.invariant.2) in
     λ whole.

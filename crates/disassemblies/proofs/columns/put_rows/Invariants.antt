@@ -7,11 +7,11 @@ use Rattle.disassemblies.proofs.columns.put_rows.Given as goal
 abbrev pub invariant-loop-place : goal.invariant-loop-place
 invariant-loop-place l =
     (l.text.is_cut ≡ false → (l.initial.text.is_cut ≡ false)
-    × (l.text.bytes ++ lines_from l.decoder l.file (λ place n. labelled_row l.decoder l.file place n)
-    (labels l.file.symbols TextSeg (2 * length l.file.text_words) 0) (length l.file.text_words - l.place) l.place
-    ≡ l.initial.text.bytes ++ disassembly l.decoder l.file))
-    × (l.place ≤ length l.file.text_words)
-    × (l.end ≡ length l.file.text_words)
+    × (l.text.bytes ++ lines_from l.decoder l.lines (λ place n. labelled_row l.decoder l.lines place n)
+    (labels l.lines.symbols TextSeg (2 * length l.lines.text_words) 0) (length l.lines.text_words - l.place) l.place
+    ≡ l.initial.text.bytes ++ disassembly l.decoder l.lines))
+    × (l.place ≤ length l.lines.text_words)
+    × (l.end ≡ length l.lines.text_words)
 
 abbrev pub decreases-loop-place : goal.decreases-loop-place
-decreases-loop-place l = length l.file.text_words - l.place
+decreases-loop-place l = length l.lines.text_words - l.place

@@ -1,16 +1,16 @@
 use Rattle.std.proofs.Common.{◌≡◌, [], ◌+◌, ◌<◌, ◌≤◌, length, sym, ◌∙◌, ap, arith, rules}
 use Rattle.std.proofs.lemmas.List.{append-nil}
 use Rattle.instructions.specs.UnixLines.{unix_length}
-use Rattle.disassemblies.specs.{Lines.unix_line_in, Starts.start, Starts.starts}
+use Rattle.disassemblies.specs.{Listed.listed_line, Starts.start, Starts.starts}
 use Rattle.disassemblies.proofs.StartLemmas.{line_more, end_more}
-use Rattle.disassemblies.proofs.starts.line_starts.Goals as goal
+use Rattle.disassemblies.proofs.starts.starts.Goals as goal
 
 pub loop-place-preserved : goal.loop-place-preserved
 loop-place-preserved c =
-    let file = c.args.file.now in
+    let file = c.args.lines.now in
     let d = c.args.decoder in
-    let count : c.length-count.result ≡ unix_length (unix_line_in d file c.loop-place.place) =
-    c.length-count.ensures ∙ ap unix_length c.unix_line_in.ensures.line in
+    let count : c.length-count.result ≡ unix_length (listed_line d file c.loop-place.place) =
+    c.length-count.ensures ∙ ap unix_length c.at.ensures.line in
     let inside : c.loop-place.place < length file.text_words = search rules in
     let fits : c.loop-place.place + c.length-count.result ≤ length file.text_words = search rules in (
       line_more d file (λ place n. start n) [] (starts d file) c.loop-place.starts.items c.put_start.new.starts.items
@@ -22,7 +22,7 @@ loop-place-preserved c =
 
 pub returns : goal.returns
 returns c =
-    let file = c.args.file.now in
+    let file = c.args.lines.now in
     let end : c.loop-place.place ≡ length file.text_words = omega (arith, c.loop-place.invariant.1, c.loop-place.invariant.2) in
     end_more c.args.decoder file (λ place n. start n) [] (starts c.args.decoder file) c.loop-place.starts.items
     c.loop-place.starts.items c.loop-place.place end (sym (append-nil c.loop-place.starts.items)) c.loop-place.invariant.0
