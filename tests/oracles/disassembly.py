@@ -357,12 +357,23 @@ class File:
         while place < len(self.words):
             length, text = self.line(place)
             words = ["%06o" % word for word in self.words[place : place + length]]
-            lines += self.labels(2 * place, length)
+            zeros = self.zeros(place)
+            shown = zeros if zeros > 8 else length
+            lines += self.labels(2 * place, shown)
             lines.append("%06o  %-20s  %s%s" % (2 * place, " ".join(words[:3]), text, self.remarks(place)))
             if length > 3:
                 lines.append("%06o  %s" % (2 * place + 6, " ".join(words[3:])))
-            place += length
+            if zeros > 8:
+                lines.append("/ %06o to %06o: the row before, %d times" % (2 * place + 2, 2 * (place + zeros - 1), zeros - 1))
+            place += shown
         return lines + self.labels(2 * place, 0)
+
+    def zeros(self, place):
+        """How many words 0 follow each other from a place on, before the next label or a word that a link changes."""
+        labels, end = {value for _, value in self.values[2]}, place
+        while end < len(self.words) and self.words[end] == 0 and not self.is_relocated(end) and (end == place or 2 * end not in labels):
+            end += 1
+        return end - place
 
     def owner(self, place):
         """The place of the instruction that has the word at a place as an operand word, or None if a line begins there."""
@@ -456,7 +467,8 @@ def shown_by(words, made, folder, what):
     write(path, made.encoded())
     status, out, err = ran(*words, path).texts()
     same(f"{what}: status and errors", (status, err), (made.is_damaged(), ""))
-    return [line for line in out.split("\n")[:-1] if not line.startswith("/")]
+    # notes begin with a slash, and so does a row that counts those as the row before it
+    return [line for line in out.split("\n")[:-1] if not line.startswith("/") or " the row before, " in line]
 
 
 def compare(made, folder, what):
@@ -517,6 +529,10 @@ def random_file(dice):
     frequent = [0o016700, 0o012700, 0o004767, 0o000137, 0o000167, 0o013737, 0o017777, 0o016160, 0o000401, 0o077002, 0o172467, 0o005067, 0o067077, 0o104400, 0o104404, 0o104423, 0o104454, 0o104455]
     near = lambda: dice.choice([dice.randrange(0, 2 * count + 40), -dice.randrange(0, 2 * count + 8) & 0o177777, dice.randrange(65536)])
     words = [dice.choice([dice.choice(frequent), near(), near()]) for _ in range(count)]
+    if dice.randrange(4) == 0:
+        at = dice.randrange(count + 1)
+        words[at:at] = [0] * dice.randrange(30)
+        count = len(words)
     kinds = [2, 2, 0o42, 0o42, 3, 0o43, 4, 0o44, 1, 0o41, 0o40, 0o40, 0, 0o37, 0o24]
     start = {0o410: 0o20000, 0o411: 0}.get(magic, 2 * count)
     value = lambda: dice.choice([dice.randrange(0, 2 * count + 2), start + dice.randrange(0, 2 * len(data) + bss + 2), near()])

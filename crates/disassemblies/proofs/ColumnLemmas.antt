@@ -1,6 +1,10 @@
 -- The words of a line that have columns, at most three, and those that are left.
-use Rattle.std.proofs.Common.{◌≡◌, ℕ, ◌-◌, ◌<◌, ◌≤◌, List, [], ◌∷◌, length, take, drop, refl, arith}
-use Rattle.std.proofs.lemmas.List.{length-take-le, take_rest}
+use Rattle.std.proofs.Common.{◌≡◌, ℕ, ◌-◌, ◌<◌, ◌≤◌, Bool, true, false, nat_lt, if◌then◌else◌, List, [], ◌∷◌, length, take, drop, refl, arith}
+use Rattle.std.proofs.{lemmas.Bool.Decides.nat_tests, lemmas.List.length-take-le, lemmas.List.take_rest}
+use Rattle.aout_core.specs.Contents.{Contents}
+use Rattle.instructions.specs.declared.unix.Decoder.{Decoder}
+use Rattle.disassemblies.specs.{Columns.shown_words, Starts.length_at, Listed.zeros}
+use Rattle.disassemblies.proofs.ListedLemmas.{listed_short}
 
 pub few_shown : (words : List ℕ) → length words ≤ 3 → take 3 words ≡ words
 few_shown [] h = refl
@@ -21,3 +25,11 @@ three_shown words h = length-take-le 3 words (omega arith)
 
 pub others_left : (words : List ℕ) → take (length words - 3) (drop 3 words) ≡ drop 3 words
 others_left words = take_rest words 3
+
+some_by : (a b : ℕ) (t : Bool) → nat_lt 8 a ≡ t → 1 ≤ b → 1 ≤ (if t then a else b)
+some_by a b true e h = let more : 8 < a = grind (arith, nat_tests) in omega arith
+some_by a b false e h = h
+
+-- some words are shown at each place
+pub shown_some : (d : Decoder) (c : Contents) (place : ℕ) → 1 ≤ shown_words d c place
+shown_some d c place = some_by (zeros c place) (length_at d c place) (nat_lt 8 (zeros c place)) refl (listed_short d c place).0

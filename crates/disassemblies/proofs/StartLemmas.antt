@@ -1,74 +1,71 @@
--- The lines from a place on: the first of them, and those after it.
-use Rattle.std.proofs.Common.{◌≡◌, ℕ, zero, suc, ◌+◌, ◌-◌, ◌<◌, ◌≤◌, Bool, true, false, nat_lt, if◌then◌else◌, List, ◌++◌, length, refl}
-use Rattle.std.proofs.Common.{sym, ◌∙◌, ap, append_assoc, arith}
+-- The steps from a place on: the first of them, and those after it.
+use Rattle.std.proofs.Common.{◌≡◌, ℕ, zero, suc, ◌+◌, ◌-◌, ◌<◌, ◌≤◌, Bool, true, false, nat_lt, if◌then◌else◌, List, ◌++◌, refl, sym, ◌∙◌, ap}
+use Rattle.std.proofs.Common.{append_assoc, arith}
 use Rattle.std.proofs.lemmas.Bool.Decides.{nat_tests}
-use Rattle.aout_core.specs.Contents.{Contents}
-use Rattle.instructions.specs.{declared.unix.Decoder.Decoder, UnixLines.unix_length}
-use Rattle.disassemblies.specs.{Listed.listed_line, Starts.lines_from}
-use Rattle.disassemblies.proofs.ListedLemmas.{listed_short}
+use Rattle.disassemblies.specs.Starts.{steps_from}
 
-by_test : {A : Type 0} (d : Decoder) (c : Contents) (of : ℕ → ℕ → List A) (end : List A) (place a b : ℕ) (t : Bool) →
-    nat_lt place (length c.text_words) ≡ t → let n : ℕ = unix_length (listed_line d c place) in
-    (t ≡ true → lines_from d c of end a (place + n) ≡ lines_from d c of end b (place + n)) →
-    (if t then of place n ++ lines_from d c of end a (place + n) else end)
-    ≡ (if t then of place n ++ lines_from d c of end b (place + n) else end)
-by_test {A} d c of end place a b true e later =
-    let n : ℕ = unix_length (listed_line d c place) in ap (λ (rest : List A). of place n ++ rest) (later refl)
-by_test d c of end place a b false e later = refl
+by_test : {A : Type 0} (step : ℕ → ℕ) (count : ℕ) (of : ℕ → ℕ → List A) (end : List A) (place a b : ℕ) (t : Bool) →
+    nat_lt place (count) ≡ t → let n : ℕ = step place in
+    (t ≡ true → steps_from step count of end a (place + n) ≡ steps_from step count of end b (place + n)) →
+    (if t then of place n ++ steps_from step count of end a (place + n) else end)
+    ≡ (if t then of place n ++ steps_from step count of end b (place + n) else end)
+by_test {A} step count of end place a b true e later =
+    let n : ℕ = step place in ap (λ (rest : List A). of place n ++ rest) (later refl)
+by_test step count of end place a b false e later = refl
 
-ended : (c : Contents) (place : ℕ) → length c.text_words ≤ place → nat_lt place (length c.text_words) ≡ false
-ended c place h = grind (arith, nat_tests)
+ended : (count : ℕ) (place : ℕ) → count ≤ place → nat_lt place (count) ≡ false
+ended count place h = grind (arith, nat_tests)
 
 -- a bound on the number of lines does not matter if it is no less than that of the words
-from_enough : {A : Type 0} (d : Decoder) (c : Contents) (of : ℕ → ℕ → List A) (end : List A) (a b place : ℕ) →
-    length c.text_words ≤ place + a → length c.text_words ≤ place + b →
-    lines_from d c of end a place ≡ lines_from d c of end b place
-from_enough d c of end zero zero place h k = refl
-from_enough d c of end zero (suc b) place h k =
-    let n : ℕ = unix_length (listed_line d c place) in
-    sym (ap (λ (t : Bool). if t then of place n ++ lines_from d c of end b (place + n) else end) (ended c place (omega arith)))
-from_enough d c of end (suc a) zero place h k =
-    let n : ℕ = unix_length (listed_line d c place) in
-    ap (λ (t : Bool). if t then of place n ++ lines_from d c of end a (place + n) else end) (ended c place (omega arith))
-from_enough d c of end (suc a) (suc b) place h k =
-    let n : ℕ = unix_length (listed_line d c place) in
-    let some : 1 ≤ n = (listed_short d c place).0 in
-    by_test d c of end place a b (nat_lt place (length c.text_words)) refl
-    (λ t. from_enough d c of end a b (place + n) (omega arith) (omega arith))
+from_enough : {A : Type 0} (step : ℕ → ℕ) (count : ℕ) (some : (p : ℕ) → 1 ≤ step p) (of : ℕ → ℕ → List A) (end : List A) (a b place : ℕ) →
+    count ≤ place + a → count ≤ place + b →
+    steps_from step count of end a place ≡ steps_from step count of end b place
+from_enough step count some of end zero zero place h k = refl
+from_enough step count some of end zero (suc b) place h k =
+    let n : ℕ = step place in
+    sym (ap (λ (t : Bool). if t then of place n ++ steps_from step count of end b (place + n) else end) (ended count place (omega arith)))
+from_enough step count some of end (suc a) zero place h k =
+    let n : ℕ = step place in
+    ap (λ (t : Bool). if t then of place n ++ steps_from step count of end a (place + n) else end) (ended count place (omega arith))
+from_enough step count some of end (suc a) (suc b) place h k =
+    let n : ℕ = step place in
+    let more : 1 ≤ n = some place in
+    by_test step count of end place a b (nat_lt place (count)) refl
+    (λ t. from_enough step count some of end a b (place + n) (omega arith) (omega arith))
 
 -- the line at a place of the text, and those after it
-from_first : {A : Type 0} (d : Decoder) (c : Contents) (of : ℕ → ℕ → List A) (end : List A) (place n a : ℕ) →
-    place < length c.text_words → n ≡ unix_length (listed_line d c place) →
-    length c.text_words - place ≡ suc a →
-    lines_from d c of end (suc a) place ≡ of place n ++ lines_from d c of end (length c.text_words - (place + n)) (place + n)
-from_first {A} d c of end place n a h e left =
-    let m : ℕ = unix_length (listed_line d c place) in
-    let some : 1 ≤ m = (listed_short d c place).0 in
-    let test : nat_lt place (length c.text_words) ≡ true = grind (arith, nat_tests) in
-    ap (λ (t : Bool). if t then of place m ++ lines_from d c of end a (place + m) else end) test
+from_first : {A : Type 0} (step : ℕ → ℕ) (count : ℕ) (some : (p : ℕ) → 1 ≤ step p) (of : ℕ → ℕ → List A) (end : List A) (place n a : ℕ) →
+    place < count → n ≡ step place →
+    count - place ≡ suc a →
+    steps_from step count of end (suc a) place ≡ of place n ++ steps_from step count of end (count - (place + n)) (place + n)
+from_first {A} step count some of end place n a h e left =
+    let m : ℕ = step place in
+    let more : 1 ≤ m = some place in
+    let test : nat_lt place (count) ≡ true = grind (arith, nat_tests) in
+    ap (λ (t : Bool). if t then of place m ++ steps_from step count of end a (place + m) else end) test
     ∙ ap (λ (rest : List A). of place m ++ rest)
-    (from_enough d c of end a (length c.text_words - (place + m)) (place + m) (omega arith) (omega arith))
-    ∙ ap (λ (k : ℕ). of place k ++ lines_from d c of end (length c.text_words - (place + k)) (place + k)) (sym e)
+    (from_enough step count some of end a (count - (place + m)) (place + m) (omega arith) (omega arith))
+    ∙ ap (λ (k : ℕ). of place k ++ steps_from step count of end (count - (place + k)) (place + k)) (sym e)
 
 -- one line more is appended
-pub line_more : {A : Type 0} (d : Decoder) (c : Contents) (of : ℕ → ℕ → List A) (end : List A) (whole old new : List A) (place n : ℕ) →
-    place < length c.text_words →
-    n ≡ unix_length (listed_line d c place) → new ≡ old ++ of place n →
-    old ++ lines_from d c of end (length c.text_words - place) place ≡ whole →
-    new ++ lines_from d c of end (length c.text_words - (place + n)) (place + n) ≡ whole
-line_more {A} d c of end whole old new place n h e added before =
-    let rest : List A = lines_from d c of end (length c.text_words - (place + n)) (place + n) in
-    let a : ℕ = length c.text_words - place - 1 in
-    let left : length c.text_words - place ≡ suc a = omega arith in
+pub line_more : {A : Type 0} (step : ℕ → ℕ) (count : ℕ) (some : (p : ℕ) → 1 ≤ step p) (of : ℕ → ℕ → List A) (end : List A) (whole old new : List A) (place n : ℕ) →
+    place < count →
+    n ≡ step place → new ≡ old ++ of place n →
+    old ++ steps_from step count of end (count - place) place ≡ whole →
+    new ++ steps_from step count of end (count - (place + n)) (place + n) ≡ whole
+line_more {A} step count some of end whole old new place n h e added before =
+    let rest : List A = steps_from step count of end (count - (place + n)) (place + n) in
+    let a : ℕ = count - place - 1 in
+    let left : count - place ≡ suc a = omega arith in
     ap (λ (t : List A). t ++ rest) added
     ∙ append_assoc old (of place n) rest
-    ∙ ap (λ (t : List A). old ++ t) (sym (ap (λ (k : ℕ). lines_from d c of end k place) left ∙ from_first d c of end place n a h e left))
+    ∙ ap (λ (t : List A). old ++ t) (sym (ap (λ (k : ℕ). steps_from step count of end k place) left ∙ from_first step count some of end place n a h e left))
     ∙ before
 
 -- the end is appended
-pub end_more : {A : Type 0} (d : Decoder) (c : Contents) (of : ℕ → ℕ → List A) (end : List A) (whole old new : List A) (place : ℕ) →
-    place ≡ length c.text_words →
-    new ≡ old ++ end → old ++ lines_from d c of end (length c.text_words - place) place ≡ whole → new ≡ whole
-end_more {A} d c of end whole old new place e added before =
-    let none : length c.text_words - place ≡ 0 = omega arith in
-    added ∙ ap (λ (k : ℕ). old ++ lines_from d c of end k place) (sym none) ∙ before
+pub end_more : {A : Type 0} (step : ℕ → ℕ) (count : ℕ) (of : ℕ → ℕ → List A) (end : List A) (whole old new : List A) (place : ℕ) →
+    place ≡ count →
+    new ≡ old ++ end → old ++ steps_from step count of end (count - place) place ≡ whole → new ≡ whole
+end_more {A} step count of end whole old new place e added before =
+    let none : count - place ≡ 0 = omega arith in
+    added ∙ ap (λ (k : ℕ). old ++ steps_from step count of end k place) (sym none) ∙ before

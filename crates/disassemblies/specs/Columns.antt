@@ -1,12 +1,13 @@
--- Lines in columns: the address, the words and the text. Those of a file have labels before them. (own choice)
-use Rattle.std.specs.Prelude.{ℕ, ◌+◌, ◌-◌, ◌*◌, List, [], ◌∷◌, ◌++◌, length, take, drop, replicate, codes}
+-- Lines in columns: the address, the words and the text. Those of a file have labels before them. Of more than eight words 0 up to
+-- the next label the first has its line, and a remark counts the others. (own choice)
+use Rattle.std.specs.Prelude.{ℕ, ◌+◌, ◌-◌, ◌*◌, nat_lt, eqb, if◌then◌else◌, List, [], ◌∷◌, ◌++◌, length, take, drop, replicate, codes, decimal}
 use Rattle.std.specs.List.{flat_map}
 use Rattle.aout_core.specs.{Contents.Contents, Words.plus}
 use Rattle.instructions.specs.Lines.{line_length, lines, words_of}
 use Rattle.instructions.specs.{declared.line.Line.Line, declared.unix.Decoder.Decoder, Texts.line_text}
 use Rattle.texts.specs.Numbers.{six_digits}
 use Rattle.aout_core.specs.declared.symbol.Segment.TheVariants.{TextSeg}
-use Rattle.disassemblies.specs.{Remarks.remarked_text, Starts.by_lines, Labels.labels}
+use Rattle.disassemblies.specs.{Remarks.remarked_text, Starts.steps_from, Starts.length_at, Listed.zeros, Labels.labels}
 
 abbrev pub word_column : ℕ → List ℕ
 word_column w = six_digits w ++ codes " "
@@ -28,11 +29,39 @@ row_of d c place words = columns (2 * place) (take 3 words) ++ remarked_text d c
 abbrev pub row : Decoder → Contents → ℕ → ℕ → List ℕ
 row d c place n = row_of d c place (take n (drop place c.text_words))
 
-abbrev pub labelled_row : Decoder → Contents → ℕ → ℕ → List ℕ
-labelled_row d c place n = labels c.symbols TextSeg (2 * place) n ++ row d c place n
+-- how many words are shown together from a place on: more than eight words 0, or those of a line
+abbrev pub shown_words : Decoder → Contents → ℕ → ℕ
+shown_words d c place = if nat_lt 8 (zeros c place) then zeros c place else length_at d c place
+
+abbrev pub range : ℕ → ℕ → List ℕ
+range from to = codes "/ " ++ six_digits from ++ codes " to " ++ six_digits to
+
+unfoldable pub times_text : ℕ → List ℕ
+times_text times = if eqb times 1 then codes "once" else decimal times ++ codes " times"
+
+-- how often a row is as the one before
+unfoldable pub again_text : ℕ → List ℕ
+again_text times = codes ": the row before, " ++ times_text times ++ codes "\n"
+
+-- so many rows, the first of them at a place, are
+abbrev pub rows_again : ℕ → ℕ → List ℕ
+rows_again place times = range (2 * place) (2 * (place + times - 1)) ++ again_text times
+
+-- the rows of so many words 0
+abbrev pub zero_rows : Decoder → Contents → ℕ → ℕ → List ℕ
+zero_rows d c place n = row d c place 1 ++ rows_again (place + 1) (n - 1)
+
+-- the rows of so many words, which are one line, or more than eight words 0
+unfoldable pub rows : Decoder → Contents → ℕ → ℕ → List ℕ
+rows d c place n = if nat_lt 8 n then zero_rows d c place n else row d c place n
+
+abbrev pub labelled_rows : Decoder → Contents → ℕ → ℕ → List ℕ
+labelled_rows d c place n = labels c.symbols TextSeg (2 * place) n ++ rows d c place n
 
 abbrev pub disassembly : Decoder → Contents → List ℕ
-disassembly d c = by_lines d c (λ place n. labelled_row d c place n) (labels c.symbols TextSeg (2 * length c.text_words) 0)
+disassembly d c =
+    steps_from (shown_words d c) (length c.text_words) (λ place n. labelled_rows d c place n)
+    (labels c.symbols TextSeg (2 * length c.text_words) 0) (length c.text_words) 0
 
 -- a line at an address, without names
 abbrev pub plain_row : ℕ → Line → List ℕ

@@ -6,16 +6,20 @@ use Rattle.instructions.specs.{declared.unix.Decoder.Decoder, declared.unix.Deco
 use Rattle.instructions.specs.{UnixLines.unix_length}
 use Rattle.disassemblies.specs.Listed.{listed_line}
 
--- what each line from a place on gives by its place and its words, at most so many lines, and what their end gives
-abbrev pub lines_from : {A : Type 0} → Decoder → Contents → (ℕ → ℕ → List A) → List A → ℕ → ℕ → List A
-lines_from d c of end zero place = end
-lines_from d c of end (suc most) place =
-    let n : ℕ = unix_length (listed_line d c place) in
-    if nat_lt place (length c.text_words) then of place n ++ lines_from d c of end most (place + n) else end
+-- what each step from a place on gives by its place and its words, up to so many words, and what their end gives; at most so many steps
+abbrev pub steps_from : {A : Type 0} → (ℕ → ℕ) → ℕ → (ℕ → ℕ → List A) → List A → ℕ → ℕ → List A
+steps_from step count of end zero place = end
+steps_from step count of end (suc most) place =
+    let n : ℕ = step place in
+    if nat_lt place count then of place n ++ steps_from step count of end most (place + n) else end
+
+-- how many words a line has
+abbrev pub length_at : Decoder → Contents → ℕ → ℕ
+length_at d c place = unix_length (listed_line d c place)
 
 -- what each line of the text gives, and what its end gives
 abbrev pub by_lines : {A : Type 0} → Decoder → Contents → (ℕ → ℕ → List A) → List A → List A
-by_lines d c of end = lines_from d c of end (length c.text_words) 0
+by_lines d c of end = steps_from (length_at d c) (length c.text_words) of end (length c.text_words) 0
 
 -- the first word of a line of so many, and its others
 abbrev pub start : ℕ → List Bool

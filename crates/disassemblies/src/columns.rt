@@ -8,7 +8,7 @@ ghost use Rattle.instructions.specs.Lines.{words_of};
 ghost use Rattle.disassemblies.specs.Listed.{listed_line};
 ghost use Rattle.disassemblies.specs.Labels.{labels};
 ghost use Rattle.disassemblies.specs.Remarks.{remarked_text};
-ghost use Rattle.disassemblies.specs.Columns.{word_column, columns, rest_row, row_of, row, labelled_row, disassembly, plain_row, plain_disassembly};
+ghost use Rattle.disassemblies.specs.Columns.{word_column, columns, rest_row, row_of, row, range, times_text, again_text, rows_again, zero_rows, rows, labelled_rows, disassembly, plain_row, plain_disassembly};
 
 use crate::label::put_labels;
 use crate::line::put_text_of;
@@ -146,15 +146,89 @@ fn put_row(text: &mut Text, at: &PlacedLine<'_>, count: usize)
     put_row_of(text, at, &words[at.place..at.place + count]);
 }
 
-/// Appends the labels and the words of a line of so many words.
-fn put_labelled_row(text: &mut Text, at: &PlacedLine<'_>, count: usize)
+fn put_range(text: &mut Text, from: u32, to: u32)
+    ensures { Puts text.old text.new (range from to) }
+{
+    text.put("/ ");
+    text.put_six_digits(from);
+    text.put(" to ");
+    text.put_six_digits(to);
+}
+
+/// Appends how often.
+#[tactic(auto, unfolding(crate::specs::Columns::times_text))]
+fn put_times(text: &mut Text, times: u32)
+    ensures { Puts text.old text.new (times_text times) }
+{
+    if times == 1 {
+        return text.put("once");
+    }
+    text.put_decimal(u64::from(times));
+    text.put(" times");
+}
+
+/// Appends how often there is the row before, after the addresses of these rows: `: the row before, 8 times`. (own choice)
+#[tactic(auto, unfolding(crate::specs::Columns::again_text))]
+pub fn put_again(text: &mut Text, times: u32)
+    ensures { Puts text.old text.new (again_text times) }
+{
+    text.put(": the row before, ");
+    put_times(text, times);
+    text.put("\n");
+}
+
+/// Appends that so many rows, the first of them at a place, are as the row before them.
+fn put_rows_again(text: &mut Text, place: usize, times: usize)
+    requires some { 1 ≤ times }
+    requires within { place + times ≤ 100000 }
+    ensures { Puts text.old text.new (rows_again place times) }
+{
+    let last = place + times - 1;
+    put_range(text, (2 * place) as u32, (2 * last) as u32);
+    put_again(text, times as u32);
+}
+
+/// Appends the row of a word 0, and that so many words are.
+fn put_zeros(text: &mut Text, at: &PlacedLine<'_>, count: usize)
+    requires within { at.now.place + count ≤ length at.now.file.now.text_words }
+    requires line { at.now.line ≡ listed_line at.now.decoder at.now.file.now at.now.place }
+    requires more { 2 ≤ count }
+    ensures { Puts text.old text.new
+        (zero_rows at.now.decoder at.now.file.now at.now.place count) }
+{
+    let end = at.file.file().text_words().len();
+    let is_inside = at.place + count <= end;
+    prove!(is_inside);
+    put_row(text, at, 1);
+    put_rows_again(text, at.place + 1, count - 1);
+}
+
+/// Appends the rows of so many words, which are one line, or more than eight words 0.
+#[tactic(auto, unfolding(crate::specs::Columns::rows))]
+fn put_shown(text: &mut Text, at: &PlacedLine<'_>, count: usize)
     requires within { at.now.place + count ≤ length at.now.file.now.text_words }
     requires line { at.now.line ≡ listed_line at.now.decoder at.now.file.now at.now.place }
     requires some { 1 ≤ count }
-    requires short { count ≤ 5 }
-    ensures { Puts text.old text.new
-        (labelled_row at.now.decoder at.now.file.now at.now.place count) }
+    ensures { Puts text.old text.new (rows at.now.decoder at.now.file.now at.now.place count) }
 {
+    if count > 8 {
+        put_zeros(text, at, count);
+    } else {
+        put_row(text, at, count);
+    }
+}
+
+/// Appends the same with the labels of these words before them.
+fn put_labelled_rows(text: &mut Text, at: &PlacedLine<'_>, count: usize)
+    requires within { at.now.place + count ≤ length at.now.file.now.text_words }
+    requires line { at.now.line ≡ listed_line at.now.decoder at.now.file.now at.now.place }
+    requires some { 1 ≤ count }
+    ensures { Puts text.old text.new
+        (labelled_rows at.now.decoder at.now.file.now at.now.place count) }
+{
+    let end = at.file.file().text_words().len();
+    let is_inside = at.place + count <= end;
+    prove!(is_inside);
     put_labels(
         text,
         at.file,
@@ -162,7 +236,7 @@ fn put_labelled_row(text: &mut Text, at: &PlacedLine<'_>, count: usize)
         at.file.address(at.place),
         count as u16,
     );
-    put_row(text, at, count);
+    put_shown(text, at, count);
 }
 
 /// Appends the labels of the end of the text.
@@ -182,14 +256,14 @@ fn put_rows(text: &mut Text, decoder: Decoder, named: &NamedFile<'_>, lines: &Li
     let mut place = 0;
     while place < end {
         let line = lines.at(decoder, place);
-        let count = line.length();
+        let count = lines.shown_words(decoder, place, &line);
         let at = PlacedLine {
             decoder,
             file: &*named,
             place,
             line,
         };
-        put_labelled_row(text, &at, count);
+        put_labelled_rows(text, &at, count);
         place += count;
     }
     put_end_labels(text, named);

@@ -18,6 +18,7 @@
 //! - `unix_line_in`: the line that the words at a place of a file's text begin
 //! - `put_line_text`: appends the text of that line
 //! - `ListedLines`: the lines that a listing shows: instructions begin anew at each symbol of text
+//! - `put_again`: appends how often rows are as the row before
 //! - `put_labels`: appends the labels of words
 //! - `put_pointed_text`: appends what a number refers to by its relocation word, with the string there
 //! - `put_string_in`: appends the string that begins in a word of data
@@ -45,7 +46,7 @@ mod starts;
 mod strings;
 mod sweep;
 
-pub use columns::{put_disassembly, put_plain_disassembly};
+pub use columns::{put_again, put_disassembly, put_plain_disassembly};
 pub use label::put_labels;
 pub use line::{put_line_text, unix_line_in};
 pub use listed::ListedLines;

@@ -1,17 +1,18 @@
 //! The lines that a listing shows: instructions begin anew at each symbol of text.
-ghost use Rattle.std.specs.Prelude.{◌≡◌, ◌≤◌, ◌<◌, ◌+◌, ◌*◌, ◌||◌, ℕ, false, length, get_or, IfOk};
+ghost use Rattle.std.specs.Prelude.{◌≡◌, ◌≤◌, ◌<◌, ◌+◌, ◌-◌, ◌*◌, ◌||◌, ◌&&◌, not, ℕ, false, length, get_or, IfOk};
 ghost use Rattle.texts.specs.Texts.{Puts};
 ghost use Rattle.aout_core.specs.declared.symbol.Segment.TheVariants.{TextSeg};
 ghost use Rattle.instructions.specs.UnixLines.{unix_length};
 ghost use Rattle.disassemblies.specs.Naming.{is_at};
 ghost use Rattle.disassemblies.specs.Lines.{unix_line_in};
-ghost use Rattle.disassemblies.specs.Listed.{listed_line, is_plain_line, cut_remark};
+ghost use Rattle.disassemblies.specs.Columns.{shown_words};
+ghost use Rattle.disassemblies.specs.Listed.{has_label, is_zero, zeros_from, zeros, listed_line, is_plain_line, cut_remark};
 ghost use Rattle.disassemblies.specs.internal.Labelled.{AreLabelled, any_marked};
 
-use crate::line::unix_line_in;
+use crate::line::{reloc_at, unix_line_in};
 use crate::naming::is_at;
 use aout_core::{File, Segment, Symbol};
-use instructions::{Decoder, Line, UnixLine};
+use instructions::{Decoder, Line, UnixLine, is_relocated};
 use std::alloc::{AllocError, Global};
 use std::marker::Model;
 use texts::Text;
@@ -54,6 +55,38 @@ fn any_marked(marks: &[bool], place: usize, count: usize) -> bool
         at += 1;
     }
     false
+}
+
+/// Whether a word is 0, and a link does not change it.
+fn is_zero(file: &File, place: usize) -> bool
+    requires { place < length file.now.text_words }
+    ensures { result ≡ is_zero file.now place }
+{
+    file.text_words()[place] == 0 && !is_relocated(reloc_at(file, place))
+}
+
+/// Whether a word without a label is 0, by the marks of the words.
+fn is_more(labelled: &[bool], file: &File, place: usize) -> bool
+    requires inside { place < length file.now.text_words }
+    requires labelled { AreLabelled file.now.symbols (length file.now.text_words) labelled.now }
+    ensures { result ≡ (not (has_label file.now.symbols place) && is_zero file.now place) }
+{
+    !labelled[place] && is_zero(file, place)
+}
+
+/// How many such words follow each other from a place on.
+fn zeros_from(labelled: &[bool], file: &File, place: usize) -> usize
+    requires inside { place ≤ length file.now.text_words }
+    requires labelled { AreLabelled file.now.symbols (length file.now.text_words) labelled.now }
+    ensures value { result ≡ zeros_from file.now (length file.now.text_words - place) place }
+    ensures fits { place + result ≤ length file.now.text_words }
+{
+    let end = file.text_words().len();
+    let mut at = place;
+    while at < end && is_more(labelled, file, at) {
+        at += 1;
+    }
+    at - place
 }
 
 /// The lines of a file's text, each up to the next label. Make it once for all lines.
@@ -109,6 +142,31 @@ impl<'a> ListedLines<'a> {
             return UnixLine::Machine(Line::Plain(self.file.text_words()[place]));
         }
         line
+    }
+
+    /// How many words 0 follow each other from a place on, up to the next label.
+    fn zeros(&self, place: usize) -> usize
+        requires { place < length self.now.text_words }
+        ensures value { result ≡ zeros self.now place }
+        ensures fits { place + result ≤ length self.now.text_words }
+    {
+        if !is_zero(self.file, place) {
+            return 0;
+        }
+        1 + zeros_from(&self.labelled, self.file, place + 1)
+    }
+
+    /// How many words the rows at a place show: more than eight words 0 together, or those of the line there.
+    #[tactic(auto, using(crate::proofs::ListedLemmas::listed_fits))]
+    pub(crate) fn shown_words(&self, decoder: Decoder, place: usize, line: &UnixLine) -> usize
+        requires within { place < length self.now.text_words }
+        requires line { line.now ≡ listed_line decoder self.now place }
+        ensures value { result ≡ shown_words decoder self.now place }
+        ensures fits { place + result ≤ length self.now.text_words }
+        ensures some { 1 ≤ result }
+    {
+        let zeros = self.zeros(place);
+        if zeros > 8 { zeros } else { line.length() }
     }
 }
 

@@ -4,12 +4,12 @@
 -- first, as they are in the file. Labels are before their row. Rows without labels that are the same as the row before them are not
 -- shown, and a remark counts them.
 use Rattle.std.specs.Prelude.{ℕ, ◌+◌, ◌-◌, ◌*◌, ◌/◌, ◌%◌, Bool, ◌&&◌, nat_le, nat_lt, eqb, bytes_eq, if◌then◌else◌, List, [], ◌∷◌, ◌++◌}
-use Rattle.std.specs.Prelude.{length, slice_index, codes, decimal}
+use Rattle.std.specs.Prelude.{length, slice_index, codes}
 use Rattle.std.specs.List.{flat_map}
 use Rattle.aout_core.specs.{Addresses.data_start_in, Contents.Contents}
 use Rattle.aout_core.specs.{declared.symbol.Symbol.Symbol, declared.symbol.Segment.Segment}
 use Rattle.aout_core.specs.declared.symbol.Segment.TheVariants.{TextSeg, DataSeg, BssSeg}
-use Rattle.disassemblies.specs.Labels.{labels}
+use Rattle.disassemblies.specs.{Columns.again_text, Labels.labels}
 use Rattle.texts.specs.{Columns.blanks, Numbers.six_digits}
 use Rattle.explanations.specs.{declared.rows.Base.Base, declared.rows.Base.TheVariants.Octal, declared.rows.Base.TheVariants.Hexadecimal}
 
@@ -55,12 +55,6 @@ unfoldable pub row_text : Base → ℕ → List ℕ → List ℕ
 row_text base at row =
     address base at ++ codes " " ++ flat_map (word_text base) row ++ blanks (word_width base * (8 - length row)) ++ codes "  "
     ++ flat_map characters row ++ codes "\n"
-
-unfoldable pub times_text : ℕ → List ℕ
-times_text times = if eqb times 1 then codes "once" else decimal times ++ codes " times"
-
-unfoldable pub again_text : ℕ → List ℕ
-again_text times = codes ": the row before, " ++ times_text times ++ codes "\n"
 
 -- the row at this address is as the row before it
 unfoldable pub once_text : Base → ℕ → List ℕ

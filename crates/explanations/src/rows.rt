@@ -3,10 +3,10 @@ ghost use Rattle.std.specs.Prelude.{◌≡◌, ◌+◌, ◌-◌, ◌*◌, ◌^�
 ghost use Rattle.std.specs.List.{flat_map};
 ghost use Rattle.texts.specs.Texts.{Puts};
 ghost use Rattle.findings.specs.Found.{Holds};
-ghost use Rattle.explanations.specs.Dumps.{address, character, characters, folded, hex_byte, hex_digit, is_again, labels_at, once_text, again_text, range_text, row_text, rows_text, times_text, word_text, word_width};
+ghost use Rattle.explanations.specs.Dumps.{address, character, characters, folded, hex_byte, hex_digit, is_again, labels_at, once_text, range_text, row_text, rows_text, word_text, word_width};
 
 use aout_core::Segment;
-use disassemblies::{NamedFile, put_labels};
+use disassemblies::{NamedFile, put_again, put_labels};
 use std::alloc::Global;
 use texts::Text;
 
@@ -121,28 +121,6 @@ fn put_row(text: &mut Text, base: Base, at: u32, row: &[u16])
     text.put_blanks(lacking(base, row.len()));
     text.put("  ");
     put_characters(text, row);
-    text.put("\n");
-}
-
-/// Appends how often.
-#[tactic(auto, unfolding(crate::specs::Dumps::times_text))]
-fn put_times(text: &mut Text, times: u32)
-    ensures { Puts text.old text.new (times_text times) }
-{
-    if times == 1 {
-        return text.put("once");
-    }
-    text.put_decimal(u64::from(times));
-    text.put(" times");
-}
-
-/// Appends how often there is the row before.
-#[tactic(auto, unfolding(crate::specs::Dumps::again_text))]
-fn put_again(text: &mut Text, times: u32)
-    ensures { Puts text.old text.new (again_text times) }
-{
-    text.put(": the row before, ");
-    put_times(text, times);
     text.put("\n");
 }
 

@@ -1,32 +1,28 @@
-use Rattle.std.proofs.Common.{◌≡◌, ℕ, List, ◌+◌, ◌*◌, ◌<◌, ◌≤◌, ◌++◌, length, ◌∙◌, ap, arith, rules}
+use Rattle.std.proofs.Common.{◌≡◌, ℕ, List, ◌*◌, ◌<◌, ◌++◌, length, ◌∙◌, ap, arith, rules}
 use Rattle.aout_core.specs.Contents.{Contents}
-use Rattle.instructions.specs.UnixLines.{unix_length}
 use Rattle.aout_core.specs.declared.symbol.Segment.TheVariants.{TextSeg}
-use Rattle.disassemblies.specs.{Listed.listed_line, Columns.labelled_row, Columns.disassembly, Labels.labels}
-use Rattle.disassemblies.proofs.StartLemmas.{line_more, end_more}
+use Rattle.disassemblies.specs.{Columns.shown_words, Columns.labelled_rows, Columns.disassembly, Labels.labels}
+use Rattle.disassemblies.proofs.{StartLemmas.line_more, StartLemmas.end_more, ColumnLemmas.shown_some}
 use Rattle.disassemblies.proofs.columns.put_rows.Goals as goal
 
 pub loop-place-preserved : goal.loop-place-preserved
 loop-place-preserved c =
     let file = c.args.lines.now in
     let d = c.args.decoder in
-    let count : c.length-count.result ≡ unix_length (listed_line d file c.loop-place.place) =
-    c.length-count.ensures ∙ ap unix_length c.at-line.ensures.line in
-    let inside : c.loop-place.place < length file.text_words = search rules in
-    let fits : c.loop-place.place + c.length-count.result ≤ length file.text_words = search rules in (
+    let inside : c.loop-place.place < length file.text_words = search rules in (
       λ whole.
-          let put = c.put_labelled_row.ensures whole in
+          let put = c.put_labelled_rows.ensures whole in
           let so_far = c.loop-place.invariant.0 put.0 in (
             so_far.0,
-            line_more c.args.decoder file (λ place n. labelled_row c.args.decoder file place n)
+            line_more (shown_words d file) (length file.text_words) (shown_some d file) (λ place n. labelled_rows d file place n)
                 (labels file.symbols TextSeg (2 * length file.text_words) 0) (c.args.text.now.bytes ++ disassembly c.args.decoder file)
-                c.loop-place.text.bytes c.put_labelled_row.new.text.bytes
-                c.loop-place.place c.length-count.result inside count
+                c.loop-place.text.bytes c.put_labelled_rows.new.text.bytes
+                c.loop-place.place c.shown_words-count.result inside c.shown_words-count.ensures.value
                 (put.1 ∙ ap (λ (f : Contents). c.loop-place.text.bytes
-                ++ labelled_row c.args.decoder f c.loop-place.place c.length-count.result) c.requires)
+                ++ labelled_rows c.args.decoder f c.loop-place.place c.shown_words-count.result) c.requires)
                 so_far.1,
           ),
-      fits,
+      c.shown_words-count.ensures.fits,
       c.loop-place.invariant.2,
     )
 
@@ -39,7 +35,7 @@ returns c =
     let put = c.put_end_labels.ensures whole in
     let so_far = c.loop-place.invariant.0 put.0 in (
       so_far.0,
-      end_more c.args.decoder file (λ place n. labelled_row c.args.decoder file place n) end_labels
+      end_more (shown_words c.args.decoder file) (length file.text_words) (λ place n. labelled_rows c.args.decoder file place n) end_labels
           (c.args.text.now.bytes ++ disassembly c.args.decoder file) c.loop-place.text.bytes c.put_end_labels.new.text.bytes
           c.loop-place.place end (put.1
           ∙ ap (λ (f : Contents). c.loop-place.text.bytes ++ labels f.symbols TextSeg (2 * length f.text_words) 0) c.requires) so_far.1,

@@ -1,8 +1,8 @@
 use Rattle.std.proofs.Common.{List, ℕ, ◌++◌}
 use Rattle.std.specs.Prelude.{codes}
 use Rattle.texts.proofs.PutLemmas.{puts_both}
-use Rattle.explanations.specs.Dumps.{again_text, times_text}
-use Rattle.explanations.proofs.rows.put_again.Goals as goal
+use Rattle.disassemblies.specs.Columns.{again_text, times_text}
+use Rattle.disassemblies.proofs.columns.put_again.Goals as goal
 
 pub returns : goal.returns
 unfolding again_text
