@@ -1,5 +1,5 @@
 -- Files that are explained one after another, from what comes of those that are left.
-use Rattle.std.proofs.Common.{◌≡◌, ◌≢◌, ℕ, suc, ◌<◌, ◌+◌, true, false, Option, Some, None, List, ◌∷◌, length, map, drop, get_or, drop-cons}
+use Rattle.std.proofs.Common.{◌≡◌, ◌≢◌, ℕ, suc, ◌<◌, ◌+◌, true, false, Option, Some, None, List, [], ◌∷◌, length, map, drop, get_or, drop-cons}
 use Rattle.std.proofs.Common.{string_bytes, refl, sym, ap, ◌∙◌, subst, inl, inr, arith}
 use Rattle.std.specs.{Prelude.Result, Prelude.Ok, Prelude.Err, Prelude.String, declared.alloc.Global.Global}
 use Rattle.aout_core.specs.Refusals.{refused}
@@ -8,7 +8,7 @@ use Rattle.surroundings.specs.{Sources.EndsReading, Sources.unread_text}
 use Rattle.explanations.specs.{Inventories.plain_row, declared.file_kind.FileKind.FileKind}
 use Rattle.v7_explain.specs.{Files.program, Files.row_said, Files.unnamed_said, Joined.either, Joined.joined, Joined.nothing_said}
 use Rattle.v7_explain.specs.{Walks.Folders, Walks.Found, Walks.kind_in, Walks.path_found}
-use Rattle.v7_explain.specs.Runs.{Explains, ExplainsAll, ExplainsFound, ExplainsNamed, IsExplaining, IsKind, ReadsFor, SaysFound, SaysNamed}
+use Rattle.v7_explain.specs.Runs.{Explains, ExplainsFound, ExplainsNamed, IsExplaining, IsKind, ReadsFor, SaysFound, SaysNamed}
 use Rattle.v7_explain.specs.{Runs.said_of, declared.explaining.Mode.TheVariants.Listing, declared.explaining.Mode.TheVariants.Show}
 use Rattle.v7_explain.specs.{declared.explaining.Mode.TheVariants.Check, declared.explaining.Mode.TheVariants.Inventory}
 use Rattle.v7_explain.specs.{declared.explaining.Mode.Mode}
@@ -90,19 +90,16 @@ module _ (folders : Option Folders) (mode : Mode) (found : Found) where
 
 pub ruleset by_found = (found_named, found_unnamed, found_out)
 
+found_in : (paths : List (String Global)) → map (λ p. path_found (string_bytes p)) paths ≡ map path_found (map string_bytes paths)
+found_in [] = refl
+found_in (p ∷ ps) = ap (λ (l : List Found). path_found (string_bytes p) ∷ l) (found_in ps)
+
 -- all at these paths
-pub all_explained : (folders : Option Folders) (mode : Mode) (old new : History) (paths : List (List ℕ)) (all : List Found)
-    (result : Result Answer Fault) → all ≡ map path_found paths → IsExplaining folders mode old new nothing_said all result →
-    ExplainsAll folders mode paths old new result
-all_explained folders mode old new paths all result is h =
-    inr (subst (λ l. IsExplaining folders mode old new nothing_said l result) is h)
-
--- there is no memory for the paths
-pub all_out : (folders : Option Folders) (mode : Mode) (h : History) (paths : List (List ℕ)) (result : Result Answer Fault) →
-    result ≡ Err (faults.Memory refused) → ExplainsAll folders mode paths h h result
-all_out folders mode h paths result memory = inl (refl, memory)
-
-pub ruleset by_paths = (all_explained, all_out)
+pub all_explained : (folders : Option Folders) (mode : Mode) (old new : History) (paths : List (String Global))
+    (result : Result Answer Fault) → IsExplaining folders mode old new nothing_said (map (λ p. path_found (string_bytes p)) paths) result →
+    IsExplaining folders mode old new nothing_said (map path_found (map string_bytes paths)) result
+all_explained folders mode old new paths result h =
+    subst (λ l. IsExplaining folders mode old new nothing_said l result) (found_in paths) h
 
 -- ---- one after another
 

@@ -75,11 +75,6 @@ IsExplaining folders mode old new said (found ∷ all) result =
     (more : Answer) × (between : History) × SaysFound folders mode old between found more
     × (((new ≡ between) × (result ≡ Err (faults.Memory refused))) ⊎ IsExplaining folders mode between new (joined said more) all result)
 
--- the files at these paths are explained; or memory runs out first
-abbrev pub ExplainsAll : Option Folders → Mode → List (List ℕ) → Step Answer
-ExplainsAll folders mode paths old new result =
-    ((new ≡ old) × (result ≡ Err (faults.Memory refused))) ⊎ IsExplaining folders mode old new nothing_said (map path_found paths) result
-
 -- ---- folders
 
 -- the files of a walk are found before the first is opened, and then a line of an inventory is said of each; or memory runs out
@@ -115,7 +110,7 @@ MapsAsked words = CallsOr program usage (λ m. IsMapCall m.asked m.words) (mappi
 
 -- what the arguments ask for
 abbrev pub IsCall : Option Folders → Call → Step Answer
-IsCall folders (explain mode paths) old new result = ExplainsAll folders mode paths old new result
+IsCall folders (explain mode paths) old new result = IsExplaining folders mode old new nothing_said (map path_found paths) result
 IsCall folders (walk paths) old new result = IsWalk folders old new paths result
 IsCall folders (store to path) old new result = StoresListing to path old new result
 IsCall folders (map_link words) old new result = MapsAsked words old new result

@@ -3,10 +3,11 @@ ghost use Rattle.std.specs.Prelude.{◌≡◌, OnOk, IfErr, IfOk, map, string_by
 ghost use Rattle.surroundings.specs.Sources.{EndsReading};
 ghost use Rattle.v7_explain.specs.Files.{program};
 ghost use Rattle.v7_explain.specs.Joined.{joined, nothing_said};
-ghost use Rattle.v7_explain.specs.Runs.{Explains, ExplainsAll, ExplainsFound, ExplainsNamed, IsExplaining, IsKind, IsWalk, ReadsFor, said_of};
+ghost use Rattle.v7_explain.specs.Walks.{path_found};
+ghost use Rattle.v7_explain.specs.Runs.{Explains, ExplainsFound, ExplainsNamed, IsExplaining, IsKind, IsWalk, ReadsFor, said_of};
 
 use crate::checking::check;
-use crate::folders::{Folders, Found, add_all, walk_all};
+use crate::folders::{Explainable, Folders, walk_all};
 use crate::inventory::{take_inventory, take_kind, take_unnamed};
 use crate::listing::list;
 use crate::program::NAME;
@@ -137,18 +138,18 @@ fn explain_named<O: Office, F: Folders>(
 
 /// What is said of what was found at a path.
 #[tactic(auto, using(crate::proofs::ExplainingLemmas::by_found))]
-fn explain_found<O: Office, F: Folders>(
+fn explain_found<O: Office, F: Folders, P: Explainable>(
     alloc: Global,
     office: &mut O,
     folders: &F,
     mode: Mode,
-    found: &Found,
+    found: &P,
 ) -> Result<Answer, Fault>
     ensures { ExplainsFound (F.folders folders.now) mode
-        (O.history office.old) (O.history office.new) found.now result }
+        (O.history office.old) (O.history office.new) (P.found found.now) result }
 {
-    let path = found.path.as_str();
-    if found.is_named {
+    let path = found.path();
+    if found.is_named() {
         explain_named(alloc, office, folders, mode, path)
     } else {
         Ok(take_unnamed(alloc, path)?)
@@ -156,15 +157,15 @@ fn explain_found<O: Office, F: Folders>(
 }
 
 /// What is said of each, in order, and the largest status.
-fn explain_each<O: Office, F: Folders>(
+fn explain_each<O: Office, F: Folders, P: Explainable>(
     alloc: Global,
     office: &mut O,
     folders: &F,
     mode: Mode,
-    all: &[Found],
+    all: &[P],
 ) -> Result<Answer, Fault>
     ensures { IsExplaining (F.folders folders.now) mode
-        (O.history office.old) (O.history office.new) nothing_said all.now result }
+        (O.history office.old) (O.history office.new) nothing_said (map P.found all.now) result }
 {
     let mut said = nothing_said(alloc);
     for found in all {
@@ -178,7 +179,7 @@ fn explain_each<O: Office, F: Folders>(
 }
 
 /// What is said of each file at these paths.
-#[tactic(auto, using(crate::proofs::ExplainingLemmas::by_paths))]
+#[tactic(auto, using(crate::proofs::ExplainingLemmas::all_explained))]
 pub(crate) fn explain_all<O: Office, F: Folders>(
     alloc: Global,
     office: &mut O,
@@ -186,11 +187,11 @@ pub(crate) fn explain_all<O: Office, F: Folders>(
     mode: Mode,
     paths: &[String],
 ) -> Result<Answer, Fault>
-    ensures { ExplainsAll (F.folders folders.now) mode (map string_bytes paths.now)
-        (O.history office.old) (O.history office.new) result }
+    ensures { IsExplaining (F.folders folders.now) mode
+        (O.history office.old) (O.history office.new) nothing_said
+        (map path_found (map string_bytes paths.now)) result }
 {
-    let all = add_all(alloc, paths)?;
-    explain_each(alloc, office, folders, mode, &all)
+    explain_each(alloc, office, folders, mode, paths)
 }
 
 /// A line of an inventory of each file at these paths, and in the folders there. All files are found before the first is opened.

@@ -1,6 +1,6 @@
 //! Folders, and the files that are in them.
 ghost use Rattle.std.specs.Prelude.{◌≡◌, ◌<◌, ◌++◌, [], ◌∷◌, List, ℕ, Option, None, Some, IfOk, IfSome, OnOk, map, string_bytes};
-ghost use Rattle.v7_explain.specs.Walks.{AreWalked, Place, folder_in, itself_unless, kind_in, path_found, path_in, unnamed_in};
+ghost use Rattle.v7_explain.specs.Walks.{AreWalked, Found, Place, folder_in, itself_unless, kind_in, path_found, path_in, unnamed_in};
 ghost use Rattle.v7_explain.specs.internal.Walking.{Walks, ordered, ordered_at};
 
 use explanations::FileKind;
@@ -52,6 +52,43 @@ impl Model for Found {
     ghost view = { λ f. record { path = string_bytes f.path; is_named = f.is_named } };
 }
 
+/// A file to be explained: at a path of the arguments, or one that was found.
+pub(crate) trait Explainable {
+    ghost found: { Self → Found };
+
+    /// Its path, or what is shown in place of it.
+    fn path(&self) -> &str
+        ensures { result.now ≡ (found self.now).path };
+
+    /// Whether it can be opened by its path.
+    fn is_named(&self) -> bool
+        ensures { result ≡ (found self.now).is_named };
+}
+
+impl Explainable for String {
+    ghost found = { λ path. path_found (string_bytes path) };
+
+    fn path(&self) -> &str {
+        self.as_str()
+    }
+
+    fn is_named(&self) -> bool {
+        true
+    }
+}
+
+impl Explainable for Found {
+    ghost found = { λ found. found };
+
+    fn path(&self) -> &str {
+        self.path.as_str()
+    }
+
+    fn is_named(&self) -> bool {
+        self.is_named
+    }
+}
+
 /// The folders around a command. Its `folders` has what is at each path, where that is known. (own choice)
 pub trait Folders {
     ghost folders: { Self → Option (List ℕ → Place) } = { λ _. None };
@@ -97,17 +134,6 @@ fn add(alloc: Global, path: &str, is_named: bool, found: &mut Vec<Found>) -> Res
     let path = String::from_str(alloc, path)?;
     found.push(Found { path, is_named })?;
     Ok(())
-}
-
-/// These paths.
-pub(crate) fn add_all(alloc: Global, paths: &[String]) -> Result<Vec<Found>, AllocError>
-    ensures { IfOk result (λ found. found.items ≡ map path_found (map string_bytes paths.now)) }
-{
-    let mut found = Vec::new(alloc);
-    for path in paths {
-        add(alloc, path.as_str(), true, &mut found)?;
-    }
-    Ok(found)
 }
 
 /// Adds the paths of names in a folder that are not UTF-8.
