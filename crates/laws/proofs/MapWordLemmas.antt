@@ -257,14 +257,14 @@ module _ (object : ℕ) (line_starts : List Bool) (k : Contents) where
     pub is : use_of object line_starts k number s ≡ u
 
   pub uses_are : (ss : List Symbol) (n : ℕ) → ((j : ℕ) → slice_get k.symbols (n + j) ≡ slice_get ss j) → (u : Use) →
-      Contains (uses_by is_external object line_starts k n ss) u → IsUse u
+      Contains (uses_by object line_starts k n ss) u → IsUse u
   uses_are [] n same u h = absurd (none_in u h)
   uses_are (s ∷ ss) n same u h =
-      by_case (Contains-append_cases (use_by is_external object line_starts k n s) (uses_by is_external object line_starts k (n + 1) ss) u h)
+      by_case (Contains-append_cases (use_by object line_starts k n s) (uses_by object line_starts k (n + 1) ss) u h)
       (uses_are ss (n + 1) (λ j. ap (slice_get k.symbols) (let e : n + 1 + j ≡ n + suc j = omega arith in e) ∙ same (suc j)) u)
     where
-      by_case : Contains (use_by is_external object line_starts k n s) u ⊎ Contains (uses_by is_external object line_starts k (n + 1) ss) u →
-          (Contains (uses_by is_external object line_starts k (n + 1) ss) u → IsUse u) → IsUse u
+      by_case : Contains (use_by object line_starts k n s) u ⊎ Contains (uses_by object line_starts k (n + 1) ss) u →
+          (Contains (uses_by object line_starts k (n + 1) ss) u → IsUse u) → IsUse u
       by_case (inl here) again =
           let found = one_if (is_external s) (use_of object line_starts k n s) u here in record {
             number = n;
@@ -276,22 +276,22 @@ module _ (object : ℕ) (line_starts : List Bool) (k : Contents) where
       by_case (inr later) again = again later
 
   pub use_there : (ss : List Symbol) (n j : ℕ) (s : Symbol) → slice_get ss j ≡ Some s → is_external s ≡ true →
-      Contains (uses_by is_external object line_starts k n ss) (use_of object line_starts k (n + j) s)
+      Contains (uses_by object line_starts k n ss) (use_of object line_starts k (n + j) s)
   use_there [] n j s there outer = absurd (cc)
   use_there (x ∷ ss) n zero s there outer =
       let same : x ≡ s = cc in
       let u = use_of object line_starts k n s in
-      let here : Contains (use_by is_external object line_starts k n x) u =
-      subst (λ (y : Symbol). Contains (use_by is_external object line_starts k n y) u) (sym same)
+      let here : Contains (use_by object line_starts k n x) u =
+      subst (λ (y : Symbol). Contains (use_by object line_starts k n y) u) (sym same)
       (subst (λ (b : Bool). Contains (if b then u ∷ [] else []) u) (sym outer) (one_there u [])) in
-      subst (λ (m : ℕ). Contains (uses_by is_external object line_starts k n (x ∷ ss)) (use_of object line_starts k m s))
+      subst (λ (m : ℕ). Contains (uses_by object line_starts k n (x ∷ ss)) (use_of object line_starts k m s))
       (let e : n ≡ n + 0 = omega arith in e)
-      (Contains-append_left (use_by is_external object line_starts k n x) (uses_by is_external object line_starts k (n + 1) ss) u here)
+      (Contains-append_left (use_by object line_starts k n x) (uses_by object line_starts k (n + 1) ss) u here)
   use_there (x ∷ ss) n (suc j) s there outer =
       let u = use_of object line_starts k (n + 1 + j) s in
-      subst (λ (m : ℕ). Contains (uses_by is_external object line_starts k n (x ∷ ss)) (use_of object line_starts k m s))
+      subst (λ (m : ℕ). Contains (uses_by object line_starts k n (x ∷ ss)) (use_of object line_starts k m s))
       (let e : n + 1 + j ≡ n + suc j = omega arith in e)
-      (Contains-append_right (use_by is_external object line_starts k n x) (uses_by is_external object line_starts k (n + 1) ss) u
+      (Contains-append_right (use_by object line_starts k n x) (uses_by object line_starts k (n + 1) ss) u
       (use_there ss (n + 1) j s there outer))
 
 -- ---- the uses of all objects
@@ -301,21 +301,21 @@ pub record IsAmong (os : List Contents) (first : ℕ) (u : Use) : Type 0 where
   pub k : Contents
   pub after : List Contents
   pub all : os ≡ before ++ k ∷ after
-  pub is : Contains (uses_in is_external (first + length before) k) u
+  pub is : Contains (uses_in (first + length before) k) u
 
-uses_among : (os : List Contents) (first : ℕ) (u : Use) → Contains (uses_from is_external first os) u → IsAmong os first u
+uses_among : (os : List Contents) (first : ℕ) (u : Use) → Contains (uses_from first os) u → IsAmong os first u
 uses_among [] first u h = absurd (none_in u h)
 uses_among (o ∷ os) first u h =
-    by_case (Contains-append_cases (uses_in is_external first o) (uses_from is_external (first + 1) os) u h) (uses_among os (first + 1) u)
+    by_case (Contains-append_cases (uses_in first o) (uses_from (first + 1) os) u h) (uses_among os (first + 1) u)
   where
-    by_case : Contains (uses_in is_external first o) u ⊎ Contains (uses_from is_external (first + 1) os) u →
-        (Contains (uses_from is_external (first + 1) os) u → IsAmong os (first + 1) u) → IsAmong (o ∷ os) first u
+    by_case : Contains (uses_in first o) u ⊎ Contains (uses_from (first + 1) os) u →
+        (Contains (uses_from (first + 1) os) u → IsAmong os (first + 1) u) → IsAmong (o ∷ os) first u
     by_case (inl here) again = record {
       before = [];
       k = o;
       after = os;
       all = refl;
-      is = subst (λ (n : ℕ). Contains (uses_in is_external n o) u) (let e : first ≡ first + 0 = omega arith in e) here;
+      is = subst (λ (n : ℕ). Contains (uses_in n o) u) (let e : first ≡ first + 0 = omega arith in e) here;
     }
     by_case (inr later) again =
         let r = again later in record {
@@ -323,19 +323,19 @@ uses_among (o ∷ os) first u h =
           k = r.k;
           after = r.after;
           all = ap (λ (l : List Contents). o ∷ l) r.all;
-          is = subst (λ (n : ℕ). Contains (uses_in is_external n r.k) u)
+          is = subst (λ (n : ℕ). Contains (uses_in n r.k) u)
               (let e : first + 1 + length r.before ≡ first + length (o ∷ r.before) = omega arith in e) r.is;
         }
 
 use_among : (before : List Contents) (k : Contents) (after : List Contents) (first : ℕ) (u : Use) →
-    Contains (uses_in is_external (first + length before) k) u → Contains (uses_from is_external first (before ++ k ∷ after)) u
+    Contains (uses_in (first + length before) k) u → Contains (uses_from first (before ++ k ∷ after)) u
 use_among [] k after first u h =
-    Contains-append_left (uses_in is_external first k) (uses_from is_external (first + 1) after) u
-    (subst (λ (n : ℕ). Contains (uses_in is_external n k) u) (let e : first + 0 ≡ first = omega arith in e) h)
+    Contains-append_left (uses_in first k) (uses_from (first + 1) after) u
+    (subst (λ (n : ℕ). Contains (uses_in n k) u) (let e : first + 0 ≡ first = omega arith in e) h)
 use_among (o ∷ os) k after first u h =
-    Contains-append_right (uses_in is_external first o) (uses_from is_external (first + 1) (os ++ k ∷ after)) u
+    Contains-append_right (uses_in first o) (uses_from (first + 1) (os ++ k ∷ after)) u
     (use_among os k after (first + 1) u
-    (subst (λ (n : ℕ). Contains (uses_in is_external n k) u) (let e : first + length (o ∷ os) ≡ first + 1 + length os = omega arith in e) h))
+    (subst (λ (n : ℕ). Contains (uses_in n k) u) (let e : first + length (o ∷ os) ≡ first + 1 + length os = omega arith in e) h))
 
 module _ (forced : List (List ℕ)) (os : List Contents)
     (small : (before : List Contents) (k : Contents) (after : List Contents) → os ≡ before ++ k ∷ after → IsSmallObject k) where
@@ -346,7 +346,7 @@ module _ (forced : List (List ℕ)) (os : List Contents)
 
   -- each word leads to its name
   pub words_of_names : (u : Use) (w : ReferringWord) → Contains (uses_in_order forced os) u → Contains u.references w → IsOfName os u w
-  words_of_names u w h refers = by_case (Contains-append_cases (map forced_use forced) (uses_from is_external 0 os) u (unsorted u h))
+  words_of_names u w h refers = by_case (Contains-append_cases (map forced_use forced) (uses_from 0 os) u (unsorted u h))
     where
       of_symbol : (a : IsAmong os 0 u) → IsUse (0 + length a.before) (starts Unix a.k) a.k u → IsOfName os u w
       of_symbol a used = record {
@@ -361,7 +361,7 @@ module _ (forced : List (List ℕ)) (os : List Contents)
             (subst (λ (v : Use). Contains v.references w) (sym used.is) refers));
       }
 
-      by_case : Contains (map forced_use forced) u ⊎ Contains (uses_from is_external 0 os) u → IsOfName os u w
+      by_case : Contains (map forced_use forced) u ⊎ Contains (uses_from 0 os) u → IsOfName os u w
       by_case (inl name) =
           let one = of_one forced_use forced u name in
           absurd (none_in w (subst (λ (v : Use). Contains v.references w) (sym one.1) refers))
@@ -376,12 +376,12 @@ module _ (forced : List (List ℕ)) (os : List Contents)
   word_of_name before k after all part offset s outer it =
       let number = it.number in
       let u = use_of (length before) (starts Unix k) k number s in
-      let there : Contains (uses_in is_external (length before) k) u =
-      subst (λ (n : ℕ). Contains (uses_in is_external (length before) k) (use_of (length before) (starts Unix k) k n s))
+      let there : Contains (uses_in (length before) k) u =
+      subst (λ (n : ℕ). Contains (uses_in (length before) k) (use_of (length before) (starts Unix k) k n s))
       (let e : 0 + number ≡ number = omega arith in e)
       (use_there (length before) (starts Unix k) k k.symbols 0 number s it.symbol outer) in
       Contains-permutation (uses forced os) (uses_in_order forced os) u (in_order_moves is_before (uses forced os))
-      (Contains-append_right (map forced_use forced) (uses_from is_external 0 os) u
-      (subst (λ (l : List Contents). Contains (uses_from is_external 0 l) u) (sym all)
+      (Contains-append_right (map forced_use forced) (uses_from 0 os) u
+      (subst (λ (l : List Contents). Contains (uses_from 0 l) u) (sym all)
       (use_among before k after 0 u
-      (subst (λ (n : ℕ). Contains (uses_in is_external n k) u) (let e : length before ≡ 0 + length before = omega arith in e) there))))
+      (subst (λ (n : ℕ). Contains (uses_in n k) u) (let e : length before ≡ 0 + length before = omega arith in e) there))))

@@ -2,7 +2,6 @@
 pub mod References
 pub mod Leads
 pub mod Uses
-pub mod Scopes
 pub mod Members
 pub mod Taking
 pub mod Rows

@@ -23,30 +23,29 @@ pub record Use : Type 0 where
 abbrev pub use_of : ℕ → List Bool → Contents → ℕ → Symbol → Use
 use_of object starts o number s = record { object = Some object; symbol = s; references = references_to starts o number s }
 
--- the use by the symbol of this number, if that counts
-abbrev pub use_by : (Symbol → Bool) → ℕ → List Bool → Contents → ℕ → Symbol → List Use
-use_by counts object starts o number s = if counts s then use_of object starts o number s ∷ [] else []
+-- the use by the symbol of this number, if that is external
+abbrev pub use_by : ℕ → List Bool → Contents → ℕ → Symbol → List Use
+use_by object starts o number s = if is_external s then use_of object starts o number s ∷ [] else []
 
 -- the uses by these symbols of an object, of which the first has this number
-abbrev pub uses_by : (Symbol → Bool) → ℕ → List Bool → Contents → ℕ → List Symbol → List Use
-uses_by counts object starts o number [] = []
-uses_by counts object starts o number (s ∷ ss) =
-    use_by counts object starts o number s ++ uses_by counts object starts o (number + 1) ss
+abbrev pub uses_by : ℕ → List Bool → Contents → ℕ → List Symbol → List Use
+uses_by object starts o number [] = []
+uses_by object starts o number (s ∷ ss) = use_by object starts o number s ++ uses_by object starts o (number + 1) ss
 
-abbrev pub uses_in : (Symbol → Bool) → ℕ → Contents → List Use
-uses_in counts object o = uses_by counts object (starts Unix o) o 0 o.symbols
+abbrev pub uses_in : ℕ → Contents → List Use
+uses_in object o = uses_by object (starts Unix o) o 0 o.symbols
 
 -- the uses in these objects, of which the first has this number
-abbrev pub uses_from : (Symbol → Bool) → ℕ → List Contents → List Use
-uses_from counts object [] = []
-uses_from counts object (o ∷ os) = uses_in counts object o ++ uses_from counts (object + 1) os
+abbrev pub uses_from : ℕ → List Contents → List Use
+uses_from object [] = []
+uses_from object (o ∷ os) = uses_in object o ++ uses_from (object + 1) os
 
 abbrev pub forced_use : List ℕ → Use
 forced_use name = record { object = None; symbol = record { name = name; type_bits = 0o40; value = 0 }; references = [] }
 
 -- the uses of all names, those of forced names first
 abbrev pub uses : List (List ℕ) → List Contents → List Use
-uses forced os = map forced_use forced ++ uses_from is_external 0 os
+uses forced os = map forced_use forced ++ uses_from 0 os
 
 abbrev pub name_of : Use → List ℕ
 name_of u = u.symbol.name

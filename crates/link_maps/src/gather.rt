@@ -1,12 +1,11 @@
 //! The objects of a map and the uses of names in them, gathered.
 ghost use Rattle.std.specs.Prelude.{◌≡◌, ◌++◌, ◌∷◌, [], length, map, IfOk, OnOk};
-ghost use Rattle.aout_core.specs.WellFormed.{is_external};
 ghost use Rattle.link_session.specs.Labelled.{objects};
 ghost use Rattle.link_maps.specs.Members.{all_of, member_of};
 ghost use Rattle.link_maps.specs.Uses.{uses_in, uses_from, uses_in_order};
 
 use crate::members::{Left, Member, Objects, put_member};
-use crate::uses::{Scope, Use, put_forced, put_uses, sort_by_name};
+use crate::uses::{Use, put_forced, put_uses, sort_by_name};
 use aout_core::File;
 use link_session::{Entry, Forced};
 use std::alloc::{AllocError, Global};
@@ -29,9 +28,9 @@ fn put_file(
     ensures members { OnOk result (members.new.items
         ≡ members.old.items ++ member_of (record { label = label.now; object = file.now }) ∷ []) }
     ensures uses { OnOk result
-        (uses.new.items ≡ uses.old.items ++ uses_in is_external (length members.old.items) file.now) }
+        (uses.new.items ≡ uses.old.items ++ uses_in (length members.old.items) file.now) }
 {
-    put_uses(alloc, uses, &Scope::Externals, members.len(), file)?;
+    put_uses(alloc, uses, members.len(), file)?;
     put_member(alloc, members, label, file)
 }
 
@@ -45,7 +44,7 @@ fn put_entry(
     ensures members { OnOk result
         (members.new.items ≡ members.old.items ++ member_of entry.now ∷ []) }
     ensures uses { OnOk result
-        (uses.new.items ≡ uses.old.items ++ uses_in is_external (length members.old.items) entry.now.object) }
+        (uses.new.items ≡ uses.old.items ++ uses_in (length members.old.items) entry.now.object) }
 {
     put_file(alloc, members, uses, entry.label(), entry.object().file())
 }
@@ -60,7 +59,7 @@ fn put_one_left(
     ensures members { OnOk result
         (members.new.items ≡ members.old.items ++ member_of one.now ∷ []) }
     ensures uses { OnOk result
-        (uses.new.items ≡ uses.old.items ++ uses_in is_external (length members.old.items) one.now.object) }
+        (uses.new.items ≡ uses.old.items ++ uses_in (length members.old.items) one.now.object) }
 {
     put_file(alloc, members, uses, one.label.as_str(), one.object.file())
 }
@@ -75,7 +74,7 @@ fn put_entries(
     ensures members { OnOk result
         (members.new.items ≡ members.old.items ++ map member_of entries.now) }
     ensures uses { OnOk result (uses.new.items
-        ≡ uses.old.items ++ uses_from is_external (length members.old.items) (objects entries.now)) }
+        ≡ uses.old.items ++ uses_from (length members.old.items) (objects entries.now)) }
 {
     for entry in entries {
         put_entry(alloc, members, uses, entry)?;
@@ -93,7 +92,7 @@ fn put_left(
     ensures members { OnOk result
         (members.new.items ≡ members.old.items ++ map member_of left.now) }
     ensures uses { OnOk result (uses.new.items
-        ≡ uses.old.items ++ uses_from is_external (length members.old.items) (objects left.now)) }
+        ≡ uses.old.items ++ uses_from (length members.old.items) (objects left.now)) }
 {
     for one in left {
         put_one_left(alloc, members, uses, one)?;

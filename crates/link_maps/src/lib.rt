@@ -47,6 +47,6 @@ pub use oddities::{Oddity, oddities_of};
 pub use outcome::{Outcome, largest_number, row_of};
 pub use places::Places;
 pub use records::{ObjectRecord, UseRecord, padded, uses_of_name};
-pub use references::{Before, LinedFile, ReferringWord, put_line_of};
+pub use references::{Before, ReferringWord, put_line_of};
 pub use spots::{Spot, label_before, spots_at, word_at};
-pub use uses::{Scope, Use, put_uses};
+pub use uses::Use;

@@ -115,7 +115,7 @@ pub fn put_line_of(text: &mut Text, named: &NamedFile<'_>, reference: &Referring
 
 /// An object whose lines are found by the words in them, its labels by their addresses, and its words by where they lead.
 #[derive(Drop)]
-pub struct LinedFile<'a> {
+pub(crate) struct LinedFile<'a> {
     file: &'a File,
     line_starts: Vec<bool>,
     labels: Labels<'a>,
@@ -139,7 +139,7 @@ impl<'a> Model for LinedFile<'a> {
 
 impl<'a> LinedFile<'a> {
     /// An object, after its lines are found and its labels sorted. An error: out of memory.
-    pub fn new(alloc: Global, file: &'a File) -> Result<LinedFile<'a>, AllocError>
+    pub(crate) fn new(alloc: Global, file: &'a File) -> Result<LinedFile<'a>, AllocError>
         ensures { IfOk result (λ l. l ≡ file.now) }
     {
         let starts = line_starts(alloc, Decoder::Unix, file)?;
@@ -150,13 +150,6 @@ impl<'a> LinedFile<'a> {
             labels: Labels::new(alloc, file.symbols())?,
             leading,
         })
-    }
-
-    /// The object.
-    pub fn file(&self) -> &'a File
-        ensures { result.now ≡ self.now }
-    {
-        self.file
     }
 
     /// The label before what is so many bytes after the first of a part.

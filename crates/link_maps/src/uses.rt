@@ -4,11 +4,9 @@ ghost use Rattle.disassemblies.specs.Starts.{starts};
 ghost use Rattle.instructions.specs.declared.unix.Decoder.TheVariants.{Unix};
 ghost use Rattle.symtools.specs.NmLists.{in_order};
 ghost use Rattle.link_maps.specs.Uses.{forced_use, is_before, use_by, uses_in};
-ghost use Rattle.link_maps.specs.Scopes.{is_in_scope};
 
 use crate::references::{LinedFile, ReferringWord};
 use aout_core::{File, Name, Symbol};
-use indexmap::IndexSet;
 use std::alloc::{AllocError, Global};
 use std::marker::Model;
 
@@ -62,39 +60,19 @@ pub(crate) fn put_forced(
     Ok(())
 }
 
-/// Which symbols of an object count as uses.
-#[derive(Clone, Copy)]
-pub enum Scope<'a> {
-    /// The externals.
-    Externals,
-    /// The locals with one of these names.
-    Locals(&'a IndexSet<Name>),
-}
-
-/// Whether a symbol counts.
-fn is_in_scope(scope: &Scope<'_>, symbol: &Symbol) -> bool
-    ensures { result ≡ is_in_scope scope.now symbol.now }
-{
-    match scope {
-        Scope::Externals => symbol.is_external(),
-        Scope::Locals(names) => !symbol.is_external() && names.contains(&symbol.name),
-    }
-}
-
-/// Appends the use by the symbol with a number, if that counts.
+/// Appends the use by the symbol with a number, if that is external.
 fn put_use(
     alloc: Global,
     uses: &mut Vec<Use>,
-    scope: &Scope<'_>,
     object: usize,
     lined: &LinedFile<'_>,
     number: usize,
     symbol: &Symbol,
 ) -> Result<(), AllocError>
     ensures { OnOk result (uses.new.items ≡ uses.old.items
-        ++ use_by (is_in_scope scope.now) object (starts Unix lined.now) lined.now number symbol.now) }
+        ++ use_by object (starts Unix lined.now) lined.now number symbol.now) }
 {
-    if !is_in_scope(scope, symbol) {
+    if !symbol.is_external() {
         return Ok(());
     }
     uses.push(Use {
@@ -105,20 +83,18 @@ fn put_use(
     Ok(())
 }
 
-/// Appends the uses in an object, of its externals or of some of its locals. An error: out of memory.
-pub fn put_uses(
+/// Appends the uses in an object. An error: out of memory.
+pub(crate) fn put_uses(
     alloc: Global,
     uses: &mut Vec<Use>,
-    scope: &Scope<'_>,
     object: usize,
     file: &File,
 ) -> Result<(), AllocError>
-    ensures { OnOk result
-        (uses.new.items ≡ uses.old.items ++ uses_in (is_in_scope scope.now) object file.now) }
+    ensures { OnOk result (uses.new.items ≡ uses.old.items ++ uses_in object file.now) }
 {
     let lined = LinedFile::new(alloc, file)?;
     for (number, symbol) in file.symbols().iter().enumerate() {
-        put_use(alloc, uses, scope, object, &lined, number, symbol)?;
+        put_use(alloc, uses, object, &lined, number, symbol)?;
     }
     Ok(())
 }
