@@ -48,8 +48,8 @@ from_first {A} step count some of end place n a h e left =
     ∙ ap (λ (k : ℕ). of place k ++ steps_from step count of end (count - (place + k)) (place + k)) (sym e)
 
 -- one line more is appended
-pub line_more : {A : Type 0} (step : ℕ → ℕ) (count : ℕ) (some : (p : ℕ) → 1 ≤ step p) (of : ℕ → ℕ → List A) (end : List A) (whole old new : List A) (place n : ℕ) →
-    place < count →
+pub line_more : {A : Type 0} (step : ℕ → ℕ) (count : ℕ) (some : (p : ℕ) → 1 ≤ step p) (of : ℕ → ℕ → List A)
+    (end : List A) (whole old new : List A) (place n : ℕ) → place < count →
     n ≡ step place → new ≡ old ++ of place n →
     old ++ steps_from step count of end (count - place) place ≡ whole →
     new ++ steps_from step count of end (count - (place + n)) (place + n) ≡ whole

@@ -4,7 +4,7 @@ use Rattle.std.proofs.Common.{replicate, Option, Some, None, refl, sym, ◌∙�
 use Rattle.std.specs.Prelude.{slice_get}
 use Rattle.aout_core.specs.Contents.{Contents}
 use Rattle.instructions.specs.{declared.unix.Decoder.TheVariants.Unix, declared.unix.UnixLine.UnixLine, UnixLines.unix_length}
-use Rattle.disassemblies.specs.Starts.{steps_from, length_at, start, starts, is_start, swept_line}
+use Rattle.disassemblies.specs.Starts.{lines_from, start, starts, is_start, swept_line}
 use Rattle.disassemblies.specs.{Listed.listed_line, internal.Swept.line_words, internal.Swept.swept}
 use Rattle.disassemblies.proofs.ListedLemmas.{listed_short}
 
@@ -57,12 +57,12 @@ says_by c p n lines marks true some h = says_line c n p lines marks some h
 says_by c p n lines marks false some h = says_nothing c p
 
 says_from : (c : Contents) (most p : ℕ) →
-    Says c p (steps_from (length_at Unix c) (length c.text_words) (λ place n. of_words c place n) [] most p) (steps_from (length_at Unix c) (length c.text_words) (λ place n. start n) [] most p)
+    Says c p (lines_from Unix c (λ place n. of_words c place n) [] most p) (lines_from Unix c (λ place n. start n) [] most p)
 says_from c zero p = says_nothing c p
 says_from c (suc most) p =
     let n : ℕ = unix_length (listed_line Unix c p) in
-    says_by c p n (steps_from (length_at Unix c) (length c.text_words) (λ place n. of_words c place n) [] most (p + n))
-    (steps_from (length_at Unix c) (length c.text_words) (λ place n. start n) [] most (p + n)) (nat_lt p (length c.text_words)) (listed_short Unix c p).0
+    says_by c p n (lines_from Unix c (λ place n. of_words c place n) [] most (p + n))
+    (lines_from Unix c (λ place n. start n) [] most (p + n)) (nat_lt p (length c.text_words)) (listed_short Unix c p).0
     (says_from c most (p + n))
 
 swept_at : (c : Contents) (place : ℕ) → line_by (slice_get (swept Unix c) place) ≡ swept_line c place

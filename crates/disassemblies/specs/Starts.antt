@@ -17,9 +17,12 @@ steps_from step count of end (suc most) place =
 abbrev pub length_at : Decoder → Contents → ℕ → ℕ
 length_at d c place = unix_length (listed_line d c place)
 
--- what each line of the text gives, and what its end gives
+-- what the lines from a place on give, and what the end of the text gives
+abbrev pub lines_from : {A : Type 0} → Decoder → Contents → (ℕ → ℕ → List A) → List A → ℕ → ℕ → List A
+lines_from d c of end most place = steps_from (length_at d c) (length c.text_words) of end most place
+
 abbrev pub by_lines : {A : Type 0} → Decoder → Contents → (ℕ → ℕ → List A) → List A → List A
-by_lines d c of end = steps_from (length_at d c) (length c.text_words) of end (length c.text_words) 0
+by_lines d c of end = lines_from d c of end (length c.text_words) 0
 
 -- the first word of a line of so many, and its others
 abbrev pub start : ℕ → List Bool

@@ -13,8 +13,8 @@ loop-place-preserved c =
     c.length-count.ensures ∙ ap unix_length c.at.ensures.line in
     let inside : c.loop-place.place < length file.text_words = search rules in
     let fits : c.loop-place.place + c.length-count.result ≤ length file.text_words = search rules in (
-      line_more (length_at d file) (length file.text_words) (λ p. (listed_short d file p).0) (λ place n. start n) [] (starts d file) c.loop-place.starts.items c.put_start.new.starts.items
-          c.loop-place.place c.length-count.result
+      line_more (length_at d file) (length file.text_words) (λ p. (listed_short d file p).0) (λ place n. start n) []
+          (starts d file) c.loop-place.starts.items c.put_start.new.starts.items c.loop-place.place c.length-count.result
           inside count c.in_ok-put_start.ensures c.loop-place.invariant.0,
       fits,
       c.loop-place.invariant.2,

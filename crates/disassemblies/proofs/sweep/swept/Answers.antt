@@ -27,5 +27,5 @@ pub returns : goal.returns
 returns c =
     let file = c.args.listed.now in
     let end : c.loop-place.place ≡ length file.text_words = omega (arith, c.loop-place.invariant.1, c.loop-place.invariant.2) in
-    end_more (length_at Unix file) (length file.text_words) (λ place n. line_words (listed_line Unix file place) n) [] (swept Unix file) c.loop-place.lines.items
-    c.loop-place.lines.items c.loop-place.place end (sym (append-nil c.loop-place.lines.items)) c.loop-place.invariant.0
+    end_more (length_at Unix file) (length file.text_words) (λ place n. line_words (listed_line Unix file place) n) [] (swept Unix file)
+    c.loop-place.lines.items c.loop-place.lines.items c.loop-place.place end (sym (append-nil c.loop-place.lines.items)) c.loop-place.invariant.0
