@@ -183,8 +183,10 @@ contents_back c rest s =
     )
     (let first = relocs_in-reloc_encoding c.text_reloc in let second = relocs_in-reloc_encoding c.data_reloc in rw (first, second) refl)
 
-length-encoding : (c : Contents) → IsSound c → length (encoding c) ≡ file_length c.header
-length-encoding c s =
+-- the bytes of all parts of a file
+pub length-parts : (c : Contents) → length (encoding c)
+    ≡ 16 + 2 * (length c.text_words + length c.data_words + (length c.text_reloc + length c.data_reloc)) + 12 * length c.symbols
+length-parts c =
     let h = c.header in
     let T = all_word_bytes c.text_words in
     let D = all_word_bytes c.data_words in
@@ -204,6 +206,14 @@ length-encoding c s =
       length-reloc_encoding c.text_reloc,
       length-reloc_encoding c.data_reloc,
       length-symbols_encoding c.symbols,
+    )
+
+length-encoding : (c : Contents) → IsSound c → length (encoding c) ≡ file_length c.header
+length-encoding c s =
+    let h = c.header in
+    omega (
+      arith,
+      length-parts c,
       s.fits.text,
       s.fits.data,
       s.fits.text_relocation,

@@ -14,8 +14,7 @@ use Rattle.aout_core.specs.{Contents.Contents, Decoding.decode, Decoding.header_
 use Rattle.aout_core.specs.{WellFormed.is_external, declared.symbol.Segment.Segment}
 use Rattle.aout_core.specs.declared.symbol.Segment.TheVariants.{TextSeg, DataSeg}
 use Rattle.aout_core.proofs.DecodingLemmas.{decoded_fits, decoded_passed}
-use Rattle.aout_core.proofs.EncodingLemmas.{length-all_word_bytes, length-header_encoding, length-reloc_encoding, length-symbols_encoding}
-use Rattle.aout_core.proofs.EncodingLemmas.{with_relocation-add}
+use Rattle.aout_core.proofs.EncodingLemmas.{length-parts, with_relocation-add}
 use Rattle.tool_options.specs.{declared.options.Keep.Keep, Choices.Choices, ForcedNames.takes, ForcedNames.with_name, NameLists.is_among}
 use Rattle.link_session.specs.Mentions.{externals_in, forced_mention, mention, mentions, mentions_in, names_by_first_mention, names_of}
 use Rattle.link_session.specs.{declared.entry.AddFault.AddFault, Cells.words_of, Earlier.with_earlier, Labelled.Labelled}
@@ -43,31 +42,6 @@ use Rattle.link_out.specs.Inputs as inputs
 use Rattle.link_maps.specs.declared.outcome.Outcome as shown
 
 -- ---- one object
-
--- the bytes of all its parts
-length-parts : (c : Contents) → length (encoding c)
-    ≡ 16 + 2 * (length c.text_words + length c.data_words + (length c.text_reloc + length c.data_reloc)) + 12 * length c.symbols
-length-parts c =
-    let h = c.header in
-    let T = all_word_bytes c.text_words in
-    let D = all_word_bytes c.data_words in
-    let R = reloc_encoding c.text_reloc in
-    let Q = reloc_encoding c.data_reloc in
-    let S = flat_map symbol_encoding c.symbols in
-    omega (
-      arith,
-      length-append (header_encoding h) (T ++ (D ++ (R ++ (Q ++ S)))),
-      length-append T (D ++ (R ++ (Q ++ S))),
-      length-append D (R ++ (Q ++ S)),
-      length-append R (Q ++ S),
-      length-append Q S,
-      length-header_encoding h,
-      length-all_word_bytes c.text_words,
-      length-all_word_bytes c.data_words,
-      length-reloc_encoding c.text_reloc,
-      length-reloc_encoding c.data_reloc,
-      length-symbols_encoding c.symbols,
-    )
 
 -- what is read from bytes has no more than these
 pub read_size : (bytes : List ℕ) (c : Contents) → decode bytes ≡ Ok c → length (encoding c) ≤ length bytes
