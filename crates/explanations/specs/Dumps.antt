@@ -4,7 +4,7 @@
 -- first, as they are in the file. Labels are before their row. Rows without labels that are the same as the row before them are not
 -- shown, and a remark counts them.
 use Rattle.std.specs.Prelude.{ℕ, ◌+◌, ◌-◌, ◌*◌, ◌/◌, ◌%◌, Bool, ◌&&◌, nat_le, nat_lt, eqb, bytes_eq, if◌then◌else◌, List, [], ◌∷◌, ◌++◌}
-use Rattle.std.specs.Prelude.{length, slice_index, codes}
+use Rattle.std.specs.Prelude.{length, slice_index, codes, decimal}
 use Rattle.std.specs.List.{flat_map}
 use Rattle.aout_core.specs.{Addresses.data_start_in, Contents.Contents}
 use Rattle.aout_core.specs.{declared.symbol.Symbol.Symbol, declared.symbol.Segment.Segment}
