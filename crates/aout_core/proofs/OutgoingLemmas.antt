@@ -48,3 +48,17 @@ put_at_last (Ok x) a b d waiting text (sent, split, first) second =
     subst (Appends a d) (sym split) (Appends-trans a b d sent waiting first second)
 put_at_last (Err e) a b d waiting text (sent, split, first) (front, rest, cut, second) =
     (sent ++ front, rest, split ∙ ap (λ l. sent ++ l) cut ∙ sym (append_assoc sent front rest), Appends-trans a b d sent front first second)
+
+-- what waited and a text went out, and then the answer says what was made of more
+pub puts_then : {T E : Type 0} (r : Result T E) (a b d : Option (List ℕ)) (old waiting left first second all : List ℕ) →
+    all ≡ first ++ second → AppendsBut a b waiting (old ++ first) → PutsBut r b d left (waiting ++ second) → PutsBut r a d left (old ++ all)
+puts_then r a b d old waiting left first second all e before after =
+    subst (PutsBut r a d left) (append_assoc old first second ∙ ap (λ l. old ++ l) (sym e))
+    (puts_but_more r a b d waiting left (old ++ first) second before after)
+
+-- or that broke off
+pub broke_then : {T E : Type 0} (r : Result T E) (a b : Option (List ℕ)) (old waiting first second all : List ℕ) →
+    all ≡ first ++ second → IsErr r → AppendsPrefix a b (old ++ first) → PutsBut r a b waiting (old ++ all)
+broke_then r a b old waiting first second all e wrong broke =
+    broke_off r a b waiting (old ++ all) wrong
+    (broke_before a b (old ++ all) (old ++ first) second (ap (λ l. old ++ l) e ∙ sym (append_assoc old first second)) broke)

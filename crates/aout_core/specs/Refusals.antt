@@ -1,5 +1,4 @@
 -- Requests for memory that were refused.
-use Rattle.std.specs.declared.alloc.AllocError.{AllocError}
 use Rattle.aout_core.specs.declared.refused.Refused.{Refused}
 
 -- that a request was refused; nothing else is known of it

@@ -4,3 +4,4 @@ pub mod Blocks
 pub mod Rows
 pub mod ReadParts
 pub mod Items
+pub mod Fronts
