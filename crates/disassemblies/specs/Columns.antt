@@ -47,13 +47,17 @@ again_text times = codes ": the row before, " ++ times_text times ++ codes "\n"
 abbrev pub rows_again : ℕ → ℕ → List ℕ
 rows_again place times = range (2 * place) (2 * (place + times - 1)) ++ again_text times
 
--- the rows of so many words 0
-abbrev pub zero_rows : Decoder → Contents → ℕ → ℕ → List ℕ
-zero_rows d c place n = row d c place 1 ++ rows_again (place + 1) (n - 1)
+-- how many of so many words have columns: of more than eight words 0 the first
+abbrev pub row_words : ℕ → ℕ
+row_words n = if nat_lt 8 n then 1 else n
+
+-- and a remark counts the others
+abbrev pub others : ℕ → ℕ → List ℕ
+others place n = if nat_lt 8 n then rows_again (place + 1) (n - 1) else []
 
 -- the rows of so many words, which are one line, or more than eight words 0
 unfoldable pub rows : Decoder → Contents → ℕ → ℕ → List ℕ
-rows d c place n = if nat_lt 8 n then zero_rows d c place n else row d c place n
+rows d c place n = row d c place (row_words n) ++ others place n
 
 abbrev pub labelled_rows : Decoder → Contents → ℕ → ℕ → List ℕ
 labelled_rows d c place n = labels c.symbols TextSeg (2 * place) n ++ rows d c place n

@@ -8,7 +8,7 @@ ghost use Rattle.instructions.specs.Lines.{words_of};
 ghost use Rattle.disassemblies.specs.Listed.{listed_line};
 ghost use Rattle.disassemblies.specs.Labels.{labels};
 ghost use Rattle.disassemblies.specs.Remarks.{remarked_text};
-ghost use Rattle.disassemblies.specs.Columns.{word_column, columns, rest_row, row_of, row, range, times_text, again_text, rows_again, zero_rows, rows, labelled_rows, disassembly, plain_row, plain_disassembly};
+ghost use Rattle.disassemblies.specs.Columns.{word_column, columns, rest_row, row_of, row, range, times_text, again_text, rows_again, row_words, others, rows, labelled_rows, disassembly, plain_row, plain_disassembly};
 
 use crate::label::put_labels;
 use crate::line::put_text_of;
@@ -188,19 +188,21 @@ fn put_rows_again(text: &mut Text, place: usize, times: usize)
     put_again(text, times as u32);
 }
 
-/// Appends the row of a word 0, and that so many words are.
-fn put_zeros(text: &mut Text, at: &PlacedLine<'_>, count: usize)
-    requires within { at.now.place + count ≤ length at.now.file.now.text_words }
-    requires line { at.now.line ≡ listed_line at.now.decoder at.now.file.now at.now.place }
-    requires more { 2 ≤ count }
-    ensures { Puts text.old text.new
-        (zero_rows at.now.decoder at.now.file.now at.now.place count) }
+/// How many of so many words have columns.
+fn row_words(count: usize) -> usize
+    ensures { result ≡ row_words count }
 {
-    let end = at.file.file().text_words().len();
-    let is_inside = at.place + count <= end;
-    prove!(is_inside);
-    put_row(text, at, 1);
-    put_rows_again(text, at.place + 1, count - 1);
+    if count > 8 { 1 } else { count }
+}
+
+/// Appends a remark that counts the others, if there are any.
+fn put_others(text: &mut Text, place: usize, count: usize)
+    requires { place + count ≤ 100000 }
+    ensures { Puts text.old text.new (others place count) }
+{
+    if count > 8 {
+        put_rows_again(text, place + 1, count - 1);
+    }
 }
 
 /// Appends the rows of so many words, which are one line, or more than eight words 0.
@@ -211,11 +213,11 @@ fn put_shown(text: &mut Text, at: &PlacedLine<'_>, count: usize)
     requires some { 1 ≤ count }
     ensures { Puts text.old text.new (rows at.now.decoder at.now.file.now at.now.place count) }
 {
-    if count > 8 {
-        put_zeros(text, at, count);
-    } else {
-        put_row(text, at, count);
-    }
+    let end = at.file.file().text_words().len();
+    let is_inside = at.place + count <= end;
+    prove!(is_inside);
+    put_row(text, at, row_words(count));
+    put_others(text, at.place, count);
 }
 
 /// Appends the same with the labels of these words before them.
