@@ -1,6 +1,6 @@
 -- A stable sort puts a list in the order that insertion gives it.
-use Rattle.std.proofs.Common.{◌≡◌, ℕ, suc, ◌<◌, ◌≤◌, Bool, true, false, true≢false, not, ◌&&◌, cond, List, [], ◌∷◌, length, get_or, filter}
-use Rattle.std.proofs.Common.{refl, sym, ap, ◌∙◌, arith, inl, inr}
+use Rattle.std.proofs.Common.{rules, ◌≡◌, ℕ, suc, ◌<◌, ◌≤◌, Bool, true, false, true≢false, not, ◌&&◌, cond, List, [], ◌∷◌, length, get_or}
+use Rattle.std.proofs.Common.{filter, refl, sym, ap, ◌∙◌, arith, inl, inr}
 use Rattle.std.proofs.{lemmas.Bool.cond-true, lemmas.Bool.cond-false, lemmas.Bool.cases_Bool, lemmas.List.Sorted.sorted_far}
 use Rattle.std.specs.{List.Sorted.ties, List.Sorted.IsSortedBy, List.Sorted.IsStableBy, Cmp.IsStrictWeakOrder}
 use Rattle.symtools.specs.NmLists.{inserted, in_order}
@@ -13,9 +13,8 @@ module _ {X : Type 0} where
   filter-dropped p y ys h = cond-false _ _ _ h
 
 neither : (a b : Bool) → not a && not b ≡ true → (a ≡ false) × (b ≡ false)
-neither true b h = absurd (true≢false (sym h))
-neither false true h = absurd (true≢false (sym h))
 neither false false h = (refl, refl)
+neither _ _ h = absurd (true≢false (sym h))
 
 both-false : (a b : Bool) → a ≡ false → b ≡ false → not a && not b ≡ true
 both-false a b p q = ap (λ c. not c && not b) p ∙ ap not q
@@ -79,26 +78,7 @@ module _ {X : Type 0} (lt : X → X → Bool) (order : IsStrictWeakOrder lt) whe
   filter-inserted : (x y : X) (ys : List X) → filter (ties lt x) (inserted lt y ys) ≡ filter (ties lt x) (y ∷ ys)
   filter-inserted x y [] = refl
   filter-inserted x y (z ∷ zs) =
-      let p = ties lt x in
-      elim (cases_Bool (lt z y)) [
-        | inr stays ↦ ap (filter p) (cond-false _ _ _ stays)
-        | inl past ↦
-            ap (filter p) (cond-true _ _ _ past)
-            ∙ elim (cases_Bool (p z)) [
-              | inr without ↦
-                  filter-dropped p z (inserted lt y zs) without ∙ filter-inserted x y zs
-                  ∙ ap (λ l. cond (p y) (y ∷ l) l) (sym (filter-dropped p z zs without))
-              | inl with ↦
-                  elim (cases_Bool (p y)) [
-                    | inl both ↦
-                        absurd (true≢false (sym past
-                        ∙ order.chain z x y (neither (lt x z) (lt z x) with).1 (neither (lt x y) (lt y x) both).0))
-                    | inr only ↦
-                        filter-kept p z (inserted lt y zs) with ∙ ap (λ l. z ∷ l) (filter-inserted x y zs ∙ filter-dropped p y zs only)
-                        ∙ sym (filter-dropped p y (z ∷ zs) only ∙ filter-kept p z zs with)
-                  ]
-            ]
-      ]
+      search (rules, cases_Bool, cond-false, cond-true, filter-dropped, neither, filter-kept, (filter-inserted x y zs))
 
   filter-in_order : (x : X) (xs : List X) → filter (ties lt x) (in_order lt xs) ≡ filter (ties lt x) xs
   filter-in_order x [] = refl
@@ -127,14 +107,7 @@ module _ {X : Type 0} (lt : X → X → Bool) (order : IsStrictWeakOrder lt) whe
       let down = found y z (y ∷ ys) z _ (itself y, left.0) (same z ∙ at_z) in
       let heads = sym at_y ∙ same y ∙ filter-kept (ties lt y) z zs (both-false (lt y z) (lt z y) up down) in
       let head : y ≡ z = cc in
-      let tails : (x : X) → filter (ties lt x) ys ≡ filter (ties lt x) zs =
-      λ x. elim (cases_Bool (ties lt x y)) [
-        | inl with ↦
-            let both = sym (filter-kept (ties lt x) y ys with) ∙ same x
-            ∙ filter-kept (ties lt x) z zs (ap (ties lt x) (sym head) ∙ with) in cc
-        | inr without ↦
-            sym (filter-dropped (ties lt x) y ys without) ∙ same x ∙ filter-dropped (ties lt x) z zs (ap (ties lt x) (sym head) ∙ without)
-      ] in
+      let tails : (x : X) → filter (ties lt x) ys ≡ filter (ties lt x) zs = search rules in
       ap (λ w. w ∷ ys) head ∙ ap (λ l. z ∷ l) (same-lists ys zs left.1 right.1 tails)
 
   pub in_order-from_sort : (xs ys : List X) → IsSortedBy lt ys → IsStableBy lt xs ys → ys ≡ in_order lt xs

@@ -1,5 +1,5 @@
 -- The texts of nm and size, file by file.
-use Rattle.std.proofs.Common.{◌≡◌, ◌≢◌, ℕ, ◌+◌, ◌<◌, List, [], ◌∷◌, ◌++◌, length, take, drop, filter, slice_index_or, Option, String}
+use Rattle.std.proofs.Common.{rules, ◌≡◌, ◌≢◌, ℕ, ◌+◌, ◌<◌, List, [], ◌∷◌, ◌++◌, length, take, drop, filter, slice_index_or, Option, String}
 use Rattle.std.proofs.Common.{string_bytes, ap, sym, ◌∙◌, subst, take-append-drop}
 use Rattle.std.proofs.{lemmas.List.length-map, lemmas.List.map-append, lemmas.List.drop_more, lemmas.List.Folds.flat_map-map}
 use Rattle.std.specs.{List.flat_map, Io.KnownBytes.Appends}
@@ -44,9 +44,7 @@ module _ {A : Type 0} where
         front = by_bytes (take i files);
         last = (string_bytes item.0, item.1);
         rest = by_bytes (drop (i + 1) files);
-        order =
-            ap by_bytes split ∙ map-append (λ (f : String A × Contents). (string_bytes f.0, f.1)) (take i files)
-            (item ∷ drop (i + 1) files);
+        order = search (rules, map-append);
         shows = shows;
         sent = subst (Appends a b) (by-count (λ n f. file_lines o n f.0 f.1) files (take i files)) sent;
       }

@@ -1,7 +1,6 @@
-use Rattle.std.proofs.Common.{◌≡◌, ℕ, suc, zero, ◌<◌, Bool, true, false, cond, List, [], ◌∷◌, length, slice_index_or, filter, sym, ap, ◌∙◌}
-use Rattle.std.proofs.Common.{arith}
+use Rattle.std.proofs.Common.{rules, ◌≡◌, ℕ, suc, zero, ◌<◌, Bool, true, false, cond, List, [], ◌∷◌, length, slice_index_or, filter, sym}
+use Rattle.std.proofs.Common.{◌∙◌, arith}
 use Rattle.std.proofs.{lemmas.Bool.cond-true, lemmas.Grind.common_steps, lemmas.Result.MatchResult-from_err}
-use Rattle.symtools.specs.NmLists.{is_shown}
 use Rattle.symtools.proofs.listing.kept.Goals as goal
 
 -- something is kept where one item passes
@@ -16,11 +15,7 @@ one_kept p (x ∷ xs) (suc i) d within passes none = by_test (p x) (one_kept p x
     by_test false some none = some none
 
 pub returns-in_err-push-clause-shows : goal.returns-in_err-push-clause-shows
-returns-in_err-push-clause-shows c =
-    let passes = sym (ap (is_shown c.args.options) c.symbol-item.is) ∙ sym c.is_shown.ensures ∙ c.if-is_shown.true in
-    MatchResult-from_err c.from_residual.result _ _ c.from_residual.ensures.0
-    (λ fault. one_kept (is_shown c.args.options) c.args.table.now c.loop-symbol.symbol-index c.symbol-item.result
-    c.loop-symbol-test.true passes)
+returns-in_err-push-clause-shows c = search (rules, MatchResult-from_err, one_kept)
 
 pub loop-symbol-preserved : goal.loop-symbol-preserved
 loop-symbol-preserved c = grind (arith, common_steps)

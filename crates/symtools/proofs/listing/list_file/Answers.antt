@@ -10,10 +10,7 @@ pub returns-in_err-symbols-clause-memory : goal.returns-in_err-symbols-clause-me
 returns-in_err-symbols-clause-memory g c = search rules
 
 pub returns-in_err-put_heading-clause-bytes : goal.returns-in_err-put_heading-clause-bytes
-returns-in_err-put_heading-clause-bytes g c =
-    let heading = subst (AppendsPrefix _ _) (ap (λ (path : List ℕ). if c.args.is_headed then path ++ 58 ∷ 10 ∷ [] else [])
-    c.deref.ensures) c.in_err-put_heading.ensures.bytes in
-    put_broke_off _ _ _ _ (search rules) (front_before _ _ _ _ heading)
+returns-in_err-put_heading-clause-bytes g c = search (rules, put_broke_off, front_before)
 
 pub returns-in_err-put_lines-clause-bytes : goal.returns-in_err-put_lines-clause-bytes
 returns-in_err-put_lines-clause-bytes g c =
@@ -27,8 +24,7 @@ returns-in_err-put_lines-clause-bytes g c =
     let lines = subst (AppendsPrefix _ _)
     (λ i. flat_map (λ (s : Symbol). (if o.each_line then path i ++ 58 ∷ [] else []) ++ symbol_line s) (shown i))
     c.in_err-put_lines.ensures.bytes in
-    put_broke_off c.from_residual-in_err-put_lines.result _ _ _ c.from_residual-in_err-put_lines.ensures.0
-    (front_after _ _ _ _ _ heading lines)
+    search (rules, put_broke_off, front_after)
 
 pub returns-clause-bytes : goal.returns-clause-bytes
 returns-clause-bytes g c =

@@ -1,5 +1,4 @@
-use Rattle.std.proofs.Common.{rules, ◌++◌, ◌∷◌, [], if◌then◌else◌, nat_lt, length, subst, take_all, ap, ◌∙◌}
-use Rattle.std.specs.{List.flat_map, Io.KnownBytes.Appends}
+use Rattle.std.proofs.Common.{rules, ◌++◌, ◌∷◌, [], if◌then◌else◌, nat_lt, length, subst, take_all}
 use Rattle.aout_core.specs.Wires.{AppendsPrefix}
 use Rattle.symtools.specs.SizeLines.{size_line}
 use Rattle.aout_core.proofs.PutsLemmas.{front_of_row, writes_in_part}
@@ -19,23 +18,10 @@ returns-in_err-put_size-clause-written g c =
     c.loop-path-test.true c.loop-path-item.is c.loop-path.invariant.1 entry))
 
 pub loop-path-preserved : goal.loop-path-preserved
-loop-path-preserved g c =
-    let files = c.args.files.now in
-    let path = c.deref.ensures in
-    let header = c.header.ensures.value in
-    let entry = subst (Appends _ _) (λ i. (if nat_lt 1 (length files) then path i ++ 58 ∷ 32 ∷ [] else [])
-    ++ size_line (header i) ++ 10 ∷ []) c.in_ok-put_size.ensures.bytes in (
-      search rules,
-      row_more (sized (length files)) files c.loop-path.path-index c.loop-path-item.result _ _ _ c.loop-path-test.true
-          c.loop-path-item.is c.loop-path.invariant.1 entry,
-    )
+loop-path-preserved g c = search (rules, row_more, sized)
 
 pub returns-clause-written : goal.returns-clause-written
 returns-clause-written g c =
     let files = c.args.files.now in
     let all = take_all c.loop-path.path-index files c.loop-path-test.false in
-    record {
-      fault = search rules;
-      latched = search rules;
-      bytes = subst (Appends _ _) (ap (flat_map (sized (length files))) all ∙ size_text-sized files) c.loop-path.invariant.1;
-    }
+    search (rules, sized, size_text-sized)
