@@ -1,4 +1,5 @@
 -- Each place of a program of clean objects that control reaches is a reached place of one of them.
+use Rattle.std.proofs.Common.{rules}
 use Rattle.instructions.proofs.LineLemmas.{from_place}
 use Rattle.std.proofs.Common.{◌≡◌, ◌≢◌, ℕ, zero, suc, ◌+◌, ◌*◌, ◌/◌, ◌%◌, ◌<◌, ◌≤◌, inl, inr, Bool, true, false, ◌||◌, ◌&&◌, not, eqb}
 use Rattle.std.proofs.Common.{if◌then◌else◌, List, [], ◌∷◌, ◌++◌, length, map, drop, Option, Some, None, refl, sym, ◌∙◌, ap, subst, arith}
@@ -53,18 +54,12 @@ use Rattle.instructions.specs.declared.operand.Operand.TheVariants as operands
 shows : (f : Symbol → Option ℕ) (more : List (Option ℕ)) (ss : List Symbol) (n j : ℕ) (s : Symbol) → slice_get ss n ≡ Some s →
     is_place j (f s) ≡ true → list_any (is_place j) (map f ss ++ more) ≡ true
 shows f more [] n j s e h = absurd cc
-shows f more (t ∷ ss) zero j s e h =
-    let same : t ≡ s = same_Some t s e in
-    or_left (is_place j (f t)) (list_any (is_place j) (map f ss ++ more)) (ap (λ (u : Symbol). is_place j (f u)) same ∙ h)
+shows f more (t ∷ ss) zero j s e h = search rules
 shows f more (t ∷ ss) (suc n) j s e h =
     or_right (is_place j (f t)) (list_any (is_place j) (map f ss ++ more)) (shows f more ss n j s e h)
 
 named_at : (k : Contents) (s : Symbol) (j : ℕ) → is_text s ≡ true → s.value ≡ 2 * j → is_place j (named Promise k s) ≡ true
-named_at k s j text even = by (is_text s) text
-  where
-    by : (t : Bool) → t ≡ true → is_place j (if t && true then Some s.value else None) ≡ true
-    by true e = place_is j s.value even
-    by false e = absurd cc
+named_at k s j text even = search rules
 
 symbol_reached : (k : Contents) (n j : ℕ) (s : Symbol) → slice_get k.symbols n ≡ Some s → is_text s ≡ true → s.value ≡ 2 * j →
     j < length k.text_words → IsReached Promise k j
@@ -102,27 +97,11 @@ one_bit n false e = (λ h. absurd cc, λ h is. let bad : true ≡ false = sym (e
 
 own_distance : (r : Reloc) → kind_said Relative r ≡ Some kinds.TextSeg → (is_relocated (Some r) ≡ true → is_pc_relative r ≡ true) →
     is_own_distance (Some r) ≡ true
-own_distance r said bit = by (eqb (r.0 % 16) 0) refl said
-  where
-    by : (t : Bool) → eqb (r.0 % 16) 0 ≡ t → (if not t then kind_of r else Some kinds.TextSeg) ≡ Some kinds.TextSeg →
-        (eqb (r.0 % 16) 0 || eqb (r.0 % 16) 3) ≡ true
-    by true e h = or_left (eqb (r.0 % 16) 0) (eqb (r.0 % 16) 3) e
-    by false e h =
-        let kind = text_number (r.0 / 2 % 8) h in
-        let pc = (one_bit (r.0 % 2) true (bit (ap not e))).0 refl in
-        or_right (eqb (r.0 % 16) 0) (eqb (r.0 % 16) 3) (eq-eqb (r.0 % 16) 3 (omega arith))
+own_distance r said bit = search rules
 
 own_address : (r : Reloc) → kind_said Absolute r ≡ Some kinds.TextSeg → (is_relocated (Some r) ≡ true → is_pc_relative r ≡ false) →
     is_own_address (Some r) ≡ true
-own_address r said bit = by (eqb (r.0 % 16) 0) refl said
-  where
-    by : (t : Bool) → eqb (r.0 % 16) 0 ≡ t → (if not t then kind_of r else Some kinds.Absolute) ≡ Some kinds.TextSeg →
-        eqb (r.0 % 16) 2 ≡ true
-    by true e h = absurd cc
-    by false e h =
-        let kind = text_number (r.0 / 2 % 8) h in
-        let pc = (one_bit (r.0 % 2) false (bit (ap not e))).1 refl in
-        eq-eqb (r.0 % 16) 2 (omega arith)
+own_address r said bit = search rules
 
 leads_if : (t : Bool) (n m : ℕ) → t ≡ true → n ≡ m → (if t then Some n else None) ≡ Some m
 leads_if true n m e is = ap (λ (v : ℕ). Some v) is
@@ -149,10 +128,7 @@ own_jump_of : (k : Contents) (place : ℕ) (x : Option Operand) (word : Option �
     addressing_of x ≡ Some way → IsDirect way → slice_get k.text_reloc place ≡ Some r → kind_said way r ≡ Some kinds.TextSeg →
     (is_relocated (Some r) ≡ true → is_pc_relative r ≡ counts_from_pc way) →
     jump_of k place x word ≡ Some (machine_value way (2 * place + 2) (number word))
-own_jump_of k place (Some (operands.General m register)) word way r small mode direct at said bit =
-    ap (λ (o : Option Reloc). jump_by o (2 * place + 2) (number word) (addressing m register)) at
-    ∙ ap (λ (o : Option Addressing). jump_by (Some r) (2 * place + 2) (number word) o) mode
-    ∙ jumps_own r (2 * place + 2) (number word) small way direct said bit
+own_jump_of k place (Some (operands.General m register)) word way r small mode direct at said bit = search rules
 own_jump_of k place _ word way r small mode direct at said bit = absurd cc
 
 not_immediate : (way : Addressing) → IsDirect way → is_immediate way ≡ true → ⊥
@@ -206,28 +182,14 @@ module _ (forced : List (List ℕ)) (os : List Contents) (o : Choices) (x : Outc
   -- the end of a text is the beginning of the next one, or it is the end of the program
   starts_next : (before after : List Contents) (q : ℕ) → os ≡ before ++ after → 2 * q ≡ total TextSeg before →
       q < length x.file.text_words → IsAt os q
-  starts_next before [] q all at below =
-      let sum : total TextSeg os ≡ total TextSeg before = ap (λ (ys : List Contents). total TextSeg ys) (all ∙ append-nil before) in
-      absurd (omega (arith, l.holds.text_words))
+  starts_next before [] q all at below = search rules
   starts_next before (k ∷ after) q all at below =
       by (length k.text_words) refl
       (λ e. starts_next (before ++ k ∷ []) after q (all ∙ sym (append_assoc before (k ∷ []) after)) e below)
     where
       by : (n : ℕ) → length k.text_words ≡ n → (2 * q ≡ total TextSeg (before ++ k ∷ []) → IsAt os q) → IsAt os q
-      by zero e next =
-          let size = (objects before k after all).1.0.fits.text in
-          let sum : total TextSeg (before ++ k ∷ []) ≡ total TextSeg before + (0 + k.header.text_size) =
-          sum_by-append (size_of TextSeg) before (k ∷ []) in
-          next (omega (arith, at, sum, size, e))
-      by (suc n) e next = record {
-        before = before;
-        k = k;
-        after = after;
-        all = all;
-        i = 0;
-        at = omega (arith, at);
-        reached = beginning_reached k (omega (arith, e));
-      }
+      by zero e next = search (rules, objects, sum_by-append)
+      by (suc n) e next = search (rules, beginning_reached)
 
   -- a symbol of text is at a reached place, if it is at a place of the program
   symbol_at : (s : TextSymbol os) (place address : ℕ) → address ≡ total TextSeg s.before + s.symbol.value →
@@ -252,18 +214,7 @@ module _ (forced : List (List ℕ)) (os : List Contents) (o : Choices) (x : Outc
   -- and defines its name
   symbol_defines : (s : TextSymbol os) (name : List ℕ) → is_external s.symbol ≡ true → s.symbol.name ≡ name →
       Defines s.k name TextSeg s.symbol.value
-  symbol_defines s name outer names =
-      let two : masked_type s.symbol ≡ 2 = eqb-true (masked_type s.symbol) 2 s.is_in_text in
-      record {
-        number = s.number;
-        symbol = s.symbol;
-        is_there = s.is_there;
-        outer = outer;
-        inner = ap (λ (n : ℕ). eqb n 0) two;
-        names = names;
-        is = ap segment_numbered two;
-        value = omega arith;
-      }
+  symbol_defines s name outer names = search rules
 
 module _ (forced : List (List ℕ)) (before : List Contents) (k : Contents) (after : List Contents) (o : Choices) (x : Outcome)
     (good : AllByRecursion IsObject (before ++ k ∷ after)) (clean : IsClean (before ++ k ∷ after) k)
@@ -284,9 +235,7 @@ module _ (forced : List (List ℕ)) (before : List Contents) (k : Contents) (aft
       let b = sure_places_begin Promise k clean.quiet i sure own in
       record {
         begins = b;
-        kept =
-            reached_instructions_kept forced before k after o x good clean.words Promise clean.quiet l i sure b.w b.following b.here
-            b.instruction b.is b.whole;
+        kept = search (rules, reached_instructions_kept, sure);
       }
 
   -- to another place of the object, or to the beginning of the next text
@@ -337,11 +286,7 @@ module _ (forced : List (List ℕ)) (before : List Contents) (k : Contents) (aft
         let same : said.operand.word ≡ v.0 =
         one_word x.file of_instructions (0 + 2 * (total TextSeg before / 2 + by.place)) said.operand.word v.0
         (subst (λ (n : ℕ). IsWordAt x.file of_instructions n said.operand.word) at said.operand.is_there) there in
-        let found : number by.word ≡ v.0 = ap number (by.there ∙ v.1) in
-        let next : said.operand.address + 2 ≡ 2 * (total TextSeg before / 2 + by.place) + 2 = omega (arith, at) in
-        ap (λ (n : ℕ). machine_value by.goes.way n said.operand.word) next
-        ∙ ap (λ (n : ℕ). machine_value by.goes.way (2 * (total TextSeg before / 2 + by.place) + 2) n) (same ∙ sym found)
-        ∙ by.goes.value
+        search rules
 
     meant : (kind : Kind) → kind_said by.goes.way said.operand.r ≡ Some kind → kind_meant by.goes.way said.operand.r ≡ Some kind
     meant kind e = said.meant ∙ sym said.said ∙ e
@@ -354,12 +299,7 @@ module _ (forced : List (List ℕ)) (before : List Contents) (k : Contents) (aft
     to_own_text : RefersToOwnText k by.goes.way by.place said.operand.r → IsAt (before ++ k ∷ after) q
     to_own_text own_text =
         let e = own_text.kind in
-        let own : IsOwnByte k (kind_meant by.goes.way said.operand.r) in_object TextSeg in_object = record {
-          meant = kinds.TextSeg;
-          is = meant kinds.TextSeg e;
-          segment = refl;
-          byte = value_small by.goes.way (2 * by.place + 2) said.operand.w;
-        } in
+        let own : IsOwnByte k (kind_meant by.goes.way said.operand.r) in_object TextSeg in_object = search (rules, meant, value_small) in
         let there = said.operand.segments TextSeg in_object own in
         let same : number by.own_word ≡ said.operand.w = ap number (by.here ∙ said.operand.word_in) in
         let narrow : number by.own_word < 65536 =
@@ -371,9 +311,7 @@ module _ (forced : List (List ℕ)) (before : List Contents) (k : Contents) (aft
         let low : in_object ≤ 2 * length k.text_words = own_text.inside said.operand.w said.operand.word_in in
         let whole = even forced (before ++ k ∷ after) o x good l small before k after refl in
         let inside = ends_within forced (before ++ k ∷ after) o x good l small before k after refl in
-        let sum : 2 * (total TextSeg before / 2) + in_object ≡ 2 * q =
-        own_sum (total TextSeg before) in_object there.address (length k.text_words) (length x.file.text_words) q low whole inside
-        (file_fits forced (before ++ k ∷ after) o x good l small) there.place.sum (sym value ∙ there.is) in
+        let sum : 2 * (total TextSeg before / 2) + in_object ≡ 2 * q = search (rules, own_sum, file_fits, value) in
         let half : in_object ≡ 2 * (in_object / 2) = omega (arith, sum) in
         within_object q below (Machine (decoded instruction f)) line (record {
           j = in_object / 2;
@@ -444,9 +382,7 @@ module _ (forced : List (List ℕ)) (before : List Contents) (k : Contents) (aft
           | inl own ↦ within_object q below (Machine (decoded instruction f)) here own
           | inr by ↦ jump_arrives q below instruction w f at_object is uncut here by
         ]
-    by_lines (Ends w there) =
-        let none : false ≡ true = subst (λ (line : UnixLine). list_any (is_place q) (leads_by Flow (stripped x.file) p line) ≡ true) there led in
-        absurd cc
+    by_lines (Ends w there) = search rules
 
     pub leads_there : IsAt (before ++ k ∷ after) q
     leads_there =
@@ -510,17 +446,7 @@ module _ (forced : List (List ℕ)) (os : List Contents) (o : Choices) (x : Outc
           (subst (λ (n : ℕ). list_any (is_place p) (leads_to Flow (stripped x.file) n) ≡ true) a.at led)
 
   of_object : (place : ℕ) → IsAt os place → IsOfObject o x l.rows os place
-  of_object place a = record {
-    before = a.before;
-    k = a.k;
-    after = a.after;
-    all = a.all;
-    i = a.i;
-    at = a.at;
-    reached = a.reached;
-    instruction =
-        kept_from forced os o x a.before a.k a.after a.all good (clean_in a.before a.k a.after a.all) kept l once small a.i a.reached;
-  }
+  of_object place a = search (rules, kept_from, clean_in)
 
 -- for `clean_law`: control reaches only reached places of the objects, with their instructions
 pub clean_objects : CleanObjectsMakeCleanPrograms

@@ -1,4 +1,5 @@
 -- The rows of the externals, as the relation of linking tells them, stand once each among the symbols that nm lists.
+use Rattle.std.proofs.Common.{rules}
 use Rattle.std.proofs.Common.{◌≡◌, ◌≢◌, ℕ, ◌+◌, Bool, true, false, cond, not, ◌&&◌, ◌||◌, eqb, List, [], ◌∷◌, ◌++◌, map, filter, Some, refl}
 use Rattle.std.proofs.Common.{sym, ◌∙◌, ap, subst, arith}
 use Rattle.std.proofs.{lemmas.Bool.and_parts, lemmas.List.Elements.filter-append, lemmas.Slice.Eq.bytes_eq-Decides}
@@ -35,9 +36,7 @@ module _ (h : Header) (os : List Contents) (o : Choices) where
           (cond t (s ∷ filter (is_kept_local o.keep) ss) (filter (is_kept_local o.keep) ss))) ≡ []
       by_tests e se false kt rest = rest
       by_tests false se true kt rest = rw se rest
-      by_tests true se true kt rest =
-          let no : not (is_external s) ≡ true = (and_parts _ _ kt).0 in
-          absurd (let bad : not true ≡ true = (rw se at no) in cc)
+      by_tests true se true kt rest = search rules
 
   locals_inner : (earlier rest : List Contents) → filter is_external
       (flat_map (λ q. map (moved_local_in h os q.0 q.1) (filter (is_kept_local o.keep) q.1.symbols)) (with_earlier earlier rest)) ≡ []
@@ -66,18 +65,7 @@ module _ (h : Header) (bss : ℕ) (o : Choices) (at : ℕ) (name : List ℕ) whe
   row_outer (Defined DataSeg offset) = refl
   row_outer (Defined BssSeg offset) = refl
   row_outer (Defined Other offset) = refl
-  row_outer (Wanted size) =
-      by_tests (eqb size 0) o.relocatable o.force_commons (bytes_eq name etext) (bytes_eq name edata) (bytes_eq name end_name)
-    where
-      by_tests : (z r c t d e : Bool) → is_external (wanted_row size z r c t d e) ≡ true
-      by_tests true true c t d e = refl
-      by_tests true false c true d e = refl
-      by_tests true false c false true e = refl
-      by_tests true false c false false true = refl
-      by_tests true false c false false false = refl
-      by_tests false true true t d e = refl
-      by_tests false true false t d e = refl
-      by_tests false false c t d e = refl
+  row_outer (Wanted size) = search rules
 
   row_letter : (st : State) → o.relocatable ≡ false → letter (row_for h bss o at name st) ≡ state_letter name st
   row_letter (Defined Undefined offset) plain = refl
@@ -86,17 +74,7 @@ module _ (h : Header) (bss : ℕ) (o : Choices) (at : ℕ) (name : List ℕ) whe
   row_letter (Defined DataSeg offset) plain = refl
   row_letter (Defined BssSeg offset) plain = refl
   row_letter (Defined Other offset) plain = refl
-  row_letter (Wanted size) plain =
-      by_tests (eqb size 0) o.relocatable plain o.force_commons (bytes_eq name etext) (bytes_eq name edata) (bytes_eq name end_name)
-    where
-      by_tests : (z r : Bool) → r ≡ false → (c t d e : Bool) →
-          letter (wanted_row size z r c t d e) ≡ cond z (cond t 84 (cond d 68 (cond e 66 85))) 66
-      by_tests z true plain c t d e = absurd (cc)
-      by_tests true false plain c true d e = refl
-      by_tests true false plain c false true e = refl
-      by_tests true false plain c false false true = refl
-      by_tests true false plain c false false false = refl
-      by_tests false false plain c t d e = refl
+  row_letter (Wanted size) plain = search rules
 
 -- the row of a name
 
@@ -237,9 +215,7 @@ module _ (forced : List (List ℕ)) (os : List Contents) (o : Choices) (x : Outc
       record {
         row = r.row;
         found = entry_first x.file.symbols name r.row (ap (filter (is_named name)) symbols_are ∙ named_after locals name inner ∙ r.once);
-        once =
-            arranged_one n (filter (is_shown n) x.file.symbols) (is_named name) r.row (ap (filter (is_named name))
-            (passed n u) ∙ named_after (listed_locals n locals) name (listed_inner n.external) ∙ r.once);
+        once = search (rules, arranged_one, passed, named_after, listed_inner);
         state = r.state;
         has = r.has;
         at = at + r.taken;

@@ -147,9 +147,7 @@ pub lines_at : (file k : Contents) (p i w : ℕ) (f g : List ℕ) → drop i k.t
 lines_at file k p i w f g here there more still whole = by (call_by Unix w) refl object program
   where
     object : unix_line_in Unix k i ≡ unix_line (call_by Unix w) k.text_words i
-    object =
-        line_there k i still
-        ∙ ap (λ (v : ℕ). unix_line (call_by Unix v) k.text_words i) (word_at k.text_words i w f here)
+    object = cc (line_there k i still, word_at k.text_words i w f here)
 
     program : unix_line_in Unix (stripped file) p ≡ unix_line (call_by Unix w) file.text_words p
     program = ap (λ (v : ℕ). unix_line (call_by Unix v) file.text_words p) (word_at file.text_words p w g there)

@@ -1,4 +1,5 @@
 -- Lists that are made of blocks, one for each object, where one object is replaced.
+use Rattle.std.proofs.Common.{rules}
 use Rattle.std.proofs.Common.{◌≡◌, ℕ, ◌+◌, List, [], ◌∷◌, ◌++◌, length, refl, sym, ◌∙◌, ap, length-append, append_assoc}
 use Rattle.std.proofs.lemmas.List.Sums.{sum_by-append}
 use Rattle.aout_core.specs.declared.symbol.Segment.TheVariants.{Undefined, Absolute, TextSeg, DataSeg, BssSeg, Other}
@@ -21,17 +22,7 @@ differ_long start count xs ys d =
 -- also with the same elements after them
 pub differ_append : {A : Type 0} (start count : ℕ) (xs ys zs : List A) → DifferAt start count xs ys →
     DifferAt start count (xs ++ zs) (ys ++ zs)
-differ_append {A = A} start count xs ys zs d = record {
-  front = d.front;
-  own = d.own;
-  other = d.other;
-  back = d.back ++ zs;
-  one = ap (λ (ws : List A). ws ++ zs) d.one ∙ grouped d.own;
-  two = ap (λ (ws : List A). ws ++ zs) d.two ∙ grouped d.other;
-  begins = d.begins;
-  counts = d.counts;
-  as_many = d.as_many;
-}
+differ_append {A = A} start count xs ys zs d = search (rules, grouped)
   where
     grouped : (own : List A) → (d.front ++ (own ++ d.back)) ++ zs ≡ d.front ++ (own ++ (d.back ++ zs))
     grouped own = append_assoc d.front (own ++ d.back) zs ∙ ap (λ (ws : List A). d.front ++ ws) (append_assoc own d.back zs)
@@ -56,19 +47,7 @@ module _ {A : Type 0} (f : List Contents → Contents → List A)
   pub replaced : (before : List Contents) (k l : Contents) (after : List Contents) → AreAsLong (k ∷ []) (l ∷ []) → (start count : ℕ) →
       length (blocks f [] before) ≡ start → length (blocks f before (k ∷ [])) ≡ count → length (blocks f before (l ∷ [])) ≡ count →
       DifferAt start count (blocks f [] (before ++ k ∷ after)) (blocks f [] (before ++ l ∷ after))
-  replaced before k l after long start count begins counts as_many = record {
-    front = blocks f [] before;
-    own = blocks f before (k ∷ []);
-    other = blocks f before (l ∷ []);
-    back = blocks f (before ++ l ∷ []) after;
-    one =
-        parted before k after ∙ ap (λ (rest : List A). blocks f [] before ++ (blocks f before (k ∷ []) ++ rest))
-        (after_same before k l after long);
-    two = parted before l after;
-    begins = begins;
-    counts = counts;
-    as_many = as_many;
-  }
+  replaced before k l after long start count begins counts as_many = search (rules, blocks, parted, after_same)
 
   -- and none, if it gives the same
   pub replaced_same : (before : List Contents) (k l : Contents) (after : List Contents) → AreAsLong (k ∷ []) (l ∷ []) →

@@ -1,4 +1,5 @@
 -- The bytes of two linked files that differ in one object.
+use Rattle.std.proofs.Common.{rules}
 use Rattle.std.proofs.Common.{◌≡◌, ℕ, ◌+◌, ◌-◌, ◌*◌, ◌/◌, inl, inr, Bool, true, false, cond, eqb, List, [], ◌∷◌, ◌++◌, length, refl, sym}
 use Rattle.std.proofs.Common.{◌∙◌, ap, subst, arith, length-append}
 use Rattle.std.proofs.{lemmas.Bool.ltb-true, lemmas.Bool.ltb-false, lemmas.List.Concat.flat_map-append}
@@ -22,17 +23,8 @@ use Rattle.laws.proofs.{FrameBlocks.differ_long, FrameLinks.frame_holds}
 -- lists that differ at some places have the same elements beside them
 pub beside_same : {A : Type 0} (start count place : ℕ) (xs ys : List A) → DifferAt start count xs ys →
     IsBeside start count place → slice_get xs place ≡ slice_get ys place
-beside_same {A = A} start count place xs ys d (inl h) =
-    ap (λ (zs : List A). slice_get zs place) d.one
-    ∙ slice_get_front d.front (d.own ++ d.back) place (let n = d.begins in omega arith)
-    ∙ sym (slice_get_front d.front (d.other ++ d.back) place (let n = d.begins in omega arith))
-    ∙ ap (λ (zs : List A). slice_get zs place) (sym d.two)
-beside_same {A = A} start count place xs ys d (inr h) =
-    let n : place ≡ start + (count + (place - (start + count))) = omega arith in
-    ap (λ (zs : List A). slice_get zs place) d.one
-    ∙ at_back d.own d.counts n
-    ∙ sym (at_back d.other d.as_many n)
-    ∙ ap (λ (zs : List A). slice_get zs place) (sym d.two)
+beside_same {A = A} start count place xs ys d (inl h) = search (rules, slice_get_front)
+beside_same {A = A} start count place xs ys d (inr h) = search (rules, at_back)
   where
     at_back : (own : List A) → length own ≡ count → place ≡ start + (count + (place - (start + count))) →
         slice_get (d.front ++ (own ++ d.back)) place ≡ slice_get d.back (place - (start + count))
@@ -45,17 +37,7 @@ beside_same {A = A} start count place xs ys d (inr h) =
 bytes_differ : {A : Type 0} (g : A → List ℕ) (width start count : ℕ) (xs ys : List A) →
     ((zs : List A) → length (flat_map g zs) ≡ width * length zs) → DifferAt start count xs ys →
     DifferAt (width * start) (width * count) (flat_map g xs) (flat_map g ys)
-bytes_differ {A = A} g width start count xs ys wide d = record {
-  front = flat_map g d.front;
-  own = flat_map g d.own;
-  other = flat_map g d.other;
-  back = flat_map g d.back;
-  one = ap (λ (zs : List A). flat_map g zs) d.one ∙ parted d.own;
-  two = ap (λ (zs : List A). flat_map g zs) d.two ∙ parted d.other;
-  begins = wide d.front ∙ ap (λ (n : ℕ). width * n) d.begins;
-  counts = wide d.own ∙ ap (λ (n : ℕ). width * n) d.counts;
-  as_many = wide d.other ∙ ap (λ (n : ℕ). width * n) d.as_many;
-}
+bytes_differ {A = A} g width start count xs ys wide d = search (rules, parted)
   where
     parted : (own : List A) → flat_map g (d.front ++ (own ++ d.back)) ≡ flat_map g d.front ++ (flat_map g own ++ flat_map g d.back)
     parted own = flat_map-append g d.front (own ++ d.back) ∙ ap (λ (bs : List ℕ). flat_map g d.front ++ bs) (flat_map-append g own d.back)
@@ -73,24 +55,15 @@ joined At n xs ys us vs e f g = record {
 }
   where
     by_test : (place : ℕ) → At place → (t : Bool) → nat_lt place n ≡ t → slice_get (xs ++ us) place ≡ slice_get (ys ++ vs) place
-    by_test place at true t =
-        let short = ltb-true place n t in
-        slice_get_front xs us place (omega arith) ∙ f.same place at ∙ sym (slice_get_front ys vs place (let same = f.long in omega arith))
+    by_test place at true t = search (rules, ltb-true, slice_get_front)
     by_test place at false t =
         let past = ltb-false place n t in
         let back : place ≡ n + (place - n) = omega arith in
-        ap (λ (m : ℕ). slice_get (xs ++ us) m) back
-        ∙ slice_get_after xs us n (place - n) e
-        ∙ g.same (place - n) (subst At back at)
-        ∙ sym (slice_get_after ys vs n (place - n) (sym f.long ∙ e))
-        ∙ ap (λ (m : ℕ). slice_get (ys ++ vs) m) (sym back)
+        search (rules, slice_get_after)
 
 differ_so : (At : ℕ → Type 0) (start count : ℕ) (xs ys : List ℕ) → DifferAt start count xs ys →
     ((place : ℕ) → At place → IsBeside start count place) → AreSameAt At xs ys
-differ_so At start count xs ys d beside = record {
-  long = differ_long start count xs ys d;
-  same = λ place at. beside_same start count place xs ys d (beside place at);
-}
+differ_so At start count xs ys d beside = search (rules, differ_long, beside_same)
 
 -- places counted from further on
 moved_back : (a start count s c place : ℕ) → start ≡ a + s → count ≡ c → IsBeside start count (a + place) → IsBeside s c place
@@ -117,11 +90,7 @@ module _ (o : Choices) (before : List Contents) (k : Contents) (x y : Outcome) (
 
   -- half the bytes that relocation takes, twice
   kept_even : (n : ℕ) → 2 * (n / 2) ≡ n → 2 * (with_relocation h n / 2) ≡ with_relocation h n
-  kept_even n e = by_test (eqb h.flag 0)
-    where
-      by_test : (t : Bool) → 2 * (cond t n 0 / 2) ≡ cond t n 0
-      by_test true = e
-      by_test false = refl
+  kept_even n e = search rules
 
   text_even : 2 * (k.header.text_size / 2) ≡ k.header.text_size
   text_even = let e = object.text in omega arith

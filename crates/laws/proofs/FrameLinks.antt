@@ -1,4 +1,5 @@
 -- The link of objects, one of which is replaced by another that may take its place.
+use Rattle.std.proofs.Common.{rules}
 use Rattle.std.proofs.Common.{◌≡◌, ◌≢◌, ℕ, ◌+◌, ◌*◌, ◌/◌, Bool, true, false, cond, ◌&&◌, List, [], ◌∷◌, ◌++◌, map, length, refl, sym, ◌∙◌}
 use Rattle.std.proofs.Common.{ap, subst}
 use Rattle.std.specs.{Prelude.filter, Prelude.nat_lt, Prelude.Result, Prelude.Ok, Prelude.Err, List.flat_map, List.AllByRecursion}
@@ -157,21 +158,10 @@ module _ (forced : List (List ℕ)) (before : List Contents) (k l : Contents) (a
       where
         by_referent : (r : Referent) → referent_bits p os r ≡ referent_bits p ps r
         by_referent (to_segment segment) = refl
-        by_referent (to_name name) =
-            ap (λ (n : ℕ). name_bits (final p name).bound (n + place_of name (names_by_first_mention p.mentions)))
-            (rows_counted forced before k l after o takes.sizes takes.locals)
+        by_referent (to_name name) = cc (rows_counted forced before k l after o takes.sizes takes.locals)
 
     same_header : linked_header p os ≡ linked_header q ps
-    same_header = λ i. record {
-      magic = magic_of o.layout;
-      text_size = as_long k l takes.sizes before after TextSeg i;
-      data_size = as_long k l takes.sizes before after DataSeg i;
-      bss_size = commons_laid o (same_mentions i) + as_long k l takes.sizes before after BssSeg i;
-      symbol_size = 12 * table_counted i;
-      entry_point = entry_word (same_plan i) o.entry;
-      unused = 0;
-      flag = cond o.relocatable 0 1;
-    }
+    same_header = search (rules, as_long, same_mentions, table_counted, same_plan)
 
     made_so : DifferInObject o before k (record { file = linked_file p os; report = report_of p })
         (record { file = linked_file q ps; report = report_of q })
@@ -182,9 +172,7 @@ module _ (forced : List (List ℕ)) (before : List Contents) (k l : Contents) (a
       «data» = words_differ DataSeg tt;
       text_reloc = kept_relocs_differ forced before k l after o takes.sizes takes.locals good object q bits_same TextSeg tt;
       data_reloc = kept_relocs_differ forced before k l after o takes.sizes takes.locals good object q bits_same DataSeg tt;
-      symbols =
-          subst (λ (ss : List Symbol). DifferAt (length (kept_locals o before)) (length (kept_locals o (k ∷ []))) (table p os) ss)
-          (ap (λ (r : Plan). table r ps) same_plan) table_differs;
+      symbols = search (rules, same_plan, table_differs);
     }
 
 -- the links of the objects, and of these with the other in its place

@@ -1,4 +1,5 @@
 -- The parts of a link, where one object is replaced by another of the same sizes, with as many kept locals.
+use Rattle.std.proofs.Common.{rules}
 use Rattle.std.proofs.Common.{◌≡◌, ℕ, ◌+◌, ◌*◌, ◌/◌, ◌%◌, Bool, true, false, cond, not, ◌&&◌, List, [], ◌∷◌, ◌++◌, map, length, refl, sym}
 use Rattle.std.proofs.Common.{◌∙◌, ap, subst, arith}
 use Rattle.std.specs.{Prelude.filter, List.flat_map, List.AllByRecursion}
@@ -42,9 +43,7 @@ value_same b xs ys c h _ value = refl
 
 locals_same : (b : Bases) (keep : Keep) (xs ys : List Contents) (c : Contents) → AreAsLong xs ys →
     locals_of b keep xs c ≡ locals_of b keep ys c
-locals_same b keep xs ys c h = λ i. map (λ (s : Symbol). let t : Symbol = record s {
-  value = value_same b xs ys c h (segment_of s) s.value i;
-} in t) (filter (is_kept_local keep) c.symbols)
+locals_same b keep xs ys c h = search (rules, value_same)
 
 -- no locals are kept with `-s`
 none_in : (ss : List Symbol) → filter (is_kept_local Nothing) ss ≡ []
@@ -59,9 +58,7 @@ none_in (s ∷ ss) = by_test (is_external s) (none_in ss)
 -- a table that keeps nothing has no locals
 pub none_kept : (os : List Contents) → length (flat_map (λ (k : Contents). filter (is_kept_local Nothing) k.symbols) os) ≡ 0
 none_kept [] = refl
-none_kept (k ∷ ks) =
-    ap (λ (ss : List Symbol). length (ss ++ flat_map (λ (c : Contents). filter (is_kept_local Nothing) c.symbols) ks))
-    (none_in k.symbols) ∙ none_kept ks
+none_kept (k ∷ ks) = cc (none_in k.symbols, none_kept ks)
 
 halved : (n t : ℕ) → 2 * n ≡ t → n ≡ t / 2
 halved n t e = omega arith

@@ -1,4 +1,5 @@
 -- What mentions make of names, where one object defines some of them with other values.
+use Rattle.std.proofs.Common.{rules}
 use Rattle.std.proofs.Common.{◌≡◌, ◌⊎◌, inl, inr, ℕ, suc, ◌%◌, max, Bool, true, false, cond, eqb, List, [], ◌∷◌, map, None, refl, sym, ◌∙◌}
 use Rattle.std.proofs.Common.{ap, subst, eqb-true, eq-eqb}
 use Rattle.std.proofs.lemmas.Slice.Eq.{bytes_eq-Decides}
@@ -55,9 +56,7 @@ module _ (at : Segment → ℕ) where
   same_segment s t r = ap (λ (n : ℕ). segment_numbered (n % 0o40)) r.type_bits
 
   near_mention : (s t : Symbol) → IsRevalued s t → AreNear (said_by at s).says (said_by at t).says
-  near_mention s t r =
-      subst (λ (g : Segment). AreNear (said_by at s).says (statement_by at g t.value)) (same_segment s t r)
-      (near_said at (segment_of s) s.value t.value r.undefined)
+  near_mention s t r = search rules
 
   -- symbols with other values mention the same names
   pub names_revalued : (ss ts : List Symbol) → AreRevalued ss ts → names_of (map (said_by at) ss) ≡ names_of (map (said_by at) ts)
@@ -71,26 +70,10 @@ module _ (at : Segment → ℕ) where
   near_states [] [] h name = refl
   near_states [] (t ∷ ts) h name = absurd h
   near_states (s ∷ ss) [] h name = absurd h
-  near_states (s ∷ ss) (t ∷ ts) h name =
-      subst (λ (a : State). AreNear a (state (map (said_by at) (t ∷ ts)) name))
-      (sym (state-append (said_by at s ∷ []) (map (said_by at) ss) name))
-      (subst (λ (b : State). AreNear (updated_state (state (said_by at s ∷ []) name) (state (map (said_by at) ss) name)) b)
-      (sym (state-append (said_by at t ∷ []) (map (said_by at) ts) name))
-      (near_updated (state (said_by at s ∷ []) name) (state (said_by at t ∷ []) name) (state (map (said_by at) ss) name)
-      (state (map (said_by at) ts) name) alone (near_states ss ts h.1 name)))
+  near_states (s ∷ ss) (t ∷ ts) h name = search (rules, state-append, near_updated, alone, (near_states ss ts h.1 name))
     where
       alone : AreNear (state (said_by at s ∷ []) name) (state (said_by at t ∷ []) name)
-      alone =
-          subst (λ (n : List ℕ). AreNear (state (said_by at s ∷ []) name)
-          (state (record { name = n; says = (said_by at t).says } ∷ []) name)) h.0.name (by_test (bytes_eq name s.name))
-        where
-          by_test : (u : Bool) →
-              AreNear (state_by (cond u (first_of (definition_by (said_by at s).says) None) None)
-              (cond u (max (size_wanted_by (said_by at s).says) 0) 0))
-              (state_by (cond u (first_of (definition_by (said_by at t).says) None) None)
-              (cond u (max (size_wanted_by (said_by at t).says) 0) 0))
-          by_test true = near_once (said_by at s).says (said_by at t).says (near_mention s t h.0)
-          by_test false = refl
+      alone = search rules
 
   -- and the same state, unless one of them has another value
   pub same_or_other : (ss ts : List Symbol) → AreRevalued ss ts → (name : List ℕ) →
@@ -113,30 +96,19 @@ module _ (at : Segment → ℕ) where
 
       both : said_by at s ≡ said_by at t → state (map (said_by at) ss) name ≡ state (map (said_by at) ts) name →
           state (map (said_by at) (s ∷ ss)) name ≡ state (map (said_by at) (t ∷ ts)) name
-      both e f =
-          state-append (said_by at s ∷ []) (map (said_by at) ss) name
-          ∙ (λ i. updated_state (state (e i ∷ []) name) (f i))
-          ∙ sym (state-append (said_by at t ∷ []) (map (said_by at) ts) name)
+      both e f = search rules
 
       -- a mention of another name says nothing
       passed : (n : List ℕ) (says : State) (ms : List Mention) → bytes_eq name n ≡ false →
           state (record { name = n; says = says } ∷ ms) name ≡ state ms name
-      passed n says ms e =
-          λ i. state_by (cond (e i) (first_of (definition_by says) (first_definition ms name)) (first_definition ms name))
-          (cond (e i) (max (size_wanted_by says) (wanted_size ms name)) (wanted_size ms name))
+      passed n says ms e = search rules
 
       by_tests : (u : Bool) → bytes_eq name s.name ≡ u → (v : Bool) → eqb s.value t.value ≡ v →
           (state (map (said_by at) ss) name ≡ state (map (said_by at) ts) name) ⊎ HasOtherValue ss ts name →
           (state (map (said_by at) (s ∷ ss)) name ≡ state (map (said_by at) (t ∷ ts)) name) ⊎ HasOtherValue (s ∷ ss) (t ∷ ts) name
       by_tests u ue v ve (inr c) = inr (further c)
-      by_tests false ue v ve (inl e) =
-          inl (passed s.name (said_by at s).says (map (said_by at) ss) ue ∙ e ∙ sym (passed t.name (said_by at t).says
-          (map (said_by at) ts) (ap (λ (n : List ℕ). bytes_eq name n) (sym h.0.name) ∙ ue)))
-      by_tests true ue true ve (inl e) =
-          inl (both (λ i. let m : Mention = record {
-            name = h.0.name i;
-            says = statement_by at (same_segment s t h.0 i) (eqb-true s.value t.value ve i);
-          } in m) e)
+      by_tests false ue v ve (inl e) = search rules
+      by_tests true ue true ve (inl e) = search rules
       by_tests true ue false ve (inl e) =
           inr (record {
             number = 0;

@@ -1,4 +1,5 @@
 -- The link of objects, one of which is replaced by another that defines its names with other values.
+use Rattle.std.proofs.Common.{rules}
 use Rattle.std.proofs.Common.{◌≡◌, ◌≢◌, ◌⊎◌, inl, inr, ℕ, zero, suc, ◌+◌, ◌-◌, ◌*◌, ◌<◌, ◌≤◌, Bool, true, false, cond, not, ◌&&◌, eqb, List}
 use Rattle.std.proofs.Common.{[], ◌∷◌, ◌++◌, map, length, Option, Some, None, refl, sym, ◌∙◌, ap, subst, arith, take, length-append}
 use Rattle.std.proofs.{lemmas.Bool.ltb-true, lemmas.Bool.ltb-false, lemmas.List.length-map}
@@ -129,16 +130,7 @@ module _ (forced : List (List ℕ)) (before : List Contents) (k l : Contents) (a
       by_own (inr c) = inr c
 
   same_names : names_by_first_mention ms ≡ names_by_first_mention ns
-  same_names =
-      ap (λ (ks : List Mention). new_names [] (names_of ks)) own_said
-      ∙ ap (λ (xs : List (List ℕ)). new_names [] xs)
-      (names_of-append front (map (said_by at) (externals_in k) ++ back)
-      ∙ ap (λ (xs : List (List ℕ)). names_of front ++ xs)
-      (names_of-append (map (said_by at) (externals_in k)) back ∙ ap (λ (xs : List (List ℕ)). xs ++ names_of back)
-      (names_revalued at (externals_in k) (externals_in l) takes.externals)
-      ∙ sym (names_of-append (map (said_by at) (externals_in l)) back))
-      ∙ sym (names_of-append front (map (said_by at) (externals_in l) ++ back)))
-      ∙ sym (ap (λ (ks : List Mention). new_names [] (names_of ks)) other_said)
+  same_names = search (rules, own_said, names_of-append, said_by, names_revalued, other_said)
 
   -- the plan but for the mentions
 
@@ -151,9 +143,7 @@ module _ (forced : List (List ℕ)) (before : List Contents) (k l : Contents) (a
       ∙ ap (λ (xs : List (List ℕ)). commons_size ns (take (place_of name xs) xs)) same_names
 
   same_laid : commons_laid o ms ≡ commons_laid o ns
-  same_laid =
-      ap (λ (n : ℕ). cond (lays_commons o) n 0)
-      (same_space (names_by_first_mention ms) ∙ ap (λ (xs : List (List ℕ)). commons_size ns xs) same_names)
+  same_laid = search (rules, same_space, same_names)
 
   same_bases : (plan forced os o).at ≡ (plan forced ps o).at
   same_bases =
@@ -240,10 +230,8 @@ module _ (forced : List (List ℕ)) (before : List Contents) (k l : Contents) (a
           (slice_get (local_rows p os ++ external_rows p) place) (slice_get (local_rows q ps ++ external_rows q) place)
       by_test true e =
           let short = ltb-true place (length (local_rows p os)) e in
-          let same : slice_get (local_rows p os ++ external_rows p) place ≡ slice_get (local_rows q ps ++ external_rows q) place =
-          slice_get_front (local_rows p os) (external_rows p) place short
-          ∙ beside_same start count place (local_rows p os) (local_rows q ps) all_locals_differ beside
-          ∙ sym (slice_get_front (local_rows q ps) (external_rows q) place (subst (λ (n : ℕ). place < n) all_rows_counted short)) in
+          let same : slice_get (local_rows p os ++ external_rows p) place ≡ slice_get (local_rows q ps ++ external_rows q) place = search
+            (rules, slice_get_front, beside_same, all_locals_differ, all_rows_counted) in
           subst (λ (s : Option Symbol). SymbolsStay k l (slice_get (local_rows p os ++ external_rows p) place) s) same
           (stays_self k l (slice_get (local_rows p os ++ external_rows p) place))
       by_test false e =

@@ -1,4 +1,5 @@
 -- The words of the other objects, where one object is replaced by another that defines its names with other values.
+use Rattle.std.proofs.Common.{rules}
 use Rattle.std.proofs.Common.{◌≡◌, ◌≢◌, ◌⊎◌, inl, inr, ℕ, ◌+◌, ◌/◌, cond, List, ◌∷◌, ◌++◌, Option, Some, None, refl, sym, ◌∙◌, ap, subst}
 use Rattle.std.proofs.Common.{arith, append_assoc}
 use Rattle.std.specs.{Prelude.slice_get, Prelude.Ok, List.AllByRecursion}
@@ -54,42 +55,14 @@ module _ (x y : Outcome) (k l m : Contents) (xs ys f g : List Contents)
   added_alike r (Some kinds.TextSeg) e a b h j = inl (h ∙ moves TextSeg ∙ sym j)
   added_alike r (Some kinds.DataSeg) e a b h j = inl (h ∙ moves DataSeg ∙ sym j)
   added_alike r (Some kinds.BssSeg) e a b h j = inl (h ∙ moves BssSeg ∙ sym j)
-  added_alike r (Some kinds.External) e a b h j = by_entry (entries h.symbol.name)
-    where
-      same_symbol : h.symbol ≡ j.symbol
-      same_symbol = inside h.symbol j.symbol (sym h.named ∙ j.named)
-
-      other_found : entry_of y.file.symbols h.symbol.name ≡ Some j.row
-      other_found = ap (λ (s : Symbol). entry_of y.file.symbols s.name) same_symbol ∙ j.found
-
-      by_entry : (entry_of x.file.symbols h.symbol.name ≡ entry_of y.file.symbols h.symbol.name)
-          ⊎ IsRedefined k l h.symbol.name → (a ≡ b) ⊎ FollowsBy r a b
-      by_entry (inl s) = inl (h.gives ∙ ap address_in (inside h.row j.row (sym h.found ∙ s ∙ other_found)) ∙ sym j.gives)
-      by_entry (inr c) = inr (record {
-        kind = e;
-        symbol = h.symbol;
-        named = h.named;
-        redefined = c;
-        row = h.row;
-        other_row = j.row;
-        found = h.found;
-        found_too = other_found;
-        gives = h.gives;
-        gives_too = j.gives;
-      })
+  added_alike r (Some kinds.External) e a b h j = search rules
 
   sums : (w a b c : ℕ) → minus (plus w b) c ≡ minus (plus (minus (plus w a) c) b) a
   sums w a b c = omega arith
 
   pub word_stays : (segment : Segment) (i w : ℕ) (r : Reloc) → IsRelocated x.file x.file.symbols xs f m segment i w r →
       IsRelocated y.file y.file.symbols ys g m segment i w r → WordStays x y k l m segment (total segment f / 2 + i) r
-  word_stays segment i w r h j = record {
-    one = minus (plus w h.added) (cond (is_pc_relative r) (move_in x.file.header xs f m segment) 0);
-    other = minus (plus w j.added) (cond (is_pc_relative r) (move_in y.file.header ys g m segment) 0);
-    is_there = h.word;
-    is_there_too = ap (λ (n : ℕ). slice_get (segment_words segment y.file) (n / 2 + i)) (totals segment) ∙ j.word;
-    same = by_added (added_alike r (kind_of r) refl h.added j.added h.is j.is);
-  }
+  word_stays segment i w r h j = search (rules, by_added, added_alike)
     where
       by_added : (h.added ≡ j.added) ⊎ FollowsBy r h.added j.added →
           (minus (plus w h.added) (cond (is_pc_relative r) (move_in x.file.header xs f m segment) 0)
@@ -97,21 +70,7 @@ module _ (x y : Outcome) (k l m : Contents) (xs ys f g : List Contents)
           ⊎ Follows x y k l m r (minus (plus w h.added) (cond (is_pc_relative r) (move_in x.file.header xs f m segment) 0))
           (minus (plus w j.added) (cond (is_pc_relative r) (move_in y.file.header ys g m segment) 0))
       by_added (inl e) = inl (λ i. minus (plus w (e i)) (cond (is_pc_relative r) (moves segment i) 0))
-      by_added (inr c) = inr (record {
-        kind = c.kind;
-        symbol = c.symbol;
-        named = c.named;
-        redefined = c.redefined;
-        row = c.row;
-        other_row = c.other_row;
-        found = c.found;
-        found_too = c.found_too;
-        differs =
-            (λ i. minus (plus w (c.gives_too i)) (cond (is_pc_relative r) (sym (moves segment) i) 0))
-            ∙ sums w (address_in c.row) (address_in c.other_row) (cond (is_pc_relative r) (move_in x.file.header xs f m segment) 0)
-            ∙ (λ i. minus (plus (minus (plus w (sym c.gives i)) (cond (is_pc_relative r) (move_in x.file.header xs f m segment) 0))
-            (address_in c.other_row)) (address_in c.row));
-      })
+      by_added (inr c) = search (rules, moves, sums)
 
 -- a word of any object of a link, as it stands in the file
 relocated : (forced : List (List ℕ)) (os : List Contents) (o : Choices) (x : Outcome) → AllByRecursion IsObject os →

@@ -1,4 +1,5 @@
 -- An instruction stands in a linked file wherever it begins in an object.
+use Rattle.std.proofs.Common.{rules}
 use Rattle.std.proofs.Common.{◌≡◌, ℕ, ◌+◌, ◌/◌, ◌≤◌, Bool, false, List, [], ◌∷◌, ◌++◌, length, drop, refl, sym, ◌∙◌, ap, subst, arith}
 use Rattle.std.proofs.lemmas.List.{length-drop}
 use Rattle.std.specs.Prelude.{slice_get}
@@ -21,12 +22,7 @@ line_in_by : (P : ℕ → ℕ → ℕ → Type 0) (moves : ℕ → Bool) (i w : 
 line_in_by P moves i w f [] more pairs same still whole = absurd (omega arith)
 line_in_by P moves i w f (v ∷ g) more pairs same still whole =
     let e : v ≡ w = same 0 i w v (omega arith) refl refl still in
-    let tails : length f ≤ length g = omega arith in
-    record {
-      more = g;
-      there = ap (λ n. n ∷ g) e;
-      alike = line_alike P i (instruction_of w) w f g whole tails (subst (λ n. Pairs P i (w ∷ f) (n ∷ g)) e pairs);
-    }
+    search (rules, line_alike, Pairs)
 
 -- for `instruction_law`: wherever that is, even within a line of a sweep
 pub instructions_there : InstructionsAreThere

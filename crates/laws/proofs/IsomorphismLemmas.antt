@@ -1,4 +1,5 @@
 -- Two links of the same objects: the same places, the same bytes, and words that move as what they refer to.
+use Rattle.std.proofs.Common.{rules}
 use Rattle.std.proofs.Common.{◌≡◌, ◌≢◌, ℕ, zero, suc, ◌+◌, ◌*◌, ◌/◌, ◌%◌, ◌<◌, Bool, true, false, cond, eqb, List, [], ◌∷◌, ◌++◌, length}
 use Rattle.std.proofs.Common.{take, drop, Option, Some, None, refl, sym, ◌∙◌, ap, subst, arith}
 use Rattle.std.proofs.{lemmas.List.Sorted.IsPermutation-sym, lemmas.Bool.eqb-true, lemmas.Bool.eqb-false, lemmas.Option.same_Some}
@@ -77,9 +78,7 @@ word_of k is TextSeg has n h =
     record { w = w.0; r = r.0; word = w.1; reloc = r.1 }
 word_of k is DataSeg has n h =
     let inside : n / 2 < length k.data_words = omega (arith, is.fits.data) in
-    let long : length k.data_reloc ≡ length k.data_words =
-    relocs_by (eqb k.header.flag 0) (length k.data_words) (length k.data_reloc) k.header.data_size
-    (well_formed_parts k is.well).0 is.fits.data is.fits.data_relocation in
+    let long : length k.data_reloc ≡ length k.data_words = search rules in
     let w = get_inside k.data_words (n / 2) inside in
     let r = reloc_inside k.data_reloc (n / 2) (omega (arith, inside, long)) in
     record { w = w.0; r = r.0; word = w.1; reloc = r.1 }
@@ -111,10 +110,7 @@ module _ (forced : List (List ℕ)) (os : List Contents) (o : Choices) (x : Outc
       (cond (is_pc_relative h.r) (move_in x.file.header os (take number os) k segment) 0)))
   byte_at number k e segment n h space has =
       let l = loaded_at number k e segment (n / 2) h.w h.r h.word h.reloc in
-      let word : ℕ = minus (plus h.w l.added) (cond (is_pc_relative h.r) (move_in x.file.header os (take number os) k segment) 0) in
-      in_its_space x.file segment space (address_at x.file os (of_object number segment n)) has
-      ∙ word_byte x.file (space_of segment) (base_in x.file.header (total BssSeg os) segment + total segment (take number os))
-      n word (subst (λ (a : ℕ). IsWordAt x.file (space_of segment) a word) l.place.sum l.word)
+      search (rules, in_its_space, word_byte)
 
   -- one that is not relocated is that of the object
   kept_byte : (number : ℕ) (k : Contents) → slice_get os number ≡ Some k →
@@ -125,11 +121,7 @@ module _ (forced : List (List ℕ)) (os : List Contents) (o : Choices) (x : Outc
       let l = loaded_at number k e segment (n / 2) h.w h.r h.word h.reloc in
       let kind : kind_of h.r ≡ Some kinds.Absolute = ap kind_numbered (let f : h.r.0 / 2 % 8 ≡ 0 = omega arith in f) in
       let pc : is_pc_relative h.r ≡ false = ap (λ m. eqb m 1) (let f : h.r.0 % 2 ≡ 0 = omega arith in f) in
-      let added : l.added ≡ 0 =
-      subst (λ m. IsAdded x.file.header x.file.symbols os (take number os) k m (symbol_number h.r) l.added) kind l.is in
-      byte_at number k e segment n h space has
-      ∙ (λ j. let b : Option ℕ =
-      Some (byte_of n (minus (plus h.w (added j)) (cond (pc j) (move_in x.file.header os (take number os) k segment) 0))) in b)
+      search (rules, byte_at)
 
   -- bss and commons are zeros
   zero_at_place : lays_commons o ≡ true → (place : Place) → segment_at place ≡ BssSeg → (space : Space) (address : ℕ) →
@@ -156,19 +148,13 @@ module _ (forced : List (List ℕ)) (os : List Contents) (o : Choices) (x : Outc
       address_in row % 65536 ≡ address_at x.file os (of_object number segment n) % 65536
   defined_value name number segment n d row found =
       let b : IsDefinedBy x.file os name d.object d.symbol = d.is in
-      let before : take number os ≡ b.before =
-      ap (λ (m : ℕ). take m os) (sym d.number_is) ∙ ap (λ (ks : List Contents). take (length b.before) ks) b.all
-      ∙ take_before b.before d.object b.after in
+      let before : take number os ≡ b.before = search (rules, take_before) in
       let same : row ≡ b.is.row =
       same_Some row b.is.row (sym found ∙ ap (λ (m : List ℕ). entry_of x.file.symbols m) b.names ∙ b.is.found) in
       let there : IsPlace x.file.header os b.before d.object segment n
       (address_of x.file.header os b.before d.object segment n) = any_place x.file.header os b.before d.object segment n in
-      let value : address_in row ≡ plus d.symbol.value (move_in x.file.header os b.before d.object segment) =
-      ap address_in same ∙ defined_address b.is.row (segment_of d.symbol) b.is.type_bits ∙ b.is.value
-      ∙ ap (λ (s : Segment). plus d.symbol.value (move_in x.file.header os b.before d.object s)) d.segment_is in
-      sums (address_in row) d.symbol.value (move_in x.file.header os b.before d.object segment) (own d.object segment) n
-      (address_of x.file.header os b.before d.object segment n) value d.distance there.symbol
-      ∙ ap (λ (ks : List Contents). (base_in x.file.header (total BssSeg os) segment + total segment ks + n) % 65536) (sym before)
+      let value : address_in row ≡ plus d.symbol.value (move_in x.file.header os b.before d.object segment) = search rules in
+      search rules
     where
       sums : (a v m own n address : ℕ) → a ≡ plus v m → n ≡ minus v own → plus (own + n) m ≡ address % 65536 → a % 65536 ≡ address % 65536
       sums a v m own n address e f g = omega arith
@@ -185,13 +171,7 @@ IsNoPlace (to_place place) = ⊥
 IsNoPlace _ = Unit {0}
 
 missing_is_none : (name : List ℕ) → IsNoPlace (missing_target name)
-missing_is_none name = by_tests (bytes_eq name etext) (bytes_eq name edata) (bytes_eq name end_name)
-  where
-    by_tests : (t d e : Bool) → IsNoPlace (cond t (to_end TextSeg) (cond d (to_end DataSeg) (cond e (to_end BssSeg) to_nothing)))
-    by_tests true d e = tt
-    by_tests false true e = tt
-    by_tests false false true = tt
-    by_tests false false false = tt
+missing_is_none name = search rules
 
 unmoved_target : (to : ℕ → ℕ) (t : Target) → IsNoPlace t → moved_target to t ≡ t
 unmoved_target to (to_place place) none = absurd none
@@ -206,35 +186,12 @@ missing_is forced os o file name m _ e none = (m, e)
 missing_value : (o : Choices) → o.relocatable ≡ false → (file : Contents) (os : List Contents) (name : List ℕ) →
     entry_of file.symbols name ≡ Some (undefined_row file.header o name) →
     (row : Symbol) → entry_of file.symbols name ≡ Some row → address_in row % 65536 ≡ address_to file os (missing_target name) % 65536
-missing_value o nr file os name is row found =
-    ap (λ (s : Symbol). address_in s % 65536) (same_Some row (undefined_row file.header o name) (sym found ∙ is))
-    ∙ ap (λ (r : Bool). address_in (cond r (shown name 0o40 0) (cond (bytes_eq name etext) (shown name 0o42 file.header.text_size)
-    (cond (bytes_eq name edata) (shown name 0o43 (data_start_in file.header + file.header.data_size))
-    (cond (bytes_eq name end_name) (shown name 0o44 (data_start_in file.header + file.header.data_size + file.header.bss_size))
-    (shown name 0o40 0))))) % 65536) nr
-    ∙ by_tests (bytes_eq name etext) (bytes_eq name edata) (bytes_eq name end_name)
-  where
-    by_tests : (t d e : Bool) →
-        address_in (cond t (shown name 0o42 file.header.text_size)
-        (cond d (shown name 0o43 (data_start_in file.header + file.header.data_size))
-        (cond e (shown name 0o44 (data_start_in file.header + file.header.data_size + file.header.bss_size)) (shown name 0o40 0)))) % 65536
-        ≡ address_to file os (cond t (to_end TextSeg) (cond d (to_end DataSeg) (cond e (to_end BssSeg) to_nothing))) % 65536
-    by_tests true d e = refl
-    by_tests false true e = refl
-    by_tests false false true = refl
-    by_tests false false false = refl
+missing_value o nr file os name is row found = search rules
 
 -- a common gives the address of its first byte
 common_value : (file : Contents) (os : List Contents) (name : List ℕ) (size : ℕ) → HasSpace file os name size → (row : Symbol) →
     entry_of file.symbols name ≡ Some row → address_in row % 65536 ≡ address_at file os (of_common name 0) % 65536
-common_value file os name size has row found =
-    let value : address_in row ≡ has.row.value =
-    ap address_in (same_Some row has.row (sym found ∙ has.found)) ∙ defined_address has.row BssSeg has.type_bits in
-    let there : has.row.value ≡ value_in (entry_of file.symbols name) = ap value_in (sym has.found) in
-    ap (λ (n : ℕ). n % 65536) (value ∙ there) ∙ first (value_in (entry_of file.symbols name))
-  where
-    first : (v : ℕ) → v % 65536 ≡ (v + 0) % 65536
-    first v = omega arith
+common_value file os name size has row found = search rules
 
 -- two links
 
@@ -291,19 +248,7 @@ module _ (forced : List (List ℕ)) (os ps : List Contents) (o : Choices) (layou
       one = record {
         object = k;
         symbol = s;
-        is = record {
-          before = take i os;
-          after = drop (suc i) os;
-          all = all;
-          number = d.number;
-          is_there = d.is_there;
-          outer = d.outer;
-          inner = d.inner;
-          names = d.names;
-          is = subst (λ (ks : List Contents). IsDefined x.file ks (take i os) k s) (sym all)
-              (definitions_hold forced (take i os) k (drop (suc i) os) o x kept
-              (subst (λ (ks : List Contents). link forced ks o ≡ Ok x) all h.one) single d.number s d.is_there d.outer d.inner);
-        };
+        is = search (rules, i, all, definitions_hold);
         number_is = long os i k here;
         segment_is = refl;
         distance = refl;
@@ -334,17 +279,7 @@ module _ (forced : List (List ℕ)) (os ps : List Contents) (o : Choices) (layou
       by_meaning missing one other =
           let none : IsNoPlace (missing_target name) = missing_is_none name in
           let same : missing_target name ≡ moved_target to (missing_target name) = sym (unmoved_target to (missing_target name) none) in
-          record {
-            target = missing_target name;
-            one = missing_is forced os o x.file name one (missing_target name) refl none;
-            other =
-                subst (λ (t : Target). IsTargetOf forced ps o y.file name t) same
-                (missing_is forced ps o y.file name other (missing_target name) refl none);
-            value = λ row found. missing_value o nr x.file os name one.1 row found;
-            value_too =
-                λ row found. missing_value o nr y.file ps name other.1 row found
-                ∙ ap (λ (t : Target). address_to y.file ps t % 65536) same;
-          }
+          search rules
 
   -- a word moves as what it refers to
   words_move : (number : ℕ) (k : Contents) → slice_get os number ≡ Some k → (segment : Segment) (i w : ℕ) (r : Reloc) →
@@ -451,33 +386,12 @@ module _ (forced : List (List ℕ)) (os ps : List Contents) (o : Choices) (layou
 
   -- each place is one of the other link
   place_there : (place : Place) → IsPlaceOf forced os place → IsPlaceOf forced ps (moved to place) × (moved from (moved to place) ≡ place)
-  place_there (of_object number segment n) is =
-      let there = renumbered.there number is.object is.is in
-      (record { object = is.object; is = there.0; inside = is.inside }, ap (λ (m : ℕ). of_object m segment n) there.1)
-  place_there (of_common name n) is = (
-    record {
-      size = is.size;
-      is = record { wanted = wanted_too forced os ps h.same name is.size is.is.wanted; sized = is.is.sized };
-      inside = is.inside;
-    },
-    refl,
-  )
+  place_there (of_object number segment n) is = search rules
+  place_there (of_common name n) is = search (rules, wanted_too)
 
   place_back : (place : Place) → IsPlaceOf forced ps place → IsPlaceOf forced os (moved from place) × (moved to (moved from place) ≡ place)
-  place_back (of_object number segment n) is =
-      let back = renumbered.back number is.object is.is in
-      (record { object = is.object; is = back.0; inside = is.inside }, ap (λ (m : ℕ). of_object m segment n) back.1)
-  place_back (of_common name n) is = (
-    record {
-      size = is.size;
-      is = record {
-        wanted = wanted_too forced ps os (IsPermutation-sym os ps h.same) name is.size is.is.wanted;
-        sized = is.is.sized;
-      };
-      inside = is.inside;
-    },
-    refl,
-  )
+  place_back (of_object number segment n) is = search rules
+  place_back (of_common name n) is = search (rules, wanted_too, IsPermutation-sym)
 
   -- and has the same byte there, but for relocated words
   same_word_byte : (number : ℕ) (segment : Segment) (has : HasWords segment) (n : ℕ) →

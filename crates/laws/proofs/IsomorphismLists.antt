@@ -1,4 +1,5 @@
 -- Lists: the element that has a unit of all, and lists that exchanges renumber.
+use Rattle.std.proofs.Common.{rules}
 use Rattle.std.proofs.Common.{◌≡◌, ℕ, zero, suc, ◌+◌, ◌-◌, ◌<◌, ◌≤◌, Bool, true, false, cond, eqb, nat_lt, List, [], ◌∷◌, ◌++◌, length}
 use Rattle.std.proofs.Common.{take, drop, get_or, set, Option, Some, refl, sym, ◌∙◌, ap, subst, arith, length-set, get_or-set_same}
 use Rattle.std.proofs.Common.{get_or-set_other}
@@ -51,24 +52,14 @@ module _ {A : Type 0} (f : A → ℕ) where
       j < f a → l < f b → sum_by f (take i xs) + j ≡ sum_by f (take k xs) + l → (i ≡ k) × (j ≡ l)
   one_unit [] i k a b j l ea eb ha hb e = absurd (cc)
   one_unit (x ∷ xs) zero zero a b j l ea eb ha hb e = (refl, omega arith)
-  one_unit (x ∷ xs) zero (suc k) a b j l ea eb ha hb e =
-      let same : x ≡ a = cc in
-      let inside : j < f x = subst (λ (y : A). j < f y) (sym same) ha in
-      absurd (omega (arith, sum_by-cons f x (take k xs)))
-  one_unit (x ∷ xs) (suc i) zero a b j l ea eb ha hb e =
-      let same : x ≡ b = cc in
-      let inside : l < f x = subst (λ (y : A). l < f y) (sym same) hb in
-      absurd (omega (arith, sum_by-cons f x (take i xs)))
-  one_unit (x ∷ xs) (suc i) (suc k) a b j l ea eb ha hb e =
-      let r = one_unit xs i k a b j l ea eb ha hb (omega (arith, sum_by-cons f x (take i xs), sum_by-cons f x (take k xs))) in
-      (ap suc r.0, r.1)
+  one_unit (x ∷ xs) zero (suc k) a b j l ea eb ha hb e = search (rules, sum_by-cons)
+  one_unit (x ∷ xs) (suc i) zero a b j l ea eb ha hb e = search (rules, sum_by-cons)
+  one_unit (x ∷ xs) (suc i) (suc k) a b j l ea eb ha hb e = search (rules, sum_by-cons, (one_unit xs i k a b j l ea eb ha hb))
 
   -- the units of an element are among all
   pub unit_inside : (xs : List A) (i : ℕ) (a : A) → slice_get xs i ≡ Some a → sum_by f (take i xs) + f a ≤ sum_by f xs
   unit_inside [] i a e = absurd (cc)
-  unit_inside (x ∷ xs) zero a e =
-      let same : x ≡ a = cc in
-      subst (λ (y : A). sum_by f [] + f y ≤ sum_by f (x ∷ xs)) same (omega (arith, sum_by-cons f x xs))
+  unit_inside (x ∷ xs) zero a e = search (rules, sum_by-cons)
   unit_inside (x ∷ xs) (suc i) a e = omega (arith, unit_inside xs i a e, sum_by-cons f x xs, sum_by-cons f x (take i xs))
 
 -- an element, with what is before and after it
@@ -95,19 +86,10 @@ exchanged a b i = cond (eqb i a) b (cond (eqb i b) a i)
 
 by_place : (a b i : ℕ) (P : ℕ → Type 0) → (i ≡ a → P b) → ((i ≡ a → ⊥) → i ≡ b → P a) →
     ((i ≡ a → ⊥) → (i ≡ b → ⊥) → P i) → P (exchanged a b i)
-by_place a b i P first second other = by_tests (eqb i a) refl (eqb i b) refl
-  where
-    by_tests : (t : Bool) → eqb i a ≡ t → (u : Bool) → eqb i b ≡ u → P (cond t b (cond u a i))
-    by_tests true e u f = first (eqb-true i a e)
-    by_tests false e true f = second (eqb-false i a e) (eqb-true i b f)
-    by_tests false e false f = other (eqb-false i a e) (eqb-false i b f)
+by_place a b i P first second other = search rules
 
 exchanged_twice : (a b i : ℕ) → exchanged a b (exchanged a b i) ≡ i
-exchanged_twice a b i =
-    by_place a b i (λ m. exchanged a b m ≡ i)
-    (λ e. by_place a b b (λ m. m ≡ i) (λ f. f ∙ sym e) (λ n f. sym e) (λ n f. absurd (f refl)))
-    (λ n e. by_place a b a (λ m. m ≡ i) (λ f. sym e) (λ f g. absurd (f refl)) (λ f g. absurd (f refl)))
-    (λ n m. by_place a b i (λ q. q ≡ i) (λ e. absurd (n e)) (λ f e. absurd (m e)) (λ f g. refl))
+exchanged_twice a b i = search rules
 
 module _ (xs : List Contents) (a b : ℕ) (inside : a < length xs) (inside_too : b < length xs) where
   at_new_place : (i : ℕ) (k : Contents) → slice_get xs i ≡ Some k → slice_get (swap xs a b) (exchanged a b i) ≡ Some k
@@ -146,22 +128,14 @@ module _ (xs : List Contents) (a b : ℕ) (inside : a < length xs) (inside_too :
       let among : i < length xs = omega (arith, slice_get_within (swap xs a b) i k e, length-swap xs a b) in
       let old_among : old < length xs = by_place a b i (λ m. m < length xs) (λ f. inside_too) (λ n f. inside) (λ n m. among) in
       let was : slice_get xs old ≡ Some (get_or xs old k) = slice_get-get_or xs old k old_among in
-      let now : slice_get (swap xs a b) i ≡ Some (get_or xs old k) =
-      ap (λ m. slice_get (swap xs a b) m) (sym (exchanged_twice a b i)) ∙ at_new_place old (get_or xs old k) was in
-      was ∙ sym now ∙ e
+      search (rules, exchanged_twice, at_new_place)
 
   renumbered_once : AreRenumbered xs (swap xs a b) (exchanged a b) (exchanged a b)
-  renumbered_once = record {
-    there = λ i k e. (at_new_place i k e, exchanged_twice a b i);
-    back = λ i k e. (at_old_place i k e, exchanged_twice a b i);
-  }
+  renumbered_once = search (rules, at_new_place, exchanged_twice, at_old_place)
 
 then_renumbered : (xs ys zs : List Contents) (to from to_next from_next : ℕ → ℕ) → AreRenumbered xs ys to from →
     AreRenumbered ys zs to_next from_next → AreRenumbered xs zs (λ i. to_next (to i)) (λ i. from (from_next i))
-then_renumbered xs ys zs to from to_next from_next one two = record {
-  there = λ i k e. let first = one.there i k e in let second = two.there (to i) k first.0 in (second.0, ap from second.1 ∙ first.1);
-  back = λ i k e. let second = two.back i k e in let first = one.back (from_next i) k second.0 in (first.0, ap to_next first.1 ∙ second.1);
-}
+then_renumbered xs ys zs to from to_next from_next one two = search rules
 
 exchanged_long : (xs : List Contents) (ms : List (ℕ × ℕ)) → length (apply_swaps xs ms) ≡ length xs
 exchanged_long xs [] = refl

@@ -1,4 +1,5 @@
 -- The places of a link: each is loaded, no two at one address, and each byte that is loaded has one.
+use Rattle.std.proofs.Common.{rules}
 use Rattle.std.proofs.Common.{◌≡◌, ◌≢◌, ℕ, zero, suc, ◌+◌, ◌-◌, ◌%◌, ◌<◌, ◌≤◌, ◌⊎◌, inl, inr, Bool, true, false, cond, ◌||◌, eqb, nat_lt}
 use Rattle.std.proofs.Common.{List, [], ◌∷◌, take, drop, Option, Some, None, refl, sym, ◌∙◌, ap, subst, arith}
 use Rattle.std.proofs.lemmas.Bool.{ltb-true, ltb-false, eqb-true}
@@ -30,16 +31,12 @@ use Rattle.laws.proofs.{NameListLemmas.AreOnce, NameListLemmas.new_once, Operand
 -- a list without repetition has each name at its place
 place_once : (ns : List (List ℕ)) (i : ℕ) (n : List ℕ) → AreOnce ns → slice_get ns i ≡ Some n → place_of n ns ≡ i
 place_once [] i n once e = absurd (cc)
-place_once (m ∷ ns) zero n once e =
-    let same : m ≡ n = same_Some m n e in
-    ap (λ (t : Bool). cond t 0 (place_of n ns + 1)) (ap (λ (k : List ℕ). bytes_eq n k) same ∙ own_name n)
+place_once (m ∷ ns) zero n once e = search rules
 place_once (m ∷ ns) (suc i) n once e = by_test (bytes_eq n m) refl (place_once ns i n once.1 e)
   where
     among : (ns : List (List ℕ)) (i : ℕ) → slice_get ns i ≡ Some n → is_among ns n ≡ true
     among [] i e = absurd (cc)
-    among (k ∷ ns) zero e =
-        let same : k ≡ n = same_Some k n e in
-        ap (λ (t : Bool). t || is_among ns n) (ap (λ (j : List ℕ). bytes_eq n j) same ∙ own_name n)
+    among (k ∷ ns) zero e = search rules
     among (k ∷ ns) (suc i) e = ap (λ (t : Bool). bytes_eq n k || t) (among ns i e) ∙ or-true (bytes_eq n k)
 
     by_test : (t : Bool) → bytes_eq n m ≡ t → place_of n ns ≡ i → cond (bytes_eq n m) 0 (place_of n ns + 1) ≡ suc i
@@ -71,11 +68,7 @@ module _ (forced : List (List ℕ)) (os : List Contents) (o : Choices) (x : Outc
     value : value_in (entry_of x.file.symbols name) ≡ data_end + sum_by common_bytes (take (place_of name names) names)
 
   begins : (name : List ℕ) (size : ℕ) → IsCommon forced os name size → Begins name size
-  begins name size c = record {
-    known = get_place names name among;
-    space_is = space_is;
-    value = ap value_in found ∙ value;
-  }
+  begins name size c = search (rules, get_place, among, space_is, value, found)
     where
       p : Plan
       p = plan forced os o
@@ -127,17 +120,10 @@ module _ (forced : List (List ℕ)) (os : List Contents) (o : Choices) (x : Outc
 
   -- commons, and then the objects' bss
   bss_is : x.file.header.bss_size ≡ sum_by common_bytes names + total BssSeg os
-  bss_is =
-      sym (ap (λ (f : Contents). f.header.bss_size) (made_file (plan forced os o) os x linked))
-      ∙ ap (λ (t : Bool). cond t (commons_total ms) 0 + total BssSeg os) lays
+  bss_is = search rules
 
   bss_base : base_in x.file.header (total BssSeg os) BssSeg ≡ data_end + sum_by common_bytes names
-  bss_base =
-      rest (data_start_in x.file.header + x.file.header.data_size) x.file.header.bss_size (sum_by common_bytes names)
-      (total BssSeg os) bss_is
-    where
-      rest : (e b r t : ℕ) → b ≡ r + t → e + (b - t) ≡ e + r
-      rest e b r t f = omega arith
+  bss_base = search rules
 
   module _ (good : AllByRecursion IsObject os) where
     -- each place is in its segment
@@ -160,14 +146,7 @@ module _ (forced : List (List ℕ)) (os : List Contents) (o : Choices) (x : Outc
         BssSeg space ≡ true → is_in x.file.header space BssSeg (address_at x.file os (of_common name n)) ≡ true
     common_in name n space is has =
         let b = begins name is.size is.is in
-        within_back x.file.header space BssSeg (address_at x.file os (of_common name n)) (record {
-          has = has;
-          from = over data_end (sum_by common_bytes (take (place_of name names) names)) n (value_in (entry_of x.file.symbols name)) b.value;
-          before =
-              under data_end (sum_by common_bytes (take (place_of name names) names)) n (value_in (entry_of x.file.symbols name))
-              (common_bytes name) (is.size + is.size % 2) (sum_by common_bytes names) x.file.header.bss_size (total BssSeg os)
-              b.value b.space_is is.inside (unit_inside common_bytes names (place_of name names) name b.known) bss_is;
-        })
+        search (rules, within_back, over, under, unit_inside, bss_is)
       where
         over : (e t n v : ℕ) → v ≡ e + t → e ≤ v + n
         over e t n v f = omega arith
@@ -189,11 +168,7 @@ module _ (forced : List (List ℕ)) (os : List Contents) (o : Choices) (x : Outc
         segment ≡ BssSeg → address_at x.file os (of_object i segment n) ≡ address_at x.file os (of_common name m) → ⊥
     object_or_common i segment n name m c same e =
         let b = begins name c.size c.is in
-        far data_end (sum_by common_bytes names) (value_in (entry_of x.file.symbols name)) m
-        (sum_by common_bytes (take (place_of name names) names)) (common_bytes name) (c.size + c.size % 2)
-        (base_in x.file.header (total BssSeg os) BssSeg) (total BssSeg (take i os)) n bss_base
-        (ap (λ (s : Segment). base_in x.file.header (total BssSeg os) s + total s (take i os) + n) (sym same) ∙ e)
-        b.value b.space_is c.inside (unit_inside common_bytes names (place_of name names) name b.known)
+        search (rules, far, bss_base, unit_inside)
       where
         far : (e all v m t r s base before n : ℕ) → base ≡ e + all → base + before + n ≡ v + m → v ≡ e + t → r ≡ s → m < s → t + r ≤ all → ⊥
         far e all v m t r s base before n f q g h k l = omega arith
@@ -254,9 +229,7 @@ module _ (forced : List (List ℕ)) (os : List Contents) (o : Choices) (x : Outc
           record {
             is = record { object = u.element; is = u.is; inside = u.inside };
             «in» = w.has;
-            at =
-                sums address (first_address x.file.header segment) (base_in x.file.header (total BssSeg os) segment)
-                (total segment (take u.i os)) u.j w.from start u.place;
+            at = search rules;
           },
         )
       where
@@ -274,17 +247,7 @@ module _ (forced : List (List ℕ)) (os : List Contents) (o : Choices) (x : Outc
         by_state : (st : State) → state ms name ≡ st → HasState ms name st → j < common_size (state ms name) →
             (size : ℕ) × (IsCommon forced os name size) × (common_bytes name ≡ size + size % 2)
         by_state (Defined segment offset) e has h = absurd (let none : common_size (state ms name) ≡ 0 = ap common_size e in omega arith)
-        by_state (Wanted size) e has h = (
-          size,
-          record { wanted = subst (λ (st : State). HasState ms name st) e (has_state ms name); sized = by_test (eqb size 0) refl },
-          ap common_size e,
-        )
-          where
-            by_test : (t : Bool) → eqb size 0 ≡ t → t ≡ false
-            by_test false f = refl
-            by_test true f =
-                absurd (let zero_is : size ≡ 0 = eqb-true size 0 f in
-                let none : common_size (state ms name) ≡ size + size % 2 = ap common_size e in omega arith)
+        by_state (Wanted size) e has h = search rules
 
     of_bss : (space : Space) (address : ℕ) → is_in x.file.header space BssSeg address ≡ true →
         (place : Place) × IsLoadedAt forced os x.file place space address
@@ -304,9 +267,7 @@ module _ (forced : List (List ℕ)) (os : List Contents) (o : Choices) (x : Outc
               record {
                 is = record { size = c.0; is = c.1; inside = less u.j (common_bytes u.element) (c.0 + c.0 % 2) c.2 u.inside };
                 «in» = w.has;
-                at =
-                    sums address data_end (sum_by common_bytes (take u.i names)) u.j (value_in (entry_of x.file.symbols u.element))
-                    w.from u.place (b.value ∙ ap (λ (q : ℕ). data_end + sum_by common_bytes (take q names)) same);
+                at = search rules;
               },
             )
           where
@@ -323,10 +284,7 @@ module _ (forced : List (List ℕ)) (os : List Contents) (o : Choices) (x : Outc
               record {
                 is = record { object = u.element; is = u.is; inside = u.inside };
                 «in» = w.has;
-                at =
-                    sums address data_end (sum_by common_bytes names) (total BssSeg (take u.i os)) u.j
-                    (base_in x.file.header (total BssSeg os) BssSeg) w.from
-                    (ltb-false (address - data_end) (sum_by common_bytes names) e) u.place bss_base;
+                at = search rules;
               },
             )
           where

@@ -1,4 +1,5 @@
 -- The lines that a session ran and answered: all of its script if it ends well, and else the first.
+use Rattle.std.proofs.Common.{rules}
 use Rattle.std.proofs.Common.{◌≡◌, ℕ, ◌≤◌, List, [], ◌∷◌, ◌++◌, Option, Some, None, Result, Ok, Err, refl, sym, ap, ◌∙◌, arith, inl, inr}
 use Rattle.std.proofs.Common.{subst}
 use Rattle.std.proofs.{KnownBytes.Appends-nil, lemmas.List.append-nil, lemmas.List.append_assoc, lemmas.List.append_cancel_left}
@@ -29,17 +30,7 @@ module _ {W E : Type 0} (out_contents : W → Option (List ℕ)) (error_contents
       IsSessionRun out_contents forced o r.script (Some r.earlier) (Some (r.earlier ++ r.events)) (Ok status)
       r.output_before r.output_after → HasRun forced o r
   by_session forced o r status is (inl h) = absurd (no_fault status _ h.1.refusal)
-  by_session forced o r status is (inr (inl h)) = (
-    h.runs,
-    record {
-      kept = h.kept;
-      chain = h.ran.chain;
-      lines = h.ends.0;
-      events = append_cancel_left r.earlier r.events _ h.ran.asked;
-      answers = h.ran.answers;
-      status = is ∙ h.ends.1;
-    },
-  )
+  by_session forced o r status is (inr (inl h)) = search (rules, append_cancel_left)
   by_session forced o r status is (inr (inr h)) = absurd (no_fault status _ h.refusal)
 
   by_call : (forced : List (List ℕ)) (o : Choices) (r : Run W E) (status : ℕ) → r.status ≡ status → (call : Call) →
@@ -100,58 +91,19 @@ module _ {W E : Type 0} (out_contents : W → Option (List ℕ)) (error_contents
   -- no line was run
   silent_run : (forced : List (List ℕ)) (o : Choices) (r : Run W E) → Extends (Some r.earlier) (Some (r.earlier ++ r.events)) [] →
       r.output_after ≡ r.output_before → HasAnswered forced o r
-  silent_run forced o r asked silent = (
-    [],
-    record {
-      kept = nothing_kept forced;
-      chain = refl;
-      lines = none_first r.script;
-      further = [];
-      events = append_cancel_left r.earlier r.events [] asked;
-      part = [];
-      answers =
-          subst (λ (w : Latched W). Appends (out_contents r.output_before.device) (out_contents w.device) []) (sym silent)
-          (Appends-nil (out_contents r.output_before.device));
-    },
-  )
+  silent_run forced o r asked silent = search rules
 
   answered_session : (forced : List (List ℕ)) (o : Choices) (r : Run W E) (result : Result ℕ CliFault) →
       IsSessionRun out_contents forced o r.script (Some r.earlier) (Some (r.earlier ++ r.events)) result
       r.output_before r.output_after → HasAnswered forced o r
   answered_session forced o r result (inl h) = silent_run forced o r h.0 h.1.silent
-  answered_session forced o r result (inr (inl h)) = (
-    h.runs,
-    record {
-      kept = h.kept;
-      chain = h.ran.chain;
-      lines = ends_first r.script h.runs result h.ends;
-      further = [];
-      events = append_cancel_left r.earlier r.events _ h.ran.asked ∙ sym (append-nil (events_of h.runs));
-      part = [];
-      answers =
-          subst (λ (text : List ℕ). Appends (out_contents r.output_before.device) (out_contents r.output_after.device) text)
-          (sym (append-nil (answers_of h.runs))) h.ran.answers;
-    },
-  )
-  answered_session forced o r result (inr (inr h)) = (
-    h.runs,
-    record {
-      kept = h.kept;
-      chain = h.chain;
-      lines = fewer_first r.script (lines_asked h.runs) (h.last.line ∷ []) h.first;
-      further = h.last.events;
-      events = append_cancel_left r.earlier r.events _ h.asked;
-      part = h.part;
-      answers = h.answers;
-    },
-  )
+  answered_session forced o r result (inr (inl h)) = search rules
+  answered_session forced o r result (inr (inr h)) = search rules
 
   answered_call : (forced : List (List ℕ)) (o : Choices) (r : Run W E) (result : Result ℕ CliFault) (call : Call) →
       IsSession forced o call → IsCallRun out_contents r.script call (Some r.earlier) (Some (r.earlier ++ r.events)) result
       r.output_before r.output_after → HasAnswered forced o r
-  answered_call forced o r result (Session options names) same run =
-      subst (λ (c : Choices). HasAnswered forced c r) same.0
-      (subst (λ (ns : List (List ℕ)). HasAnswered ns options r) same.1 (answered_session names options r result run))
+  answered_call forced o r result (Session options names) same run = search rules
   answered_call forced o r result _ same run = absurd same
 
   pub answers_law : AnswersLaw out_contents error_contents

@@ -1,4 +1,5 @@
 -- What `ld` does with the files that a session has left, and what a line of the session did.
+use Rattle.std.proofs.Common.{rules}
 use Rattle.std.specs.Prelude.{IfSome, String, codes, decimal, string_bytes}
 use Rattle.std.specs.{declared.alloc.Global.Global, List.AllByRecursion}
 use Rattle.std.proofs.Common.{◌≡◌, ℕ, List, [], ◌∷◌, ◌++◌, Option, Some, None, Result, Ok, Err, refl, sym, ap, ◌∙◌, inl, inr, subst, ◌⊎◌}
@@ -45,11 +46,7 @@ given disk (f ∷ fs) events h = (h.0, given disk fs events h.1)
 
 found_bytes : (disk : Disk) (f g : Opened) (bytes : List ℕ) → f.0 ≡ g.0 → g.1 ≡ Some bytes → disk g.0 ≡ Some bytes →
     IfSome (disk f.0) (λ bytes. f.1 ≡ Some bytes) → f ≡ g
-found_bytes disk f g bytes at read there given =
-    let known : f.1 ≡ Some bytes =
-    subst (λ (k : Option (List ℕ)). IfSome k (λ bytes. f.1 ≡ Some bytes)) (ap disk at ∙ there) given in
-    let same : f.1 ≡ g.1 = known ∙ sym read in
-    λ i. (at i, same i)
+found_bytes disk f g bytes at read there given = search rules
 
 pub same_found : (disk : Disk) (found left : List Opened) → paths_of found ≡ paths_of left → AreGiven disk found →
     AreThere disk left → found ≡ left
@@ -57,9 +54,7 @@ same_found disk [] [] paths gives there = refl
 same_found disk (f ∷ fs) (g ∷ gs) paths gives there =
     let at : f.0 ≡ g.0 = cc in
     let rest : paths_of fs ≡ paths_of gs = cc in
-    let first : f ≡ g = found_bytes disk f g there.0.bytes at there.0.read there.0.there gives.0 in
-    let others : fs ≡ gs = same_found disk fs gs rest gives.1 there.1 in
-    λ i. first i ∷ others i
+    search (rules, found_bytes, (same_found disk fs gs rest gives.1 there.1))
 same_found disk _ _ paths gives there = absurd (cc)
 
 -- the bytes that are left link as the objects that the session keeps do
@@ -83,17 +78,7 @@ record StoredLink (o : Choices) (k : undo.Kept) (p : List ℕ) (file : Contents)
 stored_link : (o : Choices) (k : undo.Kept) (p : List ℕ) (file : Contents) (r : LineRun) → IsLineOf o k r (to_link p) →
     r.events ≡ stored p file Kept ∷ [] → StoredLink o k p file r
 stored_link o k p file r (inl h) e = absurd (let none : r.events ≡ [] = h.only_answer.events in cc)
-stored_link o k p file r (inr h) e =
-    let both : stored p h.outcome.file h.what ∷ [] ≡ stored p file Kept ∷ [] = sym h.events ∙ e in
-    let same : h.outcome.file ≡ file = cc in
-    let what : h.what ≡ Kept = cc in
-    record {
-      outcome = h.outcome;
-      is_link = h.is_link;
-      same = same;
-      answer = h.answer ∙ ap (link_answer_text h.outcome.report p) what;
-      status = h.status ∙ ap (link_status h.outcome.report) what;
-    }
+stored_link o k p file r (inr h) e = search rules
 
 -- a line whose link was refused
 record RefusedLink (o : Choices) (k : undo.Kept) (r : LineRun) : Type 0 where
@@ -104,20 +89,7 @@ record RefusedLink (o : Choices) (k : undo.Kept) (r : LineRun) : Type 0 where
 refused_link : (o : Choices) (k : undo.Kept) (p : List ℕ) (r : LineRun) → IsLineOf o k r (to_link p) → r.events ≡ [] →
     (r.answer ≡ line no_memory → ⊥) → RefusedLink o k r
 refused_link o k p r (inr h) e memory = absurd (let some : r.events ≡ stored p h.outcome.file h.what ∷ [] = h.events in cc)
-refused_link o k p r (inl h) e memory = by_link h.is_link
-  where
-    by_answer : (x : Result Outcome LinkFault) → link k.forced (objects k.entries) o ≡ x → h.did ≡ link_step k.entries x →
-        RefusedLink o k r
-    by_answer (Ok outcome) is did = absurd (let no = sym h.refuses ∙ ap (λ (s : Stepped). s.verdict) did in cc)
-    by_answer (Err cause) is did = record {
-      cause = cause;
-      is_none = is;
-      answer = h.only_answer.does.answer ∙ ap (λ (s : Stepped). s.answer) did;
-    }
-
-    by_link : IsLinkBy k.entries (link k.forced (objects k.entries) o) h.did → RefusedLink o k r
-    by_link (inl did) = by_answer (link k.forced (objects k.entries) o) refl did
-    by_link (inr (did, ok)) = absurd (memory (h.only_answer.does.answer ∙ ap (λ (s : Stepped). s.answer) did))
+refused_link o k p r (inl h) e memory = search rules
 
 -- ---- what ld did
 
@@ -166,9 +138,7 @@ module _ {W E : Type 0} (out_contents : W → Option (List ℕ)) (error_contents
         result = result;
         output = output;
         at = same.2;
-        ran = subst (λ (P : Type 0). P)
-            (λ i. IsLinkRun out_contents (same.1 i) (same.0 i) output (same.3 i) (Some l.earlier) (Some (l.earlier ++ l.events)) result
-            l.output_before l.output_after) run;
+        ran = search rules;
         ends = ends;
       }
       by_call _ same run = absurd same
@@ -218,9 +188,7 @@ module _ {W E : Type 0} (out_contents : W → Option (List ℕ)) (error_contents
         ⊎ (FailsBy out_contents error_contents CannotRead l ⊎ FailsBy out_contents error_contents CannotWrite l)
 
     failed : (IsSuch : CliFault → Type 0) (fault : CliFault) → result ≡ Err fault → IsSuch fault → FailsBy out_contents error_contents IsSuch l
-    failed IsSuch fault is such =
-        let said = subst (λ (x : Result ℕ CliFault). Ends error_contents x l.status l.error_before l.error_after) is ends in
-        (said.0, fault, such, said.1)
+    failed IsSuch fault is such = search rules
 
     reported : (made : Linked) → made.file ≡ file → report_names made.report ≡ did.outcome.report →
         l.events ≡ opens left ++ stored q made.file Kept ∷ [] →
@@ -228,25 +196,12 @@ module _ {W E : Type 0} (out_contents : W → Option (List ℕ)) (error_contents
         Reports out_contents (report_names made.report) it l.output_before l.output_after → Ended
     reported made same report events (Err fault) is h =
         inr (inr (failed CannotWrite faults.WriteFailed (is ∙ ap (λ (f : CliFault). Err f) h.write_failed) tt))
-    reported made same report events (Ok status) is h =
-        let ended = subst (λ (x : Result ℕ CliFault). Ends error_contents x l.status l.error_before l.error_after) is ends in
-        let status_is : l.status ≡ status_of did.outcome.report = ended.0 ∙ h.status ∙ ap status_of report in
-        inl (record {
-          asked = events ∙ ap (λ (c : Contents). opens left ++ stored q c Kept ∷ []) same;
-          report = report_text did.outcome.report;
-          reports = subst (λ f. Writes out_contents l (report_text f)) report h.writes.bytes;
-          answers =
-              did.answer
-              ∙ ap (λ (n : ℕ). report_text did.outcome.report ++ line (codes "linked " ++ p ++ codes " " ++ decimal n)) (sym status_is);
-          status = did.status ∙ sym status_is;
-        })
+    reported made same report events (Ok status) is h = search rules
 
     stored_by : (output : String Global) → string_bytes output ≡ q → (made : Linked) → outcome_of made ≡ did.outcome → (what : Stored) →
         l.events ≡ opens left ++ stored (string_bytes output) made.file what ∷ [] →
         ReportsIf out_contents what output (report_names made.report) result l.output_before l.output_after → Ended
-    stored_by output at made same Kept events h =
-        reported made (ap (λ (x : Outcome). x.file) same ∙ did.same) (ap (λ (x : Outcome). x.report) same)
-        (subst (λ (path : List ℕ). l.events ≡ opens left ++ stored path made.file Kept ∷ []) at events) result refl h
+    stored_by output at made same Kept events h = search rules
     stored_by output at made same NotCreated events h = inr (inr (failed CannotWrite (faults.CannotCreate output) h.0 tt))
     stored_by output at made same Failed events h = inr (inr (failed CannotWrite faults.WriteFailed h.0 tt))
 
@@ -277,9 +232,7 @@ module _ {W E : Type 0} (out_contents : W → Option (List ℕ)) (error_contents
     ended_by output at (inr (inr (inr h))) =
         let events = events_are l forced o left there on_disk _ h.asked in
         let ok = bytes_say l forced o left there on_disk h.found (Ok h.linked) _ events h.answer in
-        let found : h.found ≡ left = found_left l forced o left there on_disk h.found _ events h.answer.all in
-        stored_by output at h.linked (same_ok (outcome_of h.linked) did.outcome (sym ok ∙ some)) h.what
-        (events ∙ ap (λ (fs : List Opened). opens fs ++ stored (string_bytes output) h.linked.file h.what ∷ []) found) h.reports
+        search (rules, found_left, stored_by, same_ok)
 
   -- ---- a line whose link was refused
 
@@ -289,23 +242,7 @@ module _ {W E : Type 0} (out_contents : W → Option (List ℕ)) (error_contents
       (ends : Ends error_contents result l.status l.error_before l.error_after) where
     refused_by : (fault : CliFault) → Refuses fault result l.output_before l.output_after → AllByRecursion IsOpening l.events →
         Reason cause fault → IsRefusedAsLd out_contents error_contents r l
-    refused_by fault refuses openings why = record {
-      status = said.0;
-      stores_nothing = openings;
-      writes_nothing = refuses.silent;
-      says = by_reason why;
-    }
-      where
-        said : Ends error_contents (Err fault) l.status l.error_before l.error_after
-        said = subst (λ (x : Result ℕ CliFault). Ends error_contents x l.status l.error_before l.error_after) refuses.refusal ends
-
-        Line : List ℕ → Type 0
-        Line text = Says out_contents error_contents l text
-
-        by_reason : Reason cause fault → Line (codes "v7: " ++ r.answer) ⊎ FailsBy out_contents error_contents CannotRead l
-        by_reason (inl text) =
-            inl (subst Line (ap (λ (t : List ℕ). codes "v7: " ++ line t) text ∙ ap (λ (t : List ℕ). codes "v7: " ++ t) (sym answer)) said.1)
-        by_reason (inr outside) = inr (said.0, fault, outside, said.1)
+    refused_by fault refuses openings why = search rules
 
     abbrev asked : (more : List Event) → Extends (Some l.earlier) (Some (l.earlier ++ l.events)) more → l.events ≡ more
     asked more h = events_are l forced o left there on_disk more h

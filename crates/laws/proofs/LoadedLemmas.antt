@@ -1,4 +1,5 @@
 -- What a link puts into the core: words, zeros, and nothing else.
+use Rattle.std.proofs.Common.{rules}
 use Rattle.instructions.proofs.AlikeLemmas.{get_inside}
 use Rattle.std.proofs.Common.{◌≡◌, ◌≢◌, ℕ, zero, ◌+◌, ◌-◌, ◌*◌, ◌/◌, ◌%◌, ◌<◌, ◌≤◌, ◌⊎◌, inl, inr, Bool, true, false, cond, eqb, List}
 use Rattle.std.proofs.Common.{[], ◌∷◌, ◌++◌, length, Some, refl, sym, ◌∙◌, ap, subst, arith}
@@ -77,24 +78,16 @@ found_by Pure BssSeg has = refl
 found_by Split TextSeg has = refl
 found_by Split DataSeg has = refl
 found_by Split BssSeg has = refl
-found_by layout Undefined has = absurd has
-found_by layout Absolute has = absurd has
-found_by layout Other has = absurd has
+found_by layout _ has = absurd has
 
 pub found_in : (forced : List (List ℕ)) (os : List Contents) (o : Choices) (x : Outcome) → link forced os o ≡ Ok x →
     (segment : Segment) → HasPlace segment → has_segment x.file.header.magic segment (space_of segment) ≡ true
-found_in forced os o x linked segment has =
-    ap (λ (m : ℕ). has_segment m segment (space_of segment)) (sym (magic_is forced os o x linked))
-    ∙ found_by o.layout segment has
+found_in forced os o x linked segment has = search rules
 
 -- for `core_law`: without -i a program sees the same bytes as instructions and as data
 pub spaces_are_one : (forced : List (List ℕ)) (os : List Contents) (o : Choices) (x : Outcome) → o.layout ≢ Split →
     link forced os o ≡ Ok x → (address : ℕ) → core x.file of_instructions address ≡ core x.file of_data address
-spaces_are_one forced os o x apart linked = one_space x.file (ap has_one_space (sym (magic_is forced os o x linked)) ∙ one o.layout apart)
-  where
-    one : (layout : Layout) → layout ≢ Split → has_one_space (magic_of layout) ≡ true
-    one Split apart = absurd (apart refl)
-    one _ apart = refl
+spaces_are_one forced os o x apart linked = search rules
 
 -- a word of a segment stands in its core
 module _ (file : Contents) (space : Space) where
@@ -110,26 +103,7 @@ module _ (file : Contents) (space : Space) where
   word_there segment has there long n w e =
       let both = bytes segment has n w e in
       let inside = slice_get_within (segment_words segment file) n w e in
-      record {
-        low =
-            core_at file space (first_address file.header segment + 2 * n) (w % 256) segment
-            (within_back file.header space segment (first_address file.header segment + 2 * n) (record {
-              has = there;
-              from = omega arith;
-              before = low_in (first_address file.header segment) n (length (segment_words segment file))
-                  (bytes_of file.header segment) inside long;
-            }))
-            (ap (λ (m : ℕ). segment_byte file segment m) (back (first_address file.header segment) (2 * n)) ∙ both.0);
-        high =
-            core_at file space (first_address file.header segment + 2 * n + 1) (w / 256) segment
-            (within_back file.header space segment (first_address file.header segment + 2 * n + 1) (record {
-              has = there;
-              from = omega arith;
-              before = high_in (first_address file.header segment) n (length (segment_words segment file))
-                  (bytes_of file.header segment) inside long;
-            }))
-            (ap (λ (m : ℕ). segment_byte file segment m) (next (first_address file.header segment) (2 * n)) ∙ both.1);
-      }
+      search rules
     where
       back : (f n : ℕ) → f + n - f ≡ n
       back f n = omega arith
@@ -154,9 +128,7 @@ whole_words segment has os good =
 zero_at : (file : Contents) → has_segment file.header.magic BssSeg of_data ≡ true → (address : ℕ) →
     first_address file.header BssSeg ≤ address → address < first_address file.header BssSeg + file.header.bss_size →
     core file of_data address ≡ Some 0
-zero_at file has address from before =
-    core_at file of_data address 0 BssSeg
-    (within_back file.header of_data BssSeg address (record { has = has; from = from; before = before })) refl
+zero_at file has address from before = search rules
 
 -- a relocated word is loaded
 
@@ -231,12 +203,7 @@ pub common_zero : (forced : List (List ℕ)) (os : List Contents) (o : Choices) 
     entry_of x.file.symbols name ≡ Some row → (n : ℕ) → n < size → core x.file of_data (row.value + n) ≡ Some 0
 common_zero forced os o x others lays linked name size common row found n h =
     let room : HasSpace x.file os name size = commons_have_space forced os o x others lays linked name size common in
-    let same : room.row ≡ row = same_Some room.row row (sym room.found ∙ found) in
-    subst (λ (s : Symbol). core x.file of_data (s.value + n) ≡ Some 0) same
-    (zero_at x.file (found_in forced os o x linked BssSeg tt) (room.row.value + n)
-    (over (data_start_in x.file.header + x.file.header.data_size) room.row.value n room.after)
-    (under (data_start_in x.file.header + x.file.header.data_size) x.file.header.bss_size
-    (total BssSeg os) room.row.value size n room.before h))
+    search rules
   where
     over : (e v n : ℕ) → e ≤ v → e ≤ v + n
     over e v n f = omega arith
@@ -305,20 +272,7 @@ of_word h os space segment has good start size address inside =
     (all_split IsObject p.before (p.k ∷ p.after) (subst (λ (ys : List Contents). AllByRecursion IsObject ys) p.all good)).1.0 in
     let found = get_inside (segment_words segment p.k) (p.j / 2)
     (half p.j (length (segment_words segment p.k)) (size_of segment p.k) p.inside (object_long segment has p.k object)) in
-    record {
-      before = p.before;
-      k = p.k;
-      after = p.after;
-      all = p.all;
-      segment = segment;
-      «in» = inside.has;
-      i = p.j / 2;
-      w = found.0;
-      word = found.1;
-      at =
-          either address (first_address h segment) (base_in h (total BssSeg os) segment)
-          (total segment p.before) p.j inside.from start p.place;
-    }
+    search rules
   where
     below : (a f s t : ℕ) → f ≤ a → a < f + s → s ≡ t → a - f < t
     below a f s t g h e = omega arith
@@ -327,18 +281,10 @@ of_word h os space segment has good start size address inside =
     half j l s g e = omega arith
 
     parts : (j : ℕ) → (j ≡ 2 * (j / 2)) ⊎ (j ≡ 2 * (j / 2) + 1)
-    parts j = by_test (eqb (j % 2) 0) refl
-      where
-        by_test : (t : Bool) → eqb (j % 2) 0 ≡ t → (j ≡ 2 * (j / 2)) ⊎ (j ≡ 2 * (j / 2) + 1)
-        by_test true e = inl (let even = eqb-true (j % 2) 0 e in omega arith)
-        by_test false e = inr (let odd = eqb-false (j % 2) 0 e in omega arith)
+    parts j = search rules
 
     either : (a f b t j : ℕ) → f ≤ a → b ≡ f → a - f ≡ t + j → (a ≡ b + t + 2 * (j / 2)) ⊎ (a ≡ b + t + 2 * (j / 2) + 1)
-    either a f b t j g e p = by_case (parts j)
-      where
-        by_case : (j ≡ 2 * (j / 2)) ⊎ (j ≡ 2 * (j / 2) + 1) → (a ≡ b + t + 2 * (j / 2)) ⊎ (a ≡ b + t + 2 * (j / 2) + 1)
-        by_case (inl h) = inl (omega arith)
-        by_case (inr h) = inr (omega arith)
+    either a f b t j g e p = search rules
 
 -- for `core_law`: each byte of the core is of a word of an object, or a zero of bss
 pub nothing_else : (forced : List (List ℕ)) (os : List Contents) (o : Choices) (x : Outcome) → AllByRecursion IsObject os →
@@ -356,24 +302,13 @@ nothing_else forced os o x good linked space address byte e = by_case (core_back
         inl (of_word x.file.header os space TextSeg tt good refl full.text address (within x.file.header space TextSeg address b.in))
     by_case (inr (inl b)) =
         inl (of_word x.file.header os space DataSeg tt good refl full.data address (within x.file.header space DataSeg address b.in))
-    by_case (inr (inr b)) = inr (b.in, same b.reads)
-      where
-        same : Some 0 ≡ Some byte → byte ≡ 0
-        same f = cc
+    by_case (inr (inr b)) = search rules
 
 -- no address is after the last
 
 file_short : (forced : List (List ℕ)) (os : List Contents) (o : Choices) (x : Outcome) → link forced os o ≡ Ok x →
     data_start_in x.file.header + x.file.header.data_size + x.file.header.bss_size ≤ 65535
-file_short forced os o x linked =
-    subst (λ (f : Contents). data_start_in f.header + f.header.data_size + f.header.bss_size ≤ 65535)
-    (made_file (plan forced os o) os x linked)
-    (sums (data_base o.layout (total TextSeg os)) (data_start_in (linked_file (plan forced os o) os).header)
-    (total DataSeg os) (commons_laid o (mentions forced os)) (total BssSeg os) (data_begun o.layout (total TextSeg os))
-    (made_fits (plan forced os o) os x linked))
-  where
-    sums : (a b d c n : ℕ) → a ≡ b → a + d + c + n ≤ 65535 → b + d + (c + n) ≤ 65535
-    sums a b d c n e h = omega arith
+file_short forced os o x linked = search rules
 
 -- for `core_law`: each loaded address fits a word
 pub addresses_fit : (forced : List (List ℕ)) (os : List Contents) (o : Choices) (x : Outcome) →

@@ -1,4 +1,5 @@
 -- The places of a map are those of the file.
+use Rattle.std.proofs.Common.{rules}
 use Rattle.std.proofs.Common.{◌≡◌, ℕ, ◌+◌, ◌<◌, ◌≤◌, min, Bool, true, false, if◌then◌else◌, nat_lt, List, [], ◌∷◌, ◌++◌, length, map}
 use Rattle.std.proofs.Common.{Some, None, Ok, slice_get, refl, sym, ap, ◌∙◌, subst, arith, ltb-false}
 use Rattle.std.proofs.lemmas.List.Sums.{sum_by-append}
@@ -37,22 +38,7 @@ pub record IsSmall (os : List Contents) : Type 0 where
   pub bss : total BssSeg os ≤ 65534
 
 small_passed : (forced : List (List ℕ)) (os : List Contents) → limit_passed forced os ≡ None → IsSmall os
-small_passed forced os h =
-    by_tests (nat_lt 65534 (total TextSeg os)) refl (nat_lt 65534 (total DataSeg os)) refl (nat_lt 65534 (total BssSeg os)) refl h
-  where
-    by_tests : (t : Bool) → nat_lt 65534 (total TextSeg os) ≡ t → (d : Bool) → nat_lt 65534 (total DataSeg os) ≡ d →
-        (b : Bool) → nat_lt 65534 (total BssSeg os) ≡ b →
-        (if t then Some TextFull
-        else (if d then Some DataFull
-        else (if b then Some BssFull
-        else (if nat_lt 65535 (length (externals forced os)) then Some NamesFull
-        else None)))) ≡ None → IsSmall os
-    by_tests false e false f false g h = record {
-      text = ltb-false 65534 (total TextSeg os) e;
-      «data» = ltb-false 65534 (total DataSeg os) f;
-      bss = ltb-false 65534 (total BssSeg os) g;
-    }
-    by_tests _ e _ f _ g h = absurd (cc)
+small_passed forced os h = search rules
 
 object_in_total : (segment : Segment) (before : List Contents) (k : Contents) (after : List Contents) →
     size_of segment k ≤ total segment (before ++ k ∷ after)
@@ -67,16 +53,7 @@ object_at (o ∷ os) k after all = object_at os k after all.1
 
 pub small_objects : (forced : List (List ℕ)) (os : List Contents) → AllByRecursion IsObject os → limit_passed forced os ≡ None →
     (before : List Contents) (k : Contents) (after : List Contents) → os ≡ before ++ k ∷ after → IsSmallObject k
-small_objects forced os good passed before k after split =
-    let small = subst IsSmall split (small_passed forced os passed) in
-    let text = small.text in
-    let datas = small.«data» in
-    let of_text = object_in_total TextSeg before k after in
-    let of_data = object_in_total DataSeg before k after in record {
-      fits = (object_at before k after (subst (AllByRecursion IsObject) split good)).fits;
-      text = omega (arith, text, of_text);
-      «data» = omega (arith, datas, of_data);
-    }
+small_objects forced os good passed before k after split = search (rules, small_passed, object_in_total, object_at)
 
 -- ---- places
 
@@ -132,9 +109,7 @@ module _ (forced : List (List ℕ)) (o : Choices) (es : List Labelled) (x : Outc
     at = moved_on start before
 
     there : slice_get (places_mapped forced o es) (length before) ≡ Some at
-    there =
-        ap (λ (ps : List Places). slice_get ps (length before)) (places_are start es ∙ ap (by_headers start) split)
-        ∙ place_of start before k after
+    there = search (rules, places_are, place_of)
 
     small : IsSmall os
     small = subst IsSmall split (small_passed forced (objects es) passed)
@@ -161,11 +136,7 @@ module _ (forced : List (List ℕ)) (o : Choices) (es : List Labelled) (x : Outc
     data_base_is = ap (λ (f : Contents). data_start_in f.header) (sym file_is) ∙ sym (data_begun o.layout (total TextSeg (objects es)))
 
     bss_base_is : base_in x.file.header (total BssSeg os) BssSeg ≡ p.at.bss_start
-    bss_base_is =
-        ap (λ (cs : List Contents). base_in x.file.header (total BssSeg cs) BssSeg) (sym split)
-        ∙ ap (λ (f : Contents). base_in f.header (total BssSeg (objects es)) BssSeg) (sym file_is)
-        ∙ (λ i. sym (data_begun o.layout (total TextSeg (objects es))) i + total DataSeg (objects es)
-        + rest_back (commons_laid o (mentions forced (objects es))) (total BssSeg (objects es)) i)
+    bss_base_is = search (rules, file_is, data_begun, rest_back)
 
     at_place : (segment : Segment) (n address : ℕ) → HasPlace segment →
         address ≡ base_in x.file.header (total BssSeg os) segment + total segment before + n →
@@ -181,22 +152,8 @@ module _ (forced : List (List ℕ)) (o : Choices) (es : List Labelled) (x : Outc
       where
         in_part : (part : Part) (n : ℕ) → n < 65536 →
             IsPlace x.file.header os before k (segment_of_part part) n (capped (start_in at part) n)
-        in_part parts.Text n few =
-            let less = total_before TextSeg before k after in
-            let most = small.text in
-            at_place TextSeg n (capped at.text n) tt
-            (shown at.text 0 0 (total TextSeg before) n text_is refl (omega (arith, less, most)) few)
-        in_part parts.Data n few =
-            let less = total_before DataSeg before k after in
-            let most = small.«data» in
-            at_place DataSeg n (capped at.«data» n) tt
-            (shown at.«data» p.at.data_start (base_in x.file.header (total BssSeg os) DataSeg) (total DataSeg before) n data_is data_base_is
-            (omega (arith, less, most, fits)) few)
+        in_part parts.Text n few = search (rules, total_before, at_place, shown, text_is)
+        in_part parts.Data n few = search (rules, total_before, at_place, shown, data_is, data_base_is, fits)
 
         in_bss : (n : ℕ) → n < 65536 → IsPlace x.file.header os before k BssSeg n (capped at.bss n)
-        in_bss n few =
-            let less = total_before BssSeg before k after in
-            let most = small.bss in
-            at_place BssSeg n (capped at.bss n) tt
-            (shown at.bss p.at.bss_start (base_in x.file.header (total BssSeg os) BssSeg) (total BssSeg before) n bss_is bss_base_is
-            (omega (arith, less, most, fits)) few)
+        in_bss n few = search (rules, total_before, at_place, shown, bss_is, bss_base_is, fits)

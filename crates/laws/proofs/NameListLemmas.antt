@@ -1,4 +1,5 @@
 -- Lists of names without a repetition: two with the same names are in another order at most.
+use Rattle.std.proofs.Common.{rules}
 use Rattle.std.proofs.Common.{◌≡◌, ℕ, Bool, true, false, cond, ◌&&◌, ◌||◌, List, [], ◌∷◌, ◌++◌, refl, sym, ◌∙◌, ap, subst}
 use Rattle.std.proofs.lemmas.List.Sorted.{IsPermutation-refl, IsPermutation-sym, IsPermutation-trans, IsPermutation-cons}
 use Rattle.std.proofs.lemmas.List.Sorted.{IsPermutation-middle}
@@ -39,16 +40,7 @@ record IsLeft (front back : List (List ℕ)) (x : List ℕ) : Type 0 where
 
 left_over : (front back : List (List ℕ)) (x : List ℕ) → AreOnce (front ++ x ∷ back) → IsLeft front back x
 left_over [] back x h = record { once = h.1; gone = h.0 }
-left_over (y ∷ front) back x h =
-    let rest = left_over front back x h.1 in
-    let all : (is_among front y || (bytes_eq y x || is_among back y)) ≡ false = sym (is_among-append front (x ∷ back) y) ∙ h.0 in
-    let parts = or_parts (is_among front y) (bytes_eq y x || is_among back y) all in
-    let two = or_parts (bytes_eq y x) (is_among back y) parts.1 in
-    let none : is_among (front ++ back) y ≡ false = is_among-append front back y ∙ (λ i. parts.0 i || two.1 i) in
-    record {
-      once = (none, rest.once);
-      gone = λ i. (bytes_eq_sym x y ∙ two.0) i || rest.gone i;
-    }
+left_over (y ∷ front) back x h = search (rules, is_among-append, or_parts, bytes_eq_sym, (left_over front back x h.1))
 
 -- without it, both have the same names
 same_left : (xs front back : List (List ℕ)) (x : List ℕ) → is_among xs x ≡ false → is_among (front ++ back) x ≡ false →
@@ -60,9 +52,7 @@ same_left xs front back x none gone same n = by_test (bytes_eq n x) refl (same n
 
     by_test : (t : Bool) → bytes_eq n x ≡ t → (t || is_among xs n) ≡ (is_among front n || (t || is_among back n)) →
         is_among xs n ≡ is_among (front ++ back) n
-    by_test true e h =
-        let is : n ≡ x = (bytes_eq-Decides n x).0 e in
-        ap (λ (m : List ℕ). is_among xs m) is ∙ none ∙ sym gone ∙ ap (λ (m : List ℕ). is_among (front ++ back) m) (sym is)
+    by_test true e h = search rules
     by_test false e h = h ∙ middle (is_among front n) (is_among back n) ∙ sym (is_among-append front back n)
 
 -- lists without repetition that have the same names
@@ -80,11 +70,7 @@ reordered (x ∷ xs) ys ex ey same =
 
 -- the names kept by a test
 kept_among : (t : List ℕ → Bool) (xs : List (List ℕ)) (n : List ℕ) → is_among (filter t xs) n ≡ (t n && is_among xs n)
-kept_among t [] n = by_test (t n)
-  where
-    by_test : (b : Bool) → false ≡ (b && false)
-    by_test true = refl
-    by_test false = refl
+kept_among t [] n = search rules
 kept_among t (x ∷ xs) n = by_tests (t x) refl (bytes_eq n x) refl (t n) refl (kept_among t xs n)
   where
     by_tests : (a : Bool) → t x ≡ a → (u : Bool) → bytes_eq n x ≡ u → (b : Bool) → t n ≡ b → is_among (filter t xs) n
@@ -123,8 +109,4 @@ new_once seen (x ∷ xs) = by_test (is_among seen x) (new_once (seen ++ x ∷ []
     by_test : (t : Bool) → AreOnce (new_names (seen ++ x ∷ []) xs) →
         AreOnce (cond t (new_names (seen ++ x ∷ []) xs) (x ∷ new_names (seen ++ x ∷ []) xs))
     by_test true rest = rest
-    by_test false rest = (
-      never_new (seen ++ x ∷ []) xs x (is_among-append seen (x ∷ []) x
-          ∙ or_right (is_among seen x) (is_among (x ∷ []) x) (or_left (bytes_eq x x) false (own_name x))),
-      rest,
-    )
+    by_test false rest = search (rules, never_new, is_among-append, or_right, or_left, own_name)

@@ -1,4 +1,5 @@
 -- What words of a linked program find, beside what they find in their objects.
+use Rattle.std.proofs.Common.{rules}
 use Rattle.std.proofs.Common.{◌≡◌, ◌≢◌, ℕ, ◌+◌, ◌*◌, ◌-◌, ◌%◌, ◌<◌, ◌≤◌, Bool, true, false, cond, not, ◌||◌, eqb, List, [], ◌∷◌, ◌++◌}
 use Rattle.std.proofs.Common.{Option, Some, None, refl, sym, ◌∙◌, ap, subst, arith}
 use Rattle.std.proofs.{lemmas.List.Sums.sum_by-append, lemmas.Option.same_Some}
@@ -29,55 +30,22 @@ use Rattle.aout_core.specs.declared.reloc.Kind.TheVariants as kinds
 
 by_pc : (pc : Bool) (start own n w more : ℕ) →
     operand pc (start + n) (minus (plus w more) (cond pc (minus start own) 0)) ≡ plus more (operand pc (own + n) w)
-by_pc true start own n w more = beside start own n w more
-  where
-    beside : (start own n w more : ℕ) → plus (start + n + 2) (minus (plus w more) (minus start own)) ≡ plus more (plus (own + n + 2) w)
-    beside start own n w more = omega arith
-by_pc false start own n w more = alone w more
-  where
-    alone : (w more : ℕ) → plus 0 (minus (plus w more) 0) ≡ plus more (plus 0 w)
-    alone w more = omega arith
+by_pc true start own n w more = search rules
+by_pc false start own n w more = search rules
 
 -- a word that is loaded finds more by what was added to it
 module _ (file : Contents) (rows : List Symbol) (os before : List Contents) (k : Contents) where
   -- a loaded word finds so much more as was added to it
   pub loaded_finds : (segment : Segment) → HasWords segment → (i w : ℕ) (r : Reloc)
       (l : IsLoaded file rows os before k segment i w r) → FindsMore file os before k segment i w r l.added
-  loaded_finds TextSeg has i w r l = record {
-    address = l.address;
-    place = l.place;
-    word = minus (plus w l.added) (cond (is_pc_relative r) (move_in file.header os before k TextSeg) 0);
-    is_there = l.word;
-    finds =
-        ap (λ (a : ℕ). operand (is_pc_relative r) a
-        (minus (plus w l.added) (cond (is_pc_relative r) (move_in file.header os before k TextSeg) 0))) l.place.sum
-        ∙ by_pc (is_pc_relative r) (base_in file.header (total BssSeg os) TextSeg + total TextSeg before) (own k TextSeg) (2 * i) w l.added;
-  }
-  loaded_finds DataSeg has i w r l = record {
-    address = l.address;
-    place = l.place;
-    word = minus (plus w l.added) (cond (is_pc_relative r) (move_in file.header os before k DataSeg) 0);
-    is_there = l.word;
-    finds =
-        ap (λ (a : ℕ). operand (is_pc_relative r) a
-        (minus (plus w l.added) (cond (is_pc_relative r) (move_in file.header os before k DataSeg) 0))) l.place.sum
-        ∙ by_pc (is_pc_relative r) (base_in file.header (total BssSeg os) DataSeg + total DataSeg before) (own k DataSeg) (2 * i) w l.added;
-  }
+  loaded_finds TextSeg has i w r l = search rules
+  loaded_finds DataSeg has i w r l = search rules
   loaded_finds _ has i w r l = absurd has
 
 -- names
 
 reserved_written : (b : Bases) (name : List ℕ) → (reserved_or_waiting b name).address ≡ (reserved_or_waiting b name).written
-reserved_written b name = by_tests (bytes_eq name etext) (bytes_eq name edata) (bytes_eq name end_name)
-  where
-    by_tests : (t d e : Bool) → (cond t (bound_at TextSeg b.text_end)
-        (cond d (bound_at DataSeg b.data_end) (cond e (bound_at BssSeg b.bss_end) (waiting 0)))).address
-        ≡ (cond t (bound_at TextSeg b.text_end)
-        (cond d (bound_at DataSeg b.data_end) (cond e (bound_at BssSeg b.bss_end) (waiting 0)))).written
-    by_tests true d e = refl
-    by_tests false true e = refl
-    by_tests false false true = refl
-    by_tests false false false = refl
+reserved_written b name = search rules
 
 -- without relocation a name's value is its address
 module _ (forced : List (List ℕ)) (os : List Contents) (o : Choices) (unkept : o.relocatable ≡ false) where
@@ -86,22 +54,7 @@ module _ (forced : List (List ℕ)) (os : List Contents) (o : Choices) (unkept :
 
   written_by : (name : List ℕ) (st : State) → (final_by p name st).address ≡ (final_by p name st).written
   written_by name (Defined segment offset) = refl
-  written_by name (Wanted size) =
-      ap (λ (r : Bool). let f : Final = cond (eqb size 0) (cond o.relocatable (waiting 0) (reserved_or_waiting p.at name))
-      (cond (not r || o.force_commons) (bound_at BssSeg (plus p.at.data_end (common_offset p.mentions name))) (waiting size)) in
-      f.address) unkept
-      ∙ by_tests (eqb size 0) o.relocatable
-      ∙ sym (ap (λ (r : Bool). let f : Final = cond (eqb size 0) (cond o.relocatable (waiting 0) (reserved_or_waiting p.at name))
-      (cond (not r || o.force_commons) (bound_at BssSeg (plus p.at.data_end (common_offset p.mentions name))) (waiting size)) in
-      f.written) unkept)
-    where
-      by_tests : (z r : Bool) →
-          (let f : Final = cond z (cond r (waiting 0) (reserved_or_waiting p.at name))
-          (bound_at BssSeg (plus p.at.data_end (common_offset p.mentions name))) in f.address)
-          ≡ (let f : Final = cond z (cond r (waiting 0) (reserved_or_waiting p.at name))
-          (bound_at BssSeg (plus p.at.data_end (common_offset p.mentions name))) in f.written)
-      by_tests true false = reserved_written p.at name
-      by_tests _ _ = refl
+  written_by name (Wanted size) = search rules
 
   value_in : (name : List ℕ) → address_in (external_row p name) ≡ (external_row p name).value
   value_in name = row_address forced os o name ∙ written_by name (state (mentions forced os) name)
@@ -134,17 +87,7 @@ pub address_found : (forced : List (List ℕ)) (before : List Contents) (k : Con
 address_found forced before k after o x good others linked segment i w r ew er kind =
     let os = before ++ k ∷ after in
     let l = words_loaded forced before k after o x good others linked segment i w r ew er in
-    let is : IsAddressOf x.file.symbols k (symbol_number r) l.added =
-    subst (λ (m : Option Kind). IsAdded x.file.header x.file.symbols os before k m (symbol_number r) l.added) kind l.is in
-    record {
-      symbol = is.symbol;
-      row = is.row;
-      named = is.named;
-      found = is.found;
-      more =
-          subst (λ (a : ℕ). FindsMore x.file os before k segment i w r a) is.gives
-          (loaded_finds x.file x.file.symbols os before k segment (words_there segment k i w ew) i w r l);
-    }
+    search rules
 
 -- for `operand_law`: the same by the value of the name in the file's table
 pub names_found : (forced : List (List ℕ)) (before : List Contents) (k : Contents) (after : List Contents) (o : Choices) (x : Outcome) →
@@ -155,15 +98,7 @@ pub names_found : (forced : List (List ℕ)) (before : List Contents) (k : Conte
 names_found forced before k after o x good others unkept linked segment i w r ew er kind =
     let os = before ++ k ∷ after in
     let a = address_found forced before k after o x good others linked segment i w r ew er kind in
-    record {
-      symbol = a.symbol;
-      row = a.row;
-      named = a.named;
-      found = a.found;
-      more =
-          subst (λ (n : ℕ). FindsMore x.file os before k segment i w r n)
-          (value_given forced os o unkept x others linked a.symbol.name a.row a.found) a.more;
-    }
+    search (rules, value_given)
 
 -- segments
 
@@ -191,11 +126,7 @@ segments_found forced before k after o x good linked segment i w r ew er kind me
     let os = before ++ k ∷ after in
     let from = (linked_exactly forced os o x good).0 linked in
     let l = words_of_rows forced before k after o x good from segment i w r ew er in
-    let is : IsAdded x.file.header from.rows os before k (Some kind) (symbol_number r) l.added =
-    subst (λ (n : Option Kind). IsAdded x.file.header from.rows os before k n (symbol_number r) l.added) e l.is in
-    subst (λ (a : ℕ). FindsMore x.file os before k segment i w r a)
-    (meant_added x.file.header from.rows os before k kind meant (symbol_number r) l.added m is)
-    (loaded_finds x.file from.rows os before k segment (words_there segment k i w ew) i w r l)
+    search rules
 
 -- calls
 
@@ -257,29 +188,9 @@ byte_in forced os o x good linked front c back all space segment there n inside 
 
     by_segment : (segment : Segment) → is_usable_in x.file.header.magic segment space ≡ true → n < size_of segment c →
         is_in x.file.header space segment (address_of x.file.header os front c segment n) ≡ true
-    by_segment TextSeg has h = within_back x.file.header space TextSeg (address_of x.file.header os front c TextSeg n) (record {
-      has = has;
-      from = over 0 (total TextSeg front) n;
-      before =
-          under 0 x.file.header.text_size (total TextSeg os) (total TextSeg front) c.header.text_size
-          (total TextSeg back) n full.text (sum TextSeg) h;
-    })
-    by_segment DataSeg has h = within_back x.file.header space DataSeg (address_of x.file.header os front c DataSeg n) (record {
-      has = has;
-      from = over (data_start_in x.file.header) (total DataSeg front) n;
-      before =
-          under (data_start_in x.file.header) x.file.header.data_size (total DataSeg os)
-          (total DataSeg front) c.header.data_size (total DataSeg back) n full.data (sum DataSeg) h;
-    })
-    by_segment BssSeg has h = within_back x.file.header space BssSeg (address_of x.file.header os front c BssSeg n) (record {
-      has = has;
-      from =
-          over_commons (data_start_in x.file.header + x.file.header.data_size)
-          (x.file.header.bss_size - total BssSeg os) (total BssSeg front) n;
-      before =
-          under_commons (data_start_in x.file.header + x.file.header.data_size) x.file.header.bss_size (total BssSeg os)
-          (total BssSeg front) c.header.bss_size (total BssSeg back) n (sum BssSeg) full.bss h;
-    })
+    by_segment TextSeg has h = search (rules, within_back, address_of, over, under, sum)
+    by_segment DataSeg has h = search (rules, within_back, address_of, over, under, sum)
+    by_segment BssSeg has h = search (rules, within_back, address_of, over_commons, under_commons, sum)
     by_segment _ has h = absurd (omega arith)
 
 -- for `operand_law`: if no name is multiply defined, a call of a name arrives at its definition
@@ -300,26 +211,7 @@ calls_arrive forced os o x good others linked once before k after all front c ba
     once d.number d.symbol d.is_there d.outer d.inner) in
     let there : IsPlace x.file.header os front c to n (address_of x.file.header os front c to n) =
     any_place x.file.header os front c to n in
-    let same : finds.symbol ≡ call.symbol = same_Some finds.symbol call.symbol (sym finds.named ∙ call.named) in
-    let row : finds.row ≡ is.row = same_Some finds.row is.row (sym finds.found
-    ∙ ap (λ (m : List ℕ). entry_of x.file.symbols m) (ap (λ (s : Symbol). s.name) same ∙ call.names ∙ sym d.names) ∙ is.found) in
-    let value : is.row.value ≡ address_of x.file.header os front c to n % 65536 =
-    is.value ∙ (λ j. plus (d.value j) (move_in x.file.header os front c (d.is j))) ∙ there.symbol in
-    record {
-      address = finds.more.address;
-      place = finds.more.place;
-      word = finds.more.word;
-      is_there = finds.more.is_there;
-      target = address_of x.file.header os front c to n;
-      there = there;
-      loaded = byte_in forced os o x good linked front c back other space to usable n;
-      arrives =
-          ap (λ (t : Bool). operand t finds.more.address finds.more.word) (sym call.pc)
-          ∙ finds.more.finds
-          ∙ (λ j. plus ((ap address_in row ∙ defined_address is.row to (is.type_bits ∙ ap external_type d.is) ∙ value) j)
-          ((ap (λ (t : Bool). operand t (own k from + 2 * i) call.w) call.pc ∙ call.just) j))
-          ∙ wrapped (address_of x.file.header os front c to n);
-    }
+    search (rules, same_Some, address_of, byte_in, defined_address, wrapped)
   where
     wrapped : (a : ℕ) → plus (a % 65536) 0 ≡ a % 65536
     wrapped a = omega arith

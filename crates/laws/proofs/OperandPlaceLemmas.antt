@@ -1,4 +1,5 @@
 -- What the operands of an instruction are in a program: the addresses of the bytes to which they refer.
+use Rattle.std.proofs.Common.{rules}
 use Rattle.std.proofs.Common.{◌≡◌, ◌≢◌, ℕ, ◌+◌, ◌-◌, ◌*◌, ◌/◌, ◌%◌, ◌<◌, ◌≤◌, ◌⊎◌, inl, inr, Bool, true, false, ◌||◌, nat_lt, if◌then◌else◌}
 use Rattle.std.proofs.Common.{List, [], ◌∷◌, ◌++◌, length, drop, Option, Some, None, refl, sym, ◌∙◌, ap, subst, arith}
 use Rattle.std.proofs.{lemmas.Bool.Decides.nat_tests, lemmas.List.length-drop, lemmas.Option.same_Some}
@@ -36,10 +37,7 @@ use Rattle.instructions.specs.declared.operand.Operand.TheVariants as operands
 
 -- the word at an address is one
 one_number : (a b : ℕ) → Some (a % 256) ≡ Some (b % 256) → Some (a / 256) ≡ Some (b / 256) → a ≡ b
-one_number a b low high =
-    let l : a % 256 ≡ b % 256 = same_Some (a % 256) (b % 256) low in
-    let h : a / 256 ≡ b / 256 = same_Some (a / 256) (b / 256) high in
-    omega arith
+one_number a b low high = search rules
 
 pub one_word : (file : Contents) (space : Space) (address a b : ℕ) → IsWordAt file space address a → IsWordAt file space address b → a ≡ b
 one_word file space address a b p q = one_number a b (sym p.low ∙ q.low) (sym p.high ∙ q.high)
@@ -48,28 +46,16 @@ one_word file space address a b p q = one_number a b (sym p.low ∙ q.low) (sym 
 module _ (file : Contents) (os before : List Contents) (k : Contents) (segment : Segment) (i w : ℕ) (r : Reloc) (m n : ℕ) where
   same_found : (f : FindsMore file os before k segment i w r m) → FindsMore file os before k segment i w r n →
       operand (is_pc_relative r) f.address f.word ≡ plus n (operand (is_pc_relative r) (own k segment + 2 * i) w)
-  same_found f g =
-      let a : f.address ≡ g.address = f.place.sum ∙ sym g.place.sum in
-      let there : IsWordAt file (space_of segment) g.address f.word =
-      subst (λ (p : ℕ). IsWordAt file (space_of segment) p f.word) a f.is_there in
-      let b : f.word ≡ g.word = one_word file (space_of segment) g.address f.word g.word there g.is_there in
-      (λ j. operand (is_pc_relative r) (a j) (b j)) ∙ g.finds
+  same_found f g = search rules
 
 -- numbers of bytes, moved
 moved_own : (number more start n place : ℕ) → number ≡ (start + n) % 65536 → plus (start + n) more ≡ place % 65536 →
     plus more number ≡ place % 65536
-moved_own number more start n place e there =
-    let p : (start + n + more) % 65536 ≡ place % 65536 = there in
-    let q : (more + number) % 65536 ≡ place % 65536 = omega arith in q
+moved_own number more start n place e there = search rules
 
 moved_name : (number more value first start n place : ℕ) → value ≡ plus first more →
     plus first number ≡ (start + n) % 65536 → plus (start + n) more ≡ place % 65536 → plus value number ≡ place % 65536
-moved_name number more value first start n place e beyond there =
-    let a : value ≡ (first + more) % 65536 = e in
-    let b : (first + number) % 65536 ≡ (start + n) % 65536 = beyond in
-    let p : (start + n + more) % 65536 ≡ place % 65536 = there in
-    let q : (value + number) % 65536 ≡ place % 65536 = omega arith in
-    q
+moved_name number more value first start n place e beyond there = search rules
 
 module _ (forced : List (List ℕ)) (os : List Contents) (o : Choices) (x : Outcome) (good : AllByRecursion IsObject os)
     (linked : link forced os o ≡ Ok x) where
@@ -77,12 +63,7 @@ module _ (forced : List (List ℕ)) (os : List Contents) (o : Choices) (x : Outc
   address_by : (front : List Contents) (c : Contents) (back : List Contents) → os ≡ front ++ c ∷ back →
       (to : Segment) (n : ℕ) (space : Space) (number : ℕ) →
       number ≡ address_of x.file.header os front c to n % 65536 → IsAddress x.file os front c to n space number
-  address_by front c back all to n space number e = record {
-    address = address_of x.file.header os front c to n;
-    place = any_place x.file.header os front c to n;
-    is = e;
-    loaded = λ usable inside. byte_in forced os o x good linked front c back all space to usable n inside;
-  }
+  address_by front c back all to n space number e = search (rules, address_of, any_place, byte_in)
 
   -- the value of a name is that of its definition, moved
   module _ (kept : o.keep ≢ Nothing) (once : x.report.multiples ≡ []) (front : List Contents) (c : Contents)
@@ -94,12 +75,7 @@ module _ (forced : List (List ℕ)) (os : List Contents) (o : Choices) (x : Outc
         subst (λ (ys : List Contents). IsDefined x.file ys front c d.symbol) (sym all)
         (definitions_hold forced front c back o x kept (ap (λ (ys : List Contents). link forced ys o) (sym all) ∙ linked)
         once d.number d.symbol d.is_there d.outer d.inner) in
-        let same : row ≡ is.row =
-        same_Some row is.row (sym found ∙ ap (λ (m : List ℕ). entry_of x.file.symbols m) (sym d.names) ∙ is.found) in
-        ap address_in same
-        ∙ defined_address is.row to (is.type_bits ∙ ap external_type d.is)
-        ∙ is.value
-        ∙ (λ j. plus (d.value j) (move_in x.file.header os front c (d.is j)))
+        search rules
 
     named_address : (k : Contents) (kind : Option Kind) (r : Reloc) (number found_number : ℕ) (to : Segment) (n : ℕ)
         (space : Space) (b : IsNamedByte k c kind r number to n) →
@@ -140,31 +116,13 @@ suits a r kind h = suits_by a r kind (counts_from_pc a) (is_pc_relative r) refl 
 distance_value : (a : Addressing) → counts_from_pc a ≡ true → (i w address word move : ℕ) →
     operand false address word ≡ plus 0 (operand false (0 + 2 * i) w) →
     plus (0 + 2 * i) move ≡ address % 65536 → machine_value a (address + 2) word ≡ plus move (machine_value a (2 * i + 2) w)
-distance_value a e i w address word move f there = by_mode a e
-  where
-    sums : plus word (address + 2) ≡ plus move (plus w (2 * i + 2))
-    sums =
-        let p : (0 + word) % 65536 ≡ (0 + (0 + w) % 65536) % 65536 = f in
-        let q : (0 + 2 * i + move) % 65536 ≡ address % 65536 = there in
-        let r : (word + (address + 2)) % 65536 ≡ (move + (w + (2 * i + 2)) % 65536) % 65536 = omega arith in
-        r
-
-    by_mode : (a : Addressing) → counts_from_pc a ≡ true →
-        machine_value a (address + 2) word ≡ plus move (machine_value a (2 * i + 2) w)
-    by_mode Relative e = sums
-    by_mode RelativeDeferred e = sums
-    by_mode _ e = absurd cc
+distance_value a e i w address word move f there = search rules
 
 -- what the machine makes of a word whose pc bit suits its addressing
 suited_value : (a : Addressing) (r : Reloc) → is_pc_relative r ≡ counts_from_pc a → (i w address word more : ℕ) →
     operand (is_pc_relative r) address word ≡ plus more (operand (is_pc_relative r) (0 + 2 * i) w) →
     machine_value a (address + 2) word ≡ plus more (machine_value a (2 * i + 2) w)
-suited_value a r e i w address word more f =
-    let from_nothing : 0 + 2 * i ≡ 2 * i = omega arith in
-    machine_is a (is_pc_relative r) e address word
-    ∙ f
-    ∙ ap (λ (n : ℕ). plus more n)
-    (sym (machine_is a (is_pc_relative r) e (0 + 2 * i) w) ∙ ap (λ (n : ℕ). machine_value a (n + 2) w) from_nothing)
+suited_value a r e i w address word more f = search rules
 
 module _ (forced : List (List ℕ)) (before : List Contents) (k : Contents) (after : List Contents) (o : Choices) (x : Outcome)
     (good : AllByRecursion IsObject (before ++ k ∷ after)) (linked : link forced (before ++ k ∷ after) o ≡ Ok x) where
@@ -212,11 +170,7 @@ module _ (forced : List (List ℕ)) (before : List Contents) (k : Contents) (aft
 
     -- a name
     name_suits : kind_meant a r ≡ Some kinds.External → Suits a r kinds.External
-    name_suits is = by_test (suits a r kinds.External is)
-      where
-        by_test : Suits a r kinds.External ⊎ IsDistance a r kinds.External → Suits a r kinds.External
-        by_test (inl s) = s
-        by_test (inr d) = let bad : kinds.External ≡ kinds.TextSeg = d.3 in absurd cc
+    name_suits is = search rules
 
     abbrev operand_there : HasOperand (before ++ k ∷ after) o x before k operation a i
     operand_there = record {
@@ -279,27 +233,15 @@ word_inside : (ws : List ℕ) (i w : ℕ) (following : List ℕ) → drop i ws �
     instruction_of w ≡ Some instruction →
     is_cut (instruction_of w) following ≡ false → (operand : Option Operand) (p : ℕ) →
     IsOperand instruction i operand p → takes_word operand ≡ true → p < length ws
-word_inside ws i w following here instruction is whole operand p place takes =
-    let long : length (drop i ws) ≡ length (w ∷ following) = ap (λ (xs : List ℕ). length xs) here in
-    let left = length-drop i ws in
-    let uncut : nat_lt (length following) (following_words instruction) ≡ false =
-    ap (λ (q : Option Instruction). is_cut q following) (sym is) ∙ whole in
-    let enough : following_words instruction ≤ length following = grind (arith, nat_tests) in
-    by_place long left enough place
+word_inside ws i w following here instruction is whole operand p place takes = search (rules, length-drop, nat_tests, by_place)
   where
     counts : (q : Option Operand) → operand ≡ q → word_count_of q ≡ 1
     counts q e = ap (λ (t : Bool). if t then 1 else 0) (ap takes_word (sym e) ∙ takes)
 
     by_place : length (drop i ws) ≡ length (w ∷ following) → length (drop i ws) ≡ length ws - i →
         following_words instruction ≤ length following → IsOperand instruction i operand p → p < length ws
-    by_place long left enough (inl (e, at)) =
-        let one = counts instruction.first e in
-        let sum : word_count_of instruction.first + word_count_of instruction.second ≤ length following = enough in
-        omega arith
-    by_place long left enough (inr (e, at)) =
-        let one = counts instruction.second e in
-        let sum : word_count_of instruction.first + word_count_of instruction.second ≤ length following = enough in
-        omega arith
+    by_place long left enough (inl (e, at)) = search rules
+    by_place long left enough (inr (e, at)) = search rules
 
 -- for `instruction_law`: each operand is the address of the byte to which it refers
 pub operands_there : OperandsAreThere
@@ -335,9 +277,7 @@ jumps_arrive forced before k after o x good kept linked once i w following here 
 -- pointers
 alone_value : (r : Reloc) (start address word more w : ℕ) → is_pc_relative r ≡ false → operand (is_pc_relative r)
     address word ≡ plus more (operand (is_pc_relative r) start w) → operand false address word ≡ plus more (w % 65536)
-alone_value r start address word more w e f =
-    subst (λ (pc : Bool). operand pc address word ≡ plus more (operand pc start w)) e f
-    ∙ (let p : (more + (0 + w) % 65536) % 65536 ≡ (more + w % 65536) % 65536 = omega arith in p)
+alone_value r start address word more w e f = search rules
 
 -- for `pointer_law`: a word that refers to a segment of its object
 pub pointers_to_segments : PointersToSegments
@@ -362,14 +302,4 @@ pointers_to_segments forced before k after o x good linked from i w r ew er alon
 pub pointers_to_names : PointersToNames
 pointers_to_names forced before k after o x good kept linked once from i w r ew er alone front c back all to n b =
     let f = address_found forced before k after o x good kept linked from i w r ew er b.is in
-    let value = alone_value r (own k from + 2 * i) f.more.address f.more.word (address_in f.row) w alone f.more.finds in
-    record {
-      address = f.more.address;
-      place = f.more.place;
-      word = f.more.word;
-      is_there = f.more.is_there;
-      points =
-          λ space. named_address forced (before ++ k ∷ after) o x good linked kept once front c back all k (kind_of r) r
-          (w % 65536) (operand false f.more.address f.more.word)
-          to n space b f.symbol f.row f.named f.found value;
-    }
+    search (rules, alone_value, named_address)

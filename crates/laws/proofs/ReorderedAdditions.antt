@@ -1,4 +1,5 @@
 -- Additions of the same objects in two orders, and the links after them.
+use Rattle.std.proofs.Common.{rules}
 use Rattle.std.proofs.Common.{◌≡◌, ◌↔◌, ℕ, false, cond, List, [], ◌∷◌, ◌++◌, length, Option, Some, None, refl, sym, ◌∙◌, ap, subst}
 use Rattle.std.proofs.Common.{append_assoc, append-nil, arith}
 use Rattle.std.proofs.lemmas.List.{map-append}
@@ -41,9 +42,7 @@ module _ (forced : List (List ℕ)) where
   all_added kept (e ∷ es) h =
       let next : limit_passed forced (objects ((kept ++ e ∷ []) ++ es)) ≡ None =
       ap (λ (ls : List Labelled). limit_passed forced (objects ls)) (append_assoc kept (e ∷ []) es) ∙ h in
-      let fits : refusal forced (objects kept) e.object ≡ None =
-      sym (one_more kept e) ∙ front_within forced (objects (kept ++ e ∷ [])) (objects es)
-      (ap (limit_passed forced) (sym (map-append (λ (l : Labelled). l.object) (kept ++ e ∷ []) es)) ∙ next) in
+      let fits : refusal forced (objects kept) e.object ≡ None = search (rules, one_more, front_within, map-append) in
       let rest = all_added (kept ++ e ∷ []) es next in (
         (
           ap answer_by fits,
@@ -114,9 +113,4 @@ linked_in_order forced os ps o same plain = by_links (link forced os o) refl (li
 pub linked_alike : (forced : List (List ℕ)) (es ds : List Labelled) (o : Choices) →
     IsPermutation es ds → o.relocatable ≡ false → AreAdded forced es →
     AreAlike (link_after forced (additions es) o) (link_after forced (additions ds) o)
-linked_alike forced es ds o same plain told =
-    let one = sym (all_left forced es told) in
-    let other = sym (all_left forced ds (added_too forced es ds same told)) in
-    subst (λ (ls : List Labelled). AreAlike (link forced (objects ls) o) (link_after forced (additions ds) o)) one
-    (subst (λ (ls : List Labelled). AreAlike (link forced (objects es) o) (link forced (objects ls) o)) other
-    (linked_in_order forced (objects es) (objects ds) o (objects_reordered es ds same) plain))
+linked_alike forced es ds o same plain told = search (rules, all_left, added_too, linked_in_order, objects_reordered)

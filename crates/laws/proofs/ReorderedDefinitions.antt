@@ -1,4 +1,5 @@
 -- What defines a name among the same objects in two orders.
+use Rattle.std.proofs.Common.{rules}
 use Rattle.std.proofs.Common.{◌≡◌, ℕ, ◌+◌, Bool, true, false, cond, eqb, eqb-true, List, [], ◌∷◌, ◌++◌, map, length, Option, Some, refl}
 use Rattle.std.proofs.Common.{sym, ◌∙◌, ap, subst, append_assoc, ◌⊎◌, inl, inr}
 use Rattle.std.proofs.lemmas.Slice.Eq.{bytes_eq-Decides}
@@ -119,9 +120,7 @@ stated_again before front k DataSeg value g n e =
 stated_again before front k BssSeg value g n e =
     let same : BssSeg ≡ g = cc in
     (plus value (shift front k BssSeg), ap (λ (s : Segment). Defined s (plus value (shift front k BssSeg))) same)
-stated_again before front k _ value g n e =
-    let same : Absolute ≡ g = cc in
-    (plus value (shift front k Absolute), ap (λ (s : Segment). Defined s (plus value (shift front k Absolute))) same)
+stated_again before front k _ value g n e = search rules
 
 -- the same symbol of the same object defines it in another order
 pub record IsSaidAgain (ps : List Contents) (name : List ℕ) (segment : Segment) (k : Contents) (s : Symbol) : Type 0 where
@@ -138,18 +137,7 @@ said_again os ps same name segment n d =
     let moved = stated_again d.before there.before d.k (segment_of d.symbol) d.symbol.value segment n d.is in
     record {
       offset = moved.0;
-      said = record {
-        before = there.before;
-        k = d.k;
-        after = there.after;
-        all = there.all;
-        number = d.number;
-        symbol = d.symbol;
-        is_there = d.is_there;
-        outer = d.outer;
-        names = d.names;
-        is = moved.1;
-      };
+      said = search rules;
       object = refl;
       symbol = refl;
     }
@@ -157,13 +145,7 @@ said_again os ps same name segment n d =
 -- such a symbol is of no undefined type
 pub defines : (os : List Contents) (name : List ℕ) (segment : Segment) (n : ℕ) (d : IsSaid os name (Defined segment n)) →
     eqb (masked_type d.symbol) 0 ≡ false
-defines os name segment n d = by_test (eqb (masked_type d.symbol) 0) refl
-  where
-    by_test : (t : Bool) → eqb (masked_type d.symbol) 0 ≡ t → t ≡ false
-    by_test false e = refl
-    by_test true e = absurd (let zero : segment_of d.symbol ≡ Undefined = ap segment_numbered (eqb-true (masked_type d.symbol) 0 e) in
-        let bad : Wanted d.symbol.value ≡ Defined segment n =
-        sym (ap (λ (g : Segment). statement d.before d.k g d.symbol.value) zero) ∙ d.is in cc)
+defines os name segment n d = search rules
 
 -- where no name is multiply defined, it is the first definition of the name
 pub first_is_said : (forced : List (List ℕ)) (os : List Contents) → multiple_names (mentions forced os) ≡ [] →
@@ -175,7 +157,5 @@ first_is_said forced os single name segment n d =
     subst (λ (ks : List Contents). AllByRecursion (AgreesIn ms) (mentions forced ks)) d.all (none_differ ms ms single) in
     let own : differs (first_definition ms d.symbol.name) (statement d.before d.k (segment_of d.symbol) d.symbol.value)
     ≡ false = of_entry (AgreesIn ms) forced d.before d.k d.after agree d.number d.symbol d.is_there d.outer in
-    let first : first_definition ms name ≡ Some (segment, n) =
-    agrees_with (first_definition ms name) segment n (ap (λ (m : List ℕ). differs (first_definition ms m) (Defined segment n))
-    d.names ∙ ap (λ (st : State). differs (first_definition ms d.symbol.name) st) (sym d.is) ∙ own) in
+    let first : first_definition ms name ≡ Some (segment, n) = search rules in
     ap (λ (f : Option Definition). state_by f (wanted_size ms name)) first

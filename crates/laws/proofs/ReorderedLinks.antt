@@ -1,4 +1,5 @@
 -- Links of the same objects in two orders: refusals, sizes and reports.
+use Rattle.std.proofs.Common.{rules}
 use Rattle.std.proofs.Common.{◌≡◌, ℕ, ◌+◌, ◌*◌, Bool, true, false, cond, ◌&&◌, List, [], length, sym, ◌∙◌}
 use Rattle.std.proofs.Common.{ap, subst}
 use Rattle.std.proofs.lemmas.List.Concat.{length-flat_map}
@@ -32,15 +33,10 @@ module _ (forced : List (List ℕ)) (os ps : List Contents) (o : Choices) (same 
   same_laid = ap (λ (n : ℕ). cond (lays_commons o) n 0) (same_commons forced os ps same)
 
   pub same_bases : (plan forced os o).at ≡ (plan forced ps o).at
-  same_bases =
-      λ i. bases o.layout (same_total forced os ps same TextSeg i) (same_total forced os ps same DataSeg i)
-      (same_laid i) (same_total forced os ps same BssSeg i)
+  same_bases = search (rules, same_total, same_laid)
 
   locals_counted : length (kept_locals o os) ≡ length (kept_locals o ps)
-  locals_counted =
-      length-flat_map (λ (k : Contents). filter (is_kept_local o.keep) k.symbols) os
-      ∙ sym (sum_by-IsPermutation (λ (k : Contents). length (filter (is_kept_local o.keep) k.symbols)) os ps same)
-      ∙ sym (length-flat_map (λ (k : Contents). filter (is_kept_local o.keep) k.symbols) ps)
+  locals_counted = search (rules, length-flat_map, sum_by-IsPermutation)
 
   names_counted : length (externals forced os) ≡ length (externals forced ps)
   names_counted = sym (length_permutation (externals forced os) (externals forced ps) (names_reordered forced os ps same))
@@ -74,16 +70,7 @@ module _ (forced : List (List ℕ)) (os ps : List Contents) (o : Choices) (same 
           (Ok (record { file = linked_file q ps; report = report_of q }))))
 
   same_header : (record (linked_header p os) { entry_point = (linked_header q ps).entry_point }) ≡ linked_header q ps
-  same_header = λ i. record {
-    magic = magic_of o.layout;
-    text_size = same_total forced os ps same TextSeg i;
-    data_size = same_total forced os ps same DataSeg i;
-    bss_size = same_laid i + same_total forced os ps same BssSeg i;
-    symbol_size = 12 * table_counted i;
-    entry_point = (linked_header q ps).entry_point;
-    unused = 0;
-    flag = cond o.relocatable 0 1;
-  }
+  same_header = search (rules, same_total, same_laid, table_counted)
 
 -- for `order_law`: a fault that refuses one order refuses the other
 pub refused_in_order : (forced : List (List ℕ)) (os ps : List Contents) (o : Choices) (fault : LinkFault) →

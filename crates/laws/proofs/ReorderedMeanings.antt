@@ -1,4 +1,5 @@
 -- What names mean, and what words refer to, in links of the same objects in two orders and two layouts.
+use Rattle.std.proofs.Common.{rules}
 use Rattle.std.proofs.Common.{◌≡◌, ◌≢◌, ℕ, ◌+◌, Bool, true, false, cond, not, ◌||◌, eqb, List, [], ◌∷◌, ◌++◌, Option, Some, None, refl, sym}
 use Rattle.std.proofs.Common.{◌∙◌, ap, subst, append_assoc, arith, eqb-true}
 use Rattle.std.proofs.lemmas.List.Sorted.{IsPermutation-sym}
@@ -42,22 +43,10 @@ module _ (forced : List (List ℕ)) (os : List Contents) (o : Choices) where
   data_ends = ap (λ (n : ℕ). n + total DataSeg os) (data_begun o.layout (total TextSeg os))
 
   bss_ends : p.at.bss_end ≡ data_start_in h + h.data_size + h.bss_size
-  bss_ends = sums p.at.data_end (data_start_in h + h.data_size) (commons_laid o (mentions forced os)) (total BssSeg os) data_ends
-    where
-      sums : (a b c n : ℕ) → a ≡ b → a + c + n ≡ b + (c + n)
-      sums a b c n e = omega arith
+  bss_ends = search rules
 
   undefined_same : (name : List ℕ) → row_at name (cond o.relocatable (waiting 0) (reserved_or_waiting p.at name)) ≡ undefined_row h o name
-  undefined_same name = by_tests o.relocatable (bytes_eq name etext) (bytes_eq name edata) (bytes_eq name end_name)
-    where
-      by_tests : (r t d e : Bool) →
-          row_at name (cond r (waiting 0) (cond t (bound_at TextSeg p.at.text_end)
-          (cond d (bound_at DataSeg p.at.data_end) (cond e (bound_at BssSeg p.at.bss_end) (waiting 0)))))
-          ≡ cond r (shown name 0o40 0) (cond t (shown name 0o42 h.text_size) (cond d (shown name 0o43 (data_start_in h + h.data_size))
-          (cond e (shown name 0o44 (data_start_in h + h.data_size + h.bss_size)) (shown name 0o40 0))))
-      by_tests false false true e = ap (λ (n : ℕ). shown name 0o43 n) data_ends
-      by_tests false false false true = ap (λ (n : ℕ). shown name 0o44 n) bss_ends
-      by_tests _ _ _ _ = refl
+  undefined_same name = search rules
 
   undefined_shown : (name : List ℕ) → state (mentions forced os) name ≡ Wanted 0 → external_row p name ≡ undefined_row h o name
   undefined_shown name e = ap (λ (s : State). row_at name (final_by p name s)) e ∙ undefined_same name
@@ -69,35 +58,7 @@ record HasPlace (b : Bases) (before : List Contents) (k : Contents) (segment : S
 
 has_place : (b : Bases) (before : List Contents) (k : Contents) (segment : Segment) (value : ℕ) (g : Segment) (n : ℕ) →
     statement before k segment value ≡ Defined g n → HasPlace b before k segment value g n
-has_place b before k segment value g n e = by_segment segment g n e
-  where
-    sums : (v b h : ℕ) → plus b (plus v h) ≡ plus v (plus b h)
-    sums v b h = omega arith
-
-    at : (segment h : Segment) → type_of (Some h) ≡ external_type segment → base b h ≡ base b segment → (m : ℕ) →
-        m ≡ plus value (shift before k segment) → HasPlace b before k segment value h m
-    at segment h t f m same = record {
-      type_bits = t;
-      value = (λ i. plus (f i) (same i)) ∙ sums value (base b segment) (shift before k segment);
-    }
-
-    by_segment : (segment g : Segment) (n : ℕ) → statement before k segment value ≡ Defined g n → HasPlace b before k segment value g n
-    by_segment Undefined g n e = absurd (let bad : Wanted value ≡ Defined g n = e in cc)
-    by_segment Absolute g n e =
-        let one : Absolute ≡ g = cc in let two : plus value (shift before k Absolute) ≡ n = cc in
-        subst (λ (h : Segment). HasPlace b before k Absolute value h n) one (at Absolute Absolute refl refl n (sym two))
-    by_segment TextSeg g n e =
-        let one : TextSeg ≡ g = cc in let two : plus value (shift before k TextSeg) ≡ n = cc in
-        subst (λ (h : Segment). HasPlace b before k TextSeg value h n) one (at TextSeg TextSeg refl refl n (sym two))
-    by_segment DataSeg g n e =
-        let one : DataSeg ≡ g = cc in let two : plus value (shift before k DataSeg) ≡ n = cc in
-        subst (λ (h : Segment). HasPlace b before k DataSeg value h n) one (at DataSeg DataSeg refl refl n (sym two))
-    by_segment BssSeg g n e =
-        let one : BssSeg ≡ g = cc in let two : plus value (shift before k BssSeg) ≡ n = cc in
-        subst (λ (h : Segment). HasPlace b before k BssSeg value h n) one (at BssSeg BssSeg refl refl n (sym two))
-    by_segment Other g n e =
-        let one : Absolute ≡ g = cc in let two : plus value (shift before k Absolute) ≡ n = cc in
-        subst (λ (h : Segment). HasPlace b before k Other value h n) one (at Other Absolute refl refl n (sym two))
+has_place b before k segment value g n e = search rules
 
 -- one of the links
 module _ (forced : List (List ℕ)) (os : List Contents) (o : Choices) (x : Outcome) (others : o.keep ≢ Nothing)
@@ -113,24 +74,12 @@ module _ (forced : List (List ℕ)) (os : List Contents) (o : Choices) (x : Outc
 
   common_in : lays_commons o ≡ true → (name : List ℕ) (size : ℕ) → IsWanted (mentions forced os) name size →
       eqb size 0 ≡ false → Means forced os o x.file name (common size)
-  common_in lays name size wanted sized =
-      let is : IsCommon forced os name size = record { wanted = wanted; sized = sized } in
-      (is, commons_have_space forced os o x others lays linked name size is)
+  common_in lays name size wanted sized = search (rules, commons_have_space)
 
   -- a definition that the state of its name is
   defined_in : (name : List ℕ) (segment : Segment) (n : ℕ) (d : IsSaid os name (Defined segment n)) →
       state (mentions forced os) name ≡ Defined segment n → IsDefinedBy x.file os name d.k d.symbol
-  defined_in name segment n d first = record {
-    before = d.before;
-    after = d.after;
-    all = d.all;
-    number = d.number;
-    is_there = d.is_there;
-    outer = d.outer;
-    inner = defines os name segment n d;
-    names = d.names;
-    is = subst (λ (f : Contents). IsDefined f os d.before d.k d.symbol) (made_file p os x linked) placed_here;
-  }
+  defined_in name segment n d first = search (rules, defines, made_file, p, placed_here)
     where
       p : Plan
       p = plan forced os o
@@ -158,18 +107,12 @@ module _ (forced : List (List ℕ)) (os : List Contents) (o : Choices) (x : Outc
         row = external_row p d.symbol.name;
         found = entry_there p os d.symbol.name others known;
         type_bits = ap (λ (f : Final). type_of f.bound) final_is ∙ place.type_bits;
-        value =
-            ap (λ (f : Final). f.written) final_is ∙ place.value
-            ∙ ap (λ (m : ℕ). plus d.symbol.value m) (move_by_header forced os o d.before d.k (segment_of d.symbol));
+        value = search rules;
       }
 
 -- without -r, commons get addresses
 pub laid : (o : Choices) → o.relocatable ≡ false → lays_commons o ≡ true
-laid o r = by_test o.relocatable r
-  where
-    by_test : (t : Bool) → t ≡ false → (not t || o.force_commons) ≡ true
-    by_test false e = refl
-    by_test true e = absurd (let bad : true ≡ false = e in cc)
+laid o r = search rules
 
 -- for `order_law`: a name that is defined once is of the same symbol or common in both links
 pub meanings_kept : OrderKeepsMeanings
@@ -218,9 +161,7 @@ meanings_kept forced os ps o layout x y h others r none name known =
               (subst (λ (s : Symbol). IsDefinedBy x.file os name again.said.k s) again.symbol
               (defined_in forced os o x others h.one name d.segment again.offset again.said
               (first_is_said forced os single name d.segment again.offset again.said)));
-          other =
-              defined_in forced ps (record o { layout = layout }) y others h.other name d.segment d.offset d.said
-              (state_is (mentions forced ps) name (Defined d.segment d.offset) d.first);
+          other = search (rules, defined_in, state_is);
         }
 
 -- the objects of the other order are objects too

@@ -1,4 +1,5 @@
 -- What is said of names by the same objects in two orders.
+use Rattle.std.proofs.Common.{rules}
 use Rattle.std.proofs.Common.{◌≡◌, ◌≢◌, ℕ, zero, suc, ◌+◌, ◌<◌, ◌≤◌, Bool, true, false, cond, not, ◌&&◌, ◌||◌, eqb, List, [], ◌∷◌, ◌++◌}
 use Rattle.std.proofs.Common.{map, length, Option, Some, None, refl, sym, ◌∙◌, ap, subst, append_assoc, arith, inl, inr}
 use Rattle.std.proofs.lemmas.List.Sorted.{IsPermutation-sym, Contains-permutation, sum_by-IsPermutation}
@@ -80,26 +81,10 @@ abbrev IsOfOther : List ℕ → Mention → Type 0
 IsOfOther name m = bytes_eq name m.name ≡ false
 
 open_anywhere : (name : List ℕ) → IsPlaceless (LeavesOpen name)
-open_anywhere name before front k s h same = by_segment (segment_of s) (h same)
-  where
-    by_segment : (segment : Segment) → ((g : Segment) (n : ℕ) → statement before k segment s.value ≢ Defined g n) →
-        (g : Segment) (n : ℕ) → statement front k segment s.value ≢ Defined g n
-    by_segment Undefined h g n e = absurd (let bad : Wanted s.value ≡ Defined g n = e in cc)
-    by_segment TextSeg h g n e = h TextSeg (plus s.value (shift before k TextSeg)) refl
-    by_segment DataSeg h g n e = h DataSeg (plus s.value (shift before k DataSeg)) refl
-    by_segment BssSeg h g n e = h BssSeg (plus s.value (shift before k BssSeg)) refl
-    by_segment _ h g n e = h Absolute (plus s.value (shift before k Absolute)) refl
+open_anywhere name before front k s h same = search rules
 
 most_anywhere : (name : List ℕ) (most : ℕ) → IsPlaceless (WantsAtMost name most)
-most_anywhere name most before front k s h same = by_segment (segment_of s) (h same)
-  where
-    by_segment : (segment : Segment) → ((n : ℕ) → statement before k segment s.value ≡ Wanted n → n ≤ most) → (n : ℕ) →
-        statement front k segment s.value ≡ Wanted n → n ≤ most
-    by_segment Undefined h n e = h n e
-    by_segment TextSeg h n e = absurd (let bad : Defined TextSeg (plus s.value (shift front k TextSeg)) ≡ Wanted n = e in cc)
-    by_segment DataSeg h n e = absurd (let bad : Defined DataSeg (plus s.value (shift front k DataSeg)) ≡ Wanted n = e in cc)
-    by_segment BssSeg h n e = absurd (let bad : Defined BssSeg (plus s.value (shift front k BssSeg)) ≡ Wanted n = e in cc)
-    by_segment _ h n e = absurd (let bad : Defined Absolute (plus s.value (shift front k Absolute)) ≡ Wanted n = e in cc)
+most_anywhere name most before front k s h same = search rules
 
 -- where no mention defines the name none is the first to
 pub none_first : (ms : List Mention) (name : List ℕ) (segment : Segment) (offset : ℕ) →
@@ -170,9 +155,7 @@ module _ (forced : List (List ℕ)) (os ps : List Contents) (same : IsPermutatio
 
   -- the externals are the same, in another order
   pub names_reordered : IsPermutation (names_by_first_mention (mentions forced os)) (names_by_first_mention (mentions forced ps))
-  names_reordered =
-      reordered (names_by_first_mention ms) (names_by_first_mention ns) (new_once [] (names_of ms))
-      (new_once [] (names_of ns)) same_names
+  names_reordered = search (rules, reordered, new_once, same_names)
 
   -- a name is wanted at the same size in both, or defined in both
   pub same_wants : (name : List ℕ) → size_if_wanted (state (mentions forced os) name) ≡ size_if_wanted (state (mentions forced ps) name)
@@ -231,8 +214,4 @@ module _ (forced : List (List ℕ)) (os ps : List Contents) (same : IsPermutatio
 
   -- and the same names are undefined, in another order
   pub undefined_reordered : IsPermutation (undefined_names (mentions forced os)) (undefined_names (mentions forced ps))
-  undefined_reordered =
-      subst (λ (f : List ℕ → Bool). IsPermutation (undefined_names ms) (filter f (names_by_first_mention ns)))
-      (λ i n. same_undefined n i && not (is_among reserved_names n))
-      (kept_reordered (λ n. is_missing n (state ms n)) (names_by_first_mention ms) (names_by_first_mention ns)
-      (new_once [] (names_of ms)) (new_once [] (names_of ns)) same_names)
+  undefined_reordered = search (rules, same_undefined, kept_reordered, new_once, same_names)

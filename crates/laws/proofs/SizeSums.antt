@@ -1,4 +1,5 @@
 -- The sizes of a linked file are the sums of the objects' sizes, bss with the commons.
+use Rattle.std.proofs.Common.{rules}
 use Rattle.std.proofs.Common.{◌≡◌, ℕ, ◌+◌, Bool, true, false, cond, List, [], ◌∷◌, ◌++◌, refl, sym, ◌∙◌, ap, arith, append-nil}
 use Rattle.std.proofs.lemmas.List.Sums.{sum_by-cons}
 use Rattle.std.specs.Prelude.{Ok}
@@ -15,11 +16,7 @@ use Rattle.laws.specs.Listings.{HasSizes}
 
 module _ (o : Choices) (ms : List Mention) where
   names_take : (names : List (List ℕ)) → CommonsTake o ms names (cond (lays_commons o) (commons_size ms names) 0)
-  names_take [] = either (lays_commons o)
-    where
-      either : (c : Bool) → (let none : ℕ = cond c 0 0 in none) ≡ 0
-      either true = refl
-      either false = refl
+  names_take [] = search rules
   names_take (n ∷ ns) = (
     state ms n,
     has_state ms n,
@@ -43,7 +40,5 @@ sizes_are_sums forced os o x linked =
     record {
       commons = commons;
       take = names_take o (mentions forced os) (externals forced os);
-      line =
-          λ path. append-nil (size_line x.file.header ++ 10 ∷ [])
-          ∙ ap (λ (c : Contents). size_line c.header ++ 10 ∷ []) (sym (made_file (plan forced os o) os x linked));
+      line = search rules;
     }

@@ -1,4 +1,5 @@
 -- The symbols that nm -u shows of a linked file: some of the kept locals, and the names that are reported.
+use Rattle.std.proofs.Common.{rules}
 use Rattle.std.proofs.Common.{◌≡◌, ◌≢◌, ◌⊎◌, ℕ, ◌-◌, Bool, true, false, cond, not, ◌&&◌, ◌||◌, eqb, eqb-true, List, [], ◌∷◌, ◌++◌, map}
 use Rattle.std.proofs.Common.{filter, IsPermutation, refl, sym, ◌∙◌, ap, subst, inl, inr}
 use Rattle.std.proofs.{lemmas.List.Elements.filter-append, lemmas.List.Sorted.IsPermutation-sym, lemmas.List.Sorted.IsPermutation-map}
@@ -29,26 +30,7 @@ small z v t d b r f = cond z (cond v 117 99) (cond t 116 (cond d 100 (cond b 98 
 
 -- the letter of a type that is not 0 is neither u nor U
 typed_shown : (s : Symbol) → eqb (masked_type s) 0 ≡ false → is_shown_undefined s ≡ false
-typed_shown s e =
-    by_tests (eqb (masked_type s) 0) e (is_external s) (eqb s.value 0) (eqb (masked_type s) 2) (eqb (masked_type s) 3)
-    (eqb (masked_type s) 4) (eqb (masked_type s) 20) (eqb (masked_type s) 31)
-  where
-    by_tests : (z : Bool) → z ≡ false → (x v t d b r f : Bool) →
-        (eqb (cond x (small z v t d b r f - 32) (small z v t d b r f)) 117
-        || eqb (cond x (small z v t d b r f - 32) (small z v t d b r f)) 85) ≡ false
-    by_tests true e x v t d b r f = absurd (cc)
-    by_tests false e true v true d b r f = refl
-    by_tests false e false v true d b r f = refl
-    by_tests false e true v false true b r f = refl
-    by_tests false e false v false true b r f = refl
-    by_tests false e true v false false true r f = refl
-    by_tests false e false v false false true r f = refl
-    by_tests false e true v false false false true f = refl
-    by_tests false e false v false false false true f = refl
-    by_tests false e true v false false false false true = refl
-    by_tests false e false v false false false false true = refl
-    by_tests false e true v false false false false false = refl
-    by_tests false e false v false false false false false = refl
+typed_shown s e = search rules
 
 -- locals
 
@@ -61,16 +43,8 @@ module _ (b : Bases) (earlier : List Contents) (k : Contents) where
       by_test : (z : Bool) → eqb (masked_type s) 0 ≡ z →
           filter is_shown_undefined (map (moved_local b earlier k) ss) ≡ filter is_shown_undefined ss →
           filter is_shown_undefined (map (moved_local b earlier k) (s ∷ ss)) ≡ filter is_shown_undefined (s ∷ ss)
-      by_test true e rest =
-          let same : moved_local b earlier k s ≡ s =
-          ap (λ (n : ℕ). let r : Symbol = record s { value = moved_value b earlier k (segment_numbered n) s.value } in r)
-          (eqb-true (masked_type s) 0 e) in
-          λ i. cond (is_shown_undefined (same i)) (same i ∷ rest i) (rest i)
-      by_test false e rest =
-          ap (λ (u : Bool). cond u (moved_local b earlier k s ∷ filter is_shown_undefined (map (moved_local b earlier k) ss))
-          (filter is_shown_undefined (map (moved_local b earlier k) ss))) (typed_shown (moved_local b earlier k s) e)
-          ∙ rest
-          ∙ sym (ap (λ (u : Bool). cond u (s ∷ filter is_shown_undefined ss) (filter is_shown_undefined ss)) (typed_shown s e))
+      by_test true e rest = search rules
+      by_test false e rest = search rules
 
 locals_shown : (b : Bases) (o : Choices) (earlier rest : List Contents) →
     filter is_shown_undefined (flat_map (λ q. map (moved_local b q.0 q.1) (filter (is_kept_local o.keep) q.1.symbols))
@@ -98,16 +72,7 @@ reported_by p name (Defined Absolute offset) h r = inr (refl, refl)
 reported_by p name (Defined TextSeg offset) h r = inr (refl, refl)
 reported_by p name (Defined DataSeg offset) h r = inr (refl, refl)
 reported_by p name (Defined BssSeg offset) h r = inr (refl, refl)
-reported_by p name (Wanted size) h r =
-    by_tests (plus p.at.data_end (common_offset p.mentions name)) (eqb size 0) p.choices.relocatable r
-    p.choices.force_commons (bytes_eq name etext) (bytes_eq name edata) (bytes_eq name end_name)
-  where
-    by_tests : (a : ℕ) (z r : Bool) → r ≡ false → (c t d e : Bool) → IsReportedBy (z && not (t || (d || (e || false)))) name
-        (cond z (cond r (waiting 0) (cond t (bound_at TextSeg p.at.text_end) (cond d (bound_at DataSeg p.at.data_end)
-        (cond e (bound_at BssSeg p.at.bss_end) (waiting 0))))) (cond (not r || c) (bound_at BssSeg a) (waiting size)))
-    by_tests a z true h c t d e = absurd (cc)
-    by_tests a true false h c false false false = inl (refl, refl)
-    by_tests a _ false h c _ _ _ = inr (refl, refl)
+reported_by p name (Wanted size) h r = search rules
 
 module _ (forced : List (List ℕ)) (os : List Contents) (o : Choices) where
   abbrev p : Plan
@@ -127,14 +92,8 @@ module _ (forced : List (List ℕ)) (os : List Contents) (o : Choices) where
       by_row : IsReportedBy (missing n) n (final_by p n (state ms n)) →
           filter is_shown_undefined (map (external_row p) ns) ≡ map undefined_symbol (filter missing ns) →
           filter is_shown_undefined (map (external_row p) (n ∷ ns)) ≡ map undefined_symbol (filter missing (n ∷ ns))
-      by_row (inl h) rest =
-          (λ i. cond (is_shown_undefined (h.1 i)) (h.1 i ∷ rest i) (rest i))
-          ∙ sym (ap (λ (u : Bool). map undefined_symbol (cond u (n ∷ filter missing ns) (filter missing ns))) h.0)
-      by_row (inr h) rest =
-          ap (λ (u : Bool). cond u (external_row p n ∷ filter is_shown_undefined (map (external_row p) ns))
-          (filter is_shown_undefined (map (external_row p) ns))) h.1
-          ∙ rest
-          ∙ sym (ap (λ (u : Bool). map undefined_symbol (cond u (n ∷ filter missing ns) (filter missing ns))) h.0)
+      by_row (inl h) rest = search rules
+      by_row (inr h) rest = search rules
 
   rows_outer : (names : List (List ℕ)) → AllByRecursion (λ s. is_external s ≡ true) (map (external_row p) names)
   rows_outer [] = tt
@@ -143,14 +102,10 @@ module _ (forced : List (List ℕ)) (os : List Contents) (o : Choices) where
   module _ (x : Outcome) (others : o.keep ≢ Nothing) (plain : o.relocatable ≡ false) (linked : link forced os o ≡ Ok x)
       (n : NmOptions) (u : n.undefined ≡ true) where
     symbols_are : x.file.symbols ≡ local_rows p os ++ external_rows p
-    symbols_are =
-        sym (ap (λ (f : Contents). f.symbols) (made_file p os x linked))
-        ∙ rows_kept-others o.keep (local_rows p os ++ external_rows p) others
+    symbols_are = search rules
 
     reported : undefined_names ms ≡ x.report.undefined
-    reported =
-        ap (λ (r : Bool). cond r [] (undefined_names ms)) (sym plain)
-        ∙ ap (λ (f : ReportNames). f.undefined) (made_report p os x linked)
+    reported = search rules
 
     passed : filter (is_shown n) x.file.symbols ≡ listed_locals n (undefined_locals o os) ++ map undefined_symbol x.report.undefined
     passed =
@@ -165,11 +120,7 @@ names_again (n ∷ ns) = ap (λ (rest : List (List ℕ)). n ∷ rest) (names_aga
 
 none_listed : (n : NmOptions) (locals : List Symbol) → (n.external ≡ true) ⊎ (locals ≡ []) → listed_locals n locals ≡ []
 none_listed n locals (inl g) = ap (λ (e : Bool). cond e [] locals) g
-none_listed n locals (inr none) = ap (λ (ls : List Symbol). cond n.external [] ls) none ∙ either n.external
-  where
-    either : (e : Bool) → (let none : List Symbol = cond e [] [] in none) ≡ []
-    either true = refl
-    either false = refl
+none_listed n locals (inr none) = search rules
 
 -- for `listing_law`: nm -u shows the names that ld reports
 pub undefined_are_listed : (forced : List (List ℕ)) (os : List Contents) (o : Choices) (x : Outcome) →

@@ -1,4 +1,5 @@
 -- Two lines that add a file and withdraw it, and two runs of the same lines for which the system gave the same.
+use Rattle.std.proofs.Common.{rules}
 use Rattle.std.proofs.Common.{◌≡◌, ℕ, max, List, [], ◌∷◌, ◌++◌, map, Option, Some, None, Result, Ok, Err, refl, sym, ap, ◌∙◌, arith, inl}
 use Rattle.std.proofs.Common.{inr, subst}
 use Rattle.std.proofs.{lemmas.List.same_from_push, lemmas.Grind.flat_map-append}
@@ -39,20 +40,7 @@ module _ (old : Kept) (path : List ℕ) (r : LineRun) (h : OpensOne old path r) 
       h.did ≡ add_step old.entries path (unless not_added fault (old.entries ++ record { label = path; object = object } ∷ [])) →
       Added old path r
   by_limit object (Some fault) e = absurd (not_refused (ap (λ (s : Stepped). s.verdict) e))
-  by_limit object None e =
-      let adds : AddsIf done old r.kept =
-      subst (λ (v : Verdict). AddsIf v old r.kept) (ap (λ (s : Stepped). s.verdict) e) h.changes in
-      let mine : Labelled = record { label = path; object = object } in
-      let same = same_from_push old.entries old.entries adds.0 mine
-      (sym adds.1.entries ∙ h.does.entries ∙ ap (λ (s : Stepped). s.kept) e) in
-      record {
-        known = h.known;
-        events = h.events;
-        answer = h.does.answer ∙ ap (λ (s : Stepped). s.answer) e;
-        entry = adds.0;
-        label = ap (λ (l : Labelled). l.label) same.1;
-        adds = adds.1;
-      }
+  by_limit object None e = search (rules, same_from_push)
 
   by_found : (found : Result Contents Cause) →
       h.did ≡ add_step old.entries path (kept_with old.forced old.entries path found) → Added old path r
@@ -70,11 +58,7 @@ added o old path r (inr h) zero = by_add old path r h zero h.is_add
 
 -- what is taken away right after an addition is what was added
 taken_back : (old between new : Kept) (e f : Labelled) → Adds old between e → Withdraws between new f → new ≡ old
-taken_back old between new e f adds takes =
-    let kept = same_from_push new.entries old.entries f e (sym takes.entries ∙ adds.entries) in
-    let journal = same_from_push new.journal old.journal takes.marks adds.marks (sym takes.journal ∙ adds.journal) in
-    let forced : new.forced ≡ old.forced = takes.forced ∙ adds.forced in
-    λ i. record { forced = forced i; entries = kept.0 i; journal = journal.0 i }
+taken_back old between new e f adds takes = search (rules, same_from_push)
 
 record TakenBack (old : Kept) (label : List ℕ) (r : LineRun) : Type 0 where
   events : r.events ≡ []
@@ -124,45 +108,25 @@ add_done : (known : Option (List ℕ)) (bytes : List ℕ) (old : Kept) (path : L
     did ≡ add_step old.entries path (with_input old.forced old.entries path bytes)
 add_done known bytes old path did r is answer calm (inl e) = absurd (calm.1 (answer ∙ ap (λ (s : Stepped). s.answer) e))
 add_done known bytes old path did r is answer calm (inr (inl (e, wants))) = absurd (calm.0 (answer ∙ ap (λ (s : Stepped). s.answer) e))
-add_done known bytes old path did r is answer calm (inr (inr k)) =
-    let f = adds_found known old path did k in
-    let found : f.found ≡ object_in (decode bytes) =
-    subst (λ (k : Option (List ℕ)). IfSome k (λ bytes. f.found ≡ object_in (decode bytes))) is f.is_found in
-    f.did_it ∙ ap (λ (x : Result Contents Cause). add_step old.entries path (kept_with old.forced old.entries path x)) found
+add_done known bytes old path did r is answer calm (inr (inr k)) = search rules
 
 link_done : (o : Choices) (old : Kept) (r : LineRun) (path : List ℕ) (h : LinksNone o old r) → IsUndisturbed (to_link path) r.answer →
     h.did ≡ link_step old.entries (link old.forced (objects old.entries) o)
-link_done o old r path h calm = by h.is_link
-  where
-    by : IsLinkBy old.entries (link old.forced (objects old.entries) o) h.did →
-        h.did ≡ link_step old.entries (link old.forced (objects old.entries) o)
-    by (inl e) = e
-    by (inr (e, ok)) = absurd (calm (h.only_answer.does.answer ∙ ap (λ (s : Stepped). s.answer) e))
+link_done o old r path h calm = search rules
 
 module _ (o : Choices) (old twin : Kept) (same : Alike twin old) (r t : LineRun) (gives : map gift r.events ≡ map gift t.events)
     (known : AllByRecursion IsKnown r.events) where
   -- by a step that is the same
   by_step : (did : Stepped) (other : Stepped) → other ≡ did → DoesStep did r → DoesStep other t → t.events ≡ r.events →
       t.kept.forced ≡ r.kept.forced → DoesTheSame r t
-  by_step did other e h k events names = record {
-    events = events;
-    answer = k.answer ∙ ap (λ (s : Stepped). s.answer) e ∙ sym h.answer;
-    status = k.status ∙ ap (λ (s : Stepped). status_after s.verdict) e ∙ sym h.status;
-    kept = record { names = names; all = k.entries ∙ ap (λ (s : Stepped). s.kept) e ∙ sym h.entries };
-  }
+  by_step did other e h k events names = search rules
 
   names_stay : r.kept ≡ old → t.kept ≡ twin → t.kept.forced ≡ r.kept.forced
   names_stay h k = ap (λ (k : Kept). k.forced) k ∙ same.names ∙ ap (λ (k : Kept). k.forced) (sym h)
 
   both_opened : (path : List ℕ) (h : OpensOne old path r) (k : OpensOne twin path t) (bytes : List ℕ) → h.known ≡ Some bytes →
       k.known ≡ Some bytes → IsUndisturbed (to_add path) r.answer → IsUndisturbed (to_add path) t.answer → DoesTheSame r t
-  both_opened path h k bytes first second calm still =
-      let one = add_done h.known bytes old path h.did r first h.does.answer calm h.is_add in
-      let two = add_done k.known bytes twin path k.did t second k.does.answer still k.is_add in
-      by_step h.did k.did
-      (two ∙ (λ i. add_step (same.all i) path (with_input (same.names i) (same.all i) path bytes)) ∙ sym one) h.does k.does
-      (k.events ∙ ap (λ (x : Option (List ℕ)). opened path (Some x) ∷ []) (second ∙ sym first) ∙ sym h.events)
-      (adds_names twin t.kept k.did.verdict k.changes ∙ same.names ∙ sym (adds_names old r.kept h.did.verdict h.changes))
+  both_opened path h k bytes first second calm still = search rules
 
   both_found : (path : List ℕ) (h : OpensOne old path r) (k : OpensOne twin path t) (x : Option (List ℕ)) → h.known ≡ x →
       k.known ≡ x → AllByRecursion IsKnown (opened path (Some x) ∷ []) → IsUndisturbed (to_add path) r.answer →
@@ -171,56 +135,22 @@ module _ (o : Choices) (old twin : Kept) (same : Alike twin old) (r t : LineRun)
   both_found path h k (Some bytes) first second is calm still = both_opened path h k bytes first second calm still
 
   same_line : (a : Asked) → IsLineOf o old r a → IsLineOf o twin t a → IsUndisturbed a r.answer → IsUndisturbed a t.answer → DoesTheSame r t
-  same_line (to_add path) (inl h) (inl k) calm still =
-      by_step (step old.forced o old.entries (adding path absent)) (step twin.forced o twin.entries (adding path absent))
-      (λ i. step (same.names i) o (same.all i) (adding path absent)) h.does k.does (k.events ∙ sym h.events) (names_stay h.same k.same)
+  same_line (to_add path) (inl h) (inl k) calm still = search rules
   same_line (to_add path) (inl h) (inr k) calm still =
       absurd (let bad = sym (ap (map gift) h.events) ∙ gives ∙ ap (map gift) k.events in cc)
   same_line (to_add path) (inr h) (inl k) calm still =
       absurd (let bad = sym (ap (map gift) h.events) ∙ gives ∙ ap (map gift) k.events in cc)
-  same_line (to_add path) (inr h) (inr k) calm still =
-      let both = sym (ap (map gift) h.events) ∙ gives ∙ ap (map gift) k.events in
-      let e : h.known ≡ k.known = cc in
-      both_found path h k k.known e refl
-      (subst (λ (x : Option (List ℕ)). AllByRecursion IsKnown (opened path (Some x) ∷ [])) e
-      (subst (λ (es : List Event). AllByRecursion IsKnown es) h.events known)) calm still
-  same_line to_withdraw h k calm still =
-      by_step (step old.forced o old.entries withdrawing) (step twin.forced o twin.entries withdrawing)
-      (λ i. step (same.names i) o (same.all i) withdrawing) h.does k.does (k.events ∙ sym h.events)
-      (withdraws_names twin t.kept _ k.changes ∙ same.names ∙ sym (withdraws_names old r.kept _ h.changes))
-  same_line for_externals h k calm still =
-      by_step (step old.forced o old.entries listing_externals) (step twin.forced o twin.entries listing_externals)
-      (λ i. step (same.names i) o (same.all i) listing_externals) h.does k.does (k.events ∙ sym h.events) (names_stay h.same k.same)
-  same_line for_undefined h k calm still =
-      by_step (step old.forced o old.entries listing_undefined) (step twin.forced o twin.entries listing_undefined)
-      (λ i. step (same.names i) o (same.all i) listing_undefined) h.does k.does (k.events ∙ sym h.events) (names_stay h.same k.same)
-  same_line (to_link path) (inl h) (inl k) calm still =
-      by_step h.did k.did
-      (link_done o twin t path k still ∙ (λ i. link_step (same.all i) (link (same.names i) (objects (same.all i)) o))
-      ∙ sym (link_done o old r path h calm)) h.only_answer.does k.only_answer.does
-      (k.only_answer.events ∙ sym h.only_answer.events) (names_stay h.only_answer.same k.only_answer.same)
+  same_line (to_add path) (inr h) (inr k) calm still = search rules
+  same_line to_withdraw h k calm still = search rules
+  same_line for_externals h k calm still = search rules
+  same_line for_undefined h k calm still = search rules
+  same_line (to_link path) (inl h) (inl k) calm still = search rules
   same_line (to_link path) (inl h) (inr k) calm still =
       absurd (let bad = sym (ap (map gift) h.only_answer.events) ∙ gives ∙ ap (map gift) k.events in cc)
   same_line (to_link path) (inr h) (inl k) calm still =
       absurd (let bad = sym (ap (map gift) h.events) ∙ gives ∙ ap (map gift) k.only_answer.events in cc)
-  same_line (to_link path) (inr h) (inr k) calm still =
-      let both = sym (ap (map gift) h.events) ∙ gives ∙ ap (map gift) k.events in
-      let what : k.what ≡ h.what = cc in
-      let outcome : k.outcome ≡ h.outcome =
-      same_ok {B = LinkFault} k.outcome h.outcome
-      (sym k.is_link ∙ (λ i. link (same.names i) (objects (same.all i)) o) ∙ h.is_link) in
-      record {
-        events = k.events ∙ (λ i. stored path (outcome i).file (what i) ∷ []) ∙ sym h.events;
-        answer = k.answer ∙ (λ i. link_answer_text (outcome i).report path (what i)) ∙ sym h.answer;
-        status = k.status ∙ (λ i. link_status (outcome i).report (what i)) ∙ sym h.status;
-        kept = record {
-          names = names_stay h.same k.same;
-          all = ap (λ (k : Kept). k.entries) k.same ∙ same.all ∙ ap (λ (k : Kept). k.entries) (sym h.same);
-        };
-      }
-  same_line for_nothing h k calm still =
-      by_step (step old.forced o old.entries anything_else) (step twin.forced o twin.entries anything_else)
-      (λ i. step (same.names i) o (same.all i) anything_else) h.does k.does (k.events ∙ sym h.events) (names_stay h.same k.same)
+  same_line (to_link path) (inr h) (inr k) calm still = search rules
+  same_line for_nothing h k calm still = search rules
 
 -- ---- two runs of the same lines, by induction over them
 
@@ -235,15 +165,8 @@ run_the_same o old twin new other [] [] same h k lines gives = record { answers 
 run_the_same o old twin new other (r ∷ rs) (t ∷ ts) same h k lines gives =
     let asks : t.line ≡ r.line = cc in
     let later : lines_asked ts ≡ lines_asked rs = cc in
-    let one : DoesTheSame r t = same_line o old twin same r t gives.0.gives gives.0.known r.line h.0
-    (subst (λ (a : Asked). IsLineOf o twin t a) asks k.0) gives.0.first
-    (subst (λ (a : Asked). IsUndisturbed a t.answer) asks gives.0.second) in
-    let rest : RunTheSame rs ts = run_the_same o r.kept t.kept new other rs ts one.kept h.1 k.1 later gives.1 in
-    record {
-      answers = λ i. one.answer i ++ rest.answers i;
-      events = λ i. one.events i ++ rest.events i;
-      status = λ i. max (one.status i) (rest.status i);
-    }
+    let one : DoesTheSame r t = search rules in
+    search (rules, (run_the_same o r.kept t.kept new other rs ts one.kept h.1 k.1 later gives.1))
 run_the_same o old twin new other _ _ same h k lines gives = absurd gives
 
 -- ---- the law: the lines before the two, the two, which give the state back, and the lines after them
@@ -256,9 +179,7 @@ chains_append o old mid new (r ∷ rs) ts h k = (h.0, chains_append o r.kept mid
 worst_without : (before : List LineRun) (add withdraw : LineRun) (after : List LineRun) → add.status ≡ 0 → withdraw.status ≡ 0 →
     worst (before ++ add ∷ (withdraw ∷ after)) ≡ worst (before ++ after)
 worst_without [] add withdraw after a w = omega arith
-worst_without (s ∷ ss) add withdraw after a w =
-    let h : worst (ss ++ add ∷ (withdraw ∷ after)) ≡ worst (ss ++ after) = worst_without ss add withdraw after a w in
-    ap (λ (n : ℕ). max s.status n) h
+worst_without (s ∷ ss) add withdraw after a w = cc (worst_without ss add withdraw after a w)
 
 module _ {W E : Type 0} (out_contents : W → Option (List ℕ)) (error_contents : E → Option (List ℕ)) where
   pub undo_law : UndoLaw out_contents error_contents
@@ -271,27 +192,7 @@ module _ {W E : Type 0} (out_contents : W → Option (List ℕ)) (error_contents
       (subst (λ (a : Asked). IsLineOf o add.kept withdraw a) takes at.rest.0) in
       let w_answer : withdraw.answer ≡ line (codes "withdrew " ++ path) =
       w.answer ∙ ap (λ (l : List ℕ). line (codes "withdrew " ++ l)) a.label in
-      let chain : Chains o (nothing_kept forced) (before ++ after) ran.kept =
-      chains_append o (nothing_kept forced) at.mid ran.kept before after at.first
-      (subst (λ (k : Kept). Chains o k after ran.kept) w.same at.rest.1) in
+      let chain : Chains o (nothing_kept forced) (before ++ after) ran.kept = search (rules, chains_append) in
       let same : RunTheSame (before ++ after) others = run_the_same o (nothing_kept forced) (nothing_kept forced) ran.kept
       twin.kept (before ++ after) others (record { names = refl; all = refl }) chain twin.chain lines gives in
-      record {
-        known = a.known;
-        answered = answers_of before;
-        then_answered = answers_of after;
-        asked = events_of before;
-        then_asked = events_of after;
-        short_answers =
-            subst (Writes out_contents short) (same.answers ∙ flat_map-append (λ (r : LineRun). r.answer) before after) twin.answers;
-        long_answers =
-            subst (Writes out_contents long)
-            (flat_map-append (λ (r : LineRun). r.answer) before (add ∷ (withdraw ∷ after))
-            ∙ (λ i. answers_of before ++ (a.answer i ++ (w_answer i ++ answers_of after)))) ran.answers;
-        short_events = twin.events ∙ same.events ∙ flat_map-append (λ (r : LineRun). r.events) before after;
-        long_events =
-            ran.events ∙ flat_map-append (λ (r : LineRun). r.events) before (add ∷ (withdraw ∷ after))
-            ∙ (λ i. events_of before ++ (a.events i ++ (w.events i ++ events_of after)));
-        status =
-            ran.status ∙ worst_without before add withdraw after zero w.status ∙ sym same.status ∙ sym twin.status;
-      }
+      search (rules, flat_map-append, worst_without)

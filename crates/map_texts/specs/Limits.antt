@@ -3,7 +3,6 @@ use Rattle.std.specs.Prelude.{ℕ, suc, ◌-◌, Bool, eqb, nat_lt, if◌then◌
 use Rattle.std.specs.List.{flat_map}
 use Rattle.aout_core.specs.{declared.header.Header.Header}
 use Rattle.link_maps.specs.{Members.Member, Members.capped, declared.limit_records.LimitRecord.LimitRecord}
-use Rattle.link_session.specs.{Labelled.objects}
 use Rattle.symtools.specs.{NmLists.in_order}
 use Rattle.texts.specs.{Columns.at_left}
 use Rattle.map_texts.specs.{declared.limits.Sized.Sized}

@@ -1,5 +1,5 @@
 -- The names of a link, with the objects that define them, make them commons and use them, and the words that lead to them. (own choice)
-use Rattle.std.specs.Prelude.{ℕ, ◌-◌, Bool, true, false, not, ◌||◌, nat_lt, if◌then◌else◌, codes, List, [], ◌∷◌, ◌++◌, length, slice_get}
+use Rattle.std.specs.Prelude.{ℕ, Bool, true, false, not, ◌||◌, nat_lt, if◌then◌else◌, codes, List, [], ◌∷◌, ◌++◌, length, slice_get}
 use Rattle.std.specs.Prelude.{◌&&◌, Option, Some, None, Result, Ok, Err, option_map}
 use Rattle.std.specs.List.{flat_map, list_any}
 use Rattle.aout_core.specs.{Contents.Contents, declared.part.Part.Part, declared.part.Part.TheVariants.Text}

@@ -4,7 +4,7 @@ use Rattle.aout_core.specs.{declared.header.Header.Header}
 use Rattle.link_maps.specs.{declared.members.Refused.Refused, declared.outcome.Outcome.Outcome}
 use Rattle.link_out.specs.{FaultTexts.link_text, Outcomes.report_names, declared.linked.LinkFault.LinkFault, declared.linked.Linked.Linked}
 use Rattle.link_out.specs.{function.Reports.status_of}
-use Rattle.link_session.specs.{Labelled.Labelled, Labelled.objects, FaultTexts.add_text}
+use Rattle.link_session.specs.{Labelled.Labelled, FaultTexts.add_text}
 use Rattle.texts.specs.{Names.printable_bytes, Numbers.octal, Numbers.six_digits}
 
 abbrev pub whether_text : ℕ → List ℕ
