@@ -266,7 +266,8 @@ uint32_t v7_size(const unsigned char *bytes, size_t size, unsigned char *room, s
 /* Writes the text of the file that BYTES begin with as instructions, with names and labels, as `v7-explain -p` prints it without
  * notes; v7-explain(1) describes the notation. What follows `sys` is shown like other words, not as arguments. A line is the address,
  * two blanks, one to three words in 20 columns, two blanks, the instruction, and a newline; labels have lines of their own, and a line
- * ends before the next one. Remarks may follow, each after ` / `. All numbers are octal. Faults: 11 to 14, V7_NO_MEMORY, V7_NO_ROOM. */
+ * ends before the next one. Of more than eight words 0 a line that begins with `/` counts all but the first. Remarks may follow, each
+ * after ` / `. All numbers but that count are octal. Faults: 11 to 14, V7_NO_MEMORY, V7_NO_ROOM. */
 uint32_t v7_disassemble(const unsigned char *bytes, size_t size, unsigned char *room, size_t room_size, struct v7_answer *answer);
 
 /* Writes WORDS as instructions in the same columns, without names and labels. The first word is at ADDRESS, and the address after
