@@ -461,14 +461,18 @@ def in_listing(padded):
     return "".join(chr(byte) if 32 < byte < 127 and byte != 92 else "\\%03o" % byte for byte in name) or "\\000"
 
 
+def without_notes(text):
+    """The lines of a text but for the notes. These begin with a slash, and so does a row that counts those as the row before it."""
+    return [line for line in text.split("\n")[:-1] if not line.startswith("/") or " the row before, " in line]
+
+
 def shown_by(words, made, folder, what):
     """The lines of a file but for the notes."""
     path = os.path.join(folder, "file")
     write(path, made.encoded())
     status, out, err = ran(*words, path).texts()
     same(f"{what}: status and errors", (status, err), (made.is_damaged(), ""))
-    # notes begin with a slash, and so does a row that counts those as the row before it
-    return [line for line in out.split("\n")[:-1] if not line.startswith("/") or " the row before, " in line]
+    return without_notes(out)
 
 
 def compare(made, folder, what):

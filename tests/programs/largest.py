@@ -22,7 +22,7 @@ from tests.oracles import agree
 from tests.oracles import map as maps
 from tests.oracles import model
 from tests.oracles import notes
-from tests.oracles.disassembly import NOP, File, in_listing
+from tests.oracles.disassembly import NOP, File, in_listing, without_notes
 
 WORDS = model.SEGMENT_LIMIT // 2
 SYMBOLS, NAMES, NUMBERS = model.SYMBOLS_LIMIT, model.NAMES_LIMIT, model.NUMBER_LIMIT + 1
@@ -234,7 +234,7 @@ def shown(kind):
     for option, knows_calls in (("-p", False), ("-d", True)):
         status, text, errors = answer("v7-explain", option, *files)
         same("errors", errors, "")
-        lines = [line for line in text.split("\n")[:-1] if not line.startswith("/")]
+        lines = without_notes(text)
         for file in KINDS[kind]:
             file.knows_calls = knows_calls
         same("instructions", lines, [line for file in KINDS[kind] for line in file.disassembly()])
