@@ -1,7 +1,7 @@
 """Refuses one request for memory after another to each program, and judges what comes of it. tests/libv7/memory_library.py does so for libv7.
 
 usage: python3 -m tests.programs.memory [CALL ..]      all calls of the table, or these: 'v7 nm'; libv7.so is beside the programs
-tier: check, 240 seconds; programs: v7 v7-explain v7-object v7-from-gnu v7-lesson libv7.so; for: crates/surroundings
+tier: check, 60 seconds; programs: v7 v7-explain v7-object v7-from-gnu v7-lesson libv7.so; for: crates/surroundings
 
 A call is run as it is, and then with its first request refused, with its second, and so on, until a run makes fewer requests. For each
 call a line has their number, and how many of the runs came out as if nothing had been refused. In any other run the answer has to be
