@@ -1,5 +1,5 @@
 -- The orders of nm only move symbols: what passes a test alone does so in every order.
-use Rattle.std.proofs.Common.{◌≡◌, Bool, true, false, cond, List, [], ◌∷◌, ◌++◌, reverse, filter, IsPermutation, refl, sym, ◌∙◌, ap}
+use Rattle.std.proofs.Common.{rules, ◌≡◌, Bool, true, false, cond, List, [], ◌∷◌, ◌++◌, reverse, filter, IsPermutation, refl, sym, ◌∙◌, ap}
 use Rattle.std.proofs.Common.{append-nil}
 use Rattle.std.proofs.lemmas.List.Sorted.{IsPermutation-refl, IsPermutation-sym, IsPermutation-cons, IsPermutation-trans}
 use Rattle.std.proofs.lemmas.List.Sorted.{IsPermutation-middle, IsPermutation-reverse}
@@ -49,10 +49,7 @@ module _ {A : Type 0} (before : A → A → Bool) where
         by_tests b true ue none rest = absurd (cc)
         by_tests true false ue none rest =
             ap (λ (u : Bool). cond u (y ∷ filter t (inserted before x ys)) (filter t (inserted before x ys))) ue ∙ rest none
-        by_tests false false ue none rest =
-            ap (λ (u : Bool). cond u (x ∷ filter t (y ∷ ys)) (filter t (y ∷ ys))) e
-            ∙ ap (λ (u : Bool). x ∷ cond u (y ∷ filter t ys) (filter t ys)) ue
-            ∙ ap (λ (zs : List A). x ∷ zs) none
+        by_tests false false ue none rest = search rules
 
     none_in_order : (xs : List A) → filter t xs ≡ [] → filter t (in_order before xs) ≡ []
     none_in_order [] none = refl
@@ -71,10 +68,7 @@ module _ {A : Type 0} (before : A → A → Bool) where
             (filter t xs ≡ r ∷ [] → filter t (in_order before xs) ≡ r ∷ []) →
             filter t (inserted before x (in_order before xs)) ≡ r ∷ []
         by_test false e one rest = none_inserted x (in_order before xs) e ∙ rest one
-        by_test true e one rest =
-            let same : x ≡ r = cc in
-            let none : filter t xs ≡ [] = cc in
-            one_inserted x (in_order before xs) e (none_in_order xs none) ∙ ap (λ (y : A). let zs : List A = y ∷ [] in zs) same
+        by_test true e one rest = search (rules, one_inserted, none_in_order)
 
 filter_reversed : {A : Type 0} (t : A → Bool) (xs : List A) → filter t (reverse xs) ≡ reverse (filter t xs)
 filter_reversed t [] = refl

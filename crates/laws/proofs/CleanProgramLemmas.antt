@@ -1,18 +1,16 @@
 -- Each place of a program of clean objects that control reaches is a reached place of one of them.
-use Rattle.std.proofs.Common.{rules}
+use Rattle.std.proofs.Common.{rules, ◌≡◌, ◌≢◌, ℕ, zero, suc, ◌+◌, ◌*◌, ◌/◌, ◌%◌, ◌<◌, ◌≤◌, inl, inr, Bool, true, false, eqb, if◌then◌else◌}
+use Rattle.std.proofs.Common.{List, [], ◌∷◌, ◌++◌, length, map, drop, Option, Some, None, refl, sym, ◌∙◌, ap, subst, arith, append_assoc}
 use Rattle.instructions.proofs.LineLemmas.{from_place}
-use Rattle.std.proofs.Common.{◌≡◌, ◌≢◌, ℕ, zero, suc, ◌+◌, ◌*◌, ◌/◌, ◌%◌, ◌<◌, ◌≤◌, inl, inr, Bool, true, false, ◌||◌, ◌&&◌, not, eqb}
-use Rattle.std.proofs.Common.{if◌then◌else◌, List, [], ◌∷◌, ◌++◌, length, map, drop, Option, Some, None, refl, sym, ◌∙◌, ap, subst, arith}
-use Rattle.std.proofs.Common.{append_assoc}
-use Rattle.std.proofs.{lemmas.Bool.and_from, lemmas.Bool.eqb-true, lemmas.Bool.eq-eqb, lemmas.Bool.ltb-false, lemmas.Bool.cases_lt}
-use Rattle.std.proofs.lemmas.Bool.{or_left, or_right}
-use Rattle.std.proofs.{lemmas.List.length-drop, lemmas.List.append-nil, lemmas.List.Sums.sum_by-append, lemmas.Option.same_Some}
+use Rattle.std.proofs.{lemmas.Bool.and_from, lemmas.Bool.ltb-false, lemmas.Bool.cases_lt, lemmas.List.length-drop}
+use Rattle.std.proofs.{lemmas.List.Sums.sum_by-append, lemmas.Option.same_Some}
+use Rattle.std.proofs.lemmas.Bool.{or_right}
 use Rattle.std.proofs.lemmas.Option.{slice_get_within}
 use Rattle.std.specs.{Prelude.slice_get, Prelude.slice_index, Prelude.IfSome, Prelude.Ok, List.list_any, List.AllByRecursion}
-use Rattle.aout_core.specs.WellFormed.{kind_numbered, kind_of, is_pc_relative, masked_type, segment_numbered, is_external}
+use Rattle.aout_core.specs.WellFormed.{is_pc_relative, is_external}
 use Rattle.aout_core.specs.{declared.symbol.Symbol.Symbol, declared.symbol.Segment.TheVariants.TextSeg, declared.reloc.Reloc.Reloc}
-use Rattle.aout_core.specs.declared.reloc.Kind.{Kind}
 use Rattle.aout_core.specs.{Contents.Contents, Strip.stripped, Words.plus}
+use Rattle.aout_core.specs.declared.reloc.Kind.{Kind}
 use Rattle.link_session.specs.{Starts.size_of, Starts.total, Sessions.IsObject}
 use Rattle.link_session.proofs.ListLemmas.{all_split}
 use Rattle.tool_options.specs.{declared.options.Keep.TheVariants.Nothing, Choices.Choices}
@@ -20,20 +18,18 @@ use Rattle.link_out.specs.{Results.Outcome, function.Link.link}
 use Rattle.link_laws.specs.relation.LinkedFrom.{IsLinkedFrom}
 use Rattle.link_laws.proofs.LinkedTheorem.{linked_exactly}
 use Rattle.instructions.specs.{Instructions.instruction_of, Instructions.following_words, Instructions.jumps, Instructions.word_count_of}
-use Rattle.instructions.specs.Lines.{word_for}
-use Rattle.instructions.specs.declared.mode.Addressing.TheVariants.{Immediate, Absolute, Relative, RelativeDeferred, Indexed}
-use Rattle.instructions.specs.{Modes.addressing, Modes.counts_from_pc, declared.mode.Addressing.Addressing, Texts.number}
-use Rattle.instructions.specs.{declared.operand.Operand.Operand}
-use Rattle.instructions.specs.{declared.instruction.Instruction.Instruction}
-use Rattle.instructions.specs.{declared.unix.Decoder.TheVariants.Unix}
+use Rattle.instructions.specs.{Modes.counts_from_pc, declared.mode.Addressing.Addressing, Texts.number, declared.operand.Operand.Operand}
+use Rattle.instructions.specs.{declared.instruction.Instruction.Instruction, declared.unix.Decoder.TheVariants.Unix}
 use Rattle.instructions.specs.{declared.unix.UnixLine.UnixLine, declared.unix.UnixLine.TheVariants.Machine}
 use Rattle.instructions.specs.{declared.unix.UnixLine.TheVariants.Call, Relocated.is_relocated, Alike.is_cut}
+use Rattle.instructions.specs.Lines.{word_for}
+use Rattle.instructions.specs.declared.mode.Addressing.TheVariants.{Immediate, Absolute, Relative, RelativeDeferred, Indexed}
 use Rattle.instructions.proofs.AlikeLemmas.{get_inside}
 use Rattle.disassemblies.specs.Lines.{unix_line_in}
 use Rattle.suspicions.specs.declared.evidence.Evidence.TheVariants.{Flow, Promise}
-use Rattle.suspicions.specs.{ReachedLaw.is_place, ReachedLaw.IsReached, ReachedLaw.Evident, ReachedLaw.Led, Trust.is_sure, Reached.is_reached}
-use Rattle.suspicions.specs.Reached.{is_text, named, nameless, branch_of, leads_by, leads_to, jump, jump_of, jump_by, is_own_distance}
-use Rattle.suspicions.specs.{Reached.is_own_address, SureLaw.IsInside, SureLaw.AreInside, SureLaw.targets}
+use Rattle.suspicions.specs.{ReachedLaw.is_place, ReachedLaw.IsReached, ReachedLaw.Evident, ReachedLaw.Led, Trust.is_sure}
+use Rattle.suspicions.specs.{Reached.is_reached, SureLaw.IsInside, SureLaw.AreInside, SureLaw.targets}
+use Rattle.suspicions.specs.Reached.{is_text, named, nameless, branch_of, leads_by, leads_to, jump, jump_of}
 use Rattle.suspicions.specs.Suspicions.{is_foreign, is_immediate}
 use Rattle.suspicions.proofs.{ReachLemmas.reached_law, SureLemmas.sure_below, SureLemmas.sure_places, SureLemmas.sure_words}
 use Rattle.laws.specs.{Core.of_instructions, Core.IsWordAt, Operands.Defines, OperandWords.machine_value}
@@ -81,49 +77,11 @@ beginning_reached k below =
     (or_right (is_place 0 (if eqb k.header.flag 0 then None else Some k.header.entry_point))
     (list_any (is_place 0) (map (named Promise k) k.symbols ++ nameless Promise k)) (ends_with_0 (map (named Promise k) k.symbols)))
 
--- a jump by a word that refers to the object's own text leads there
-
-text_number : (n : ℕ) → kind_numbered n ≡ Some kinds.TextSeg → n ≡ 1
-text_number zero e = absurd cc
-text_number (suc zero) e = refl
-text_number (suc (suc zero)) e = absurd cc
-text_number (suc (suc (suc zero))) e = absurd cc
-text_number (suc (suc (suc (suc zero)))) e = absurd cc
-text_number (suc (suc (suc (suc (suc n))))) e = absurd cc
-
-one_bit : (n : ℕ) (b : Bool) → eqb n 1 ≡ b → (b ≡ true → n ≡ 1) × (b ≡ false → n ≡ 1 → ⊥)
-one_bit n true e = (λ h. eqb-true n 1 e, λ h. absurd cc)
-one_bit n false e = (λ h. absurd cc, λ h is. let bad : true ≡ false = sym (eq-eqb n 1 is) ∙ e in cc)
-
-own_distance : (r : Reloc) → kind_said Relative r ≡ Some kinds.TextSeg → (is_relocated (Some r) ≡ true → is_pc_relative r ≡ true) →
-    is_own_distance (Some r) ≡ true
-own_distance r said bit = search rules
-
-own_address : (r : Reloc) → kind_said Absolute r ≡ Some kinds.TextSeg → (is_relocated (Some r) ≡ true → is_pc_relative r ≡ false) →
-    is_own_address (Some r) ≡ true
-own_address r said bit = search rules
-
-leads_if : (t : Bool) (n m : ℕ) → t ≡ true → n ≡ m → (if t then Some n else None) ≡ Some m
-leads_if true n m e is = ap (λ (v : ℕ). Some v) is
-leads_if false n m e is = absurd cc
-
-module _ (r : Reloc) (next n : ℕ) (small : n < 65536) where
-  jumps_own : (way : Addressing) → IsDirect way → kind_said way r ≡ Some kinds.TextSeg →
-      (is_relocated (Some r) ≡ true → is_pc_relative r ≡ counts_from_pc way) → jump_by (Some r) next n (Some way) ≡ Some (machine_value way next n)
-  jumps_own Relative d said bit = leads_if (is_own_distance (Some r)) (plus n next) (plus n next) (own_distance r said bit) refl
-  jumps_own Absolute d said bit =
-      leads_if (is_own_address (Some r)) n (n % 65536) (own_address r said bit) (let e : n ≡ n % 65536 = omega arith in e)
-  jumps_own Immediate (inl e) said bit = absurd cc
-  jumps_own Immediate (inr e) said bit = absurd cc
-  jumps_own RelativeDeferred (inl e) said bit = absurd cc
-  jumps_own RelativeDeferred (inr e) said bit = absurd cc
-  jumps_own Indexed (inl e) said bit = absurd cc
-  jumps_own Indexed (inr e) said bit = absurd cc
-
 jump_when : (t : Bool) (o : Option ℕ) (n : ℕ) → t ≡ true → o ≡ Some n → (if t then o else None) ≡ Some n
 jump_when true o n e is = is
 jump_when false o n e is = absurd cc
 
+-- a jump by a word that refers to the object's own text leads there
 own_jump_of : (k : Contents) (place : ℕ) (x : Option Operand) (word : Option ℕ) (way : Addressing) (r : Reloc) → number word < 65536 →
     addressing_of x ≡ Some way → IsDirect way → slice_get k.text_reloc place ≡ Some r → kind_said way r ≡ Some kinds.TextSeg →
     (is_relocated (Some r) ≡ true → is_pc_relative r ≡ counts_from_pc way) →

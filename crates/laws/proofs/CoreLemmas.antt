@@ -1,14 +1,9 @@
 -- The segments of a file in its spaces: which address is in which, and what the core has there.
-use Rattle.std.proofs.Common.{rules}
-use Rattle.std.proofs.Common.{◌≡◌, ℕ, ◌+◌, ◌-◌, ◌<◌, ◌≤◌, ◌⊎◌, inl, inr, Bool, true, false, cond, ◌&&◌, ◌||◌, eqb, Option, Some, None, refl}
-use Rattle.std.proofs.Common.{sym, ◌∙◌, ap, arith, eqb-true}
-use Rattle.std.proofs.lemmas.Bool.{and_parts, and_from, ltb-true, leb-true, lt-ltb, le-leb, false_from_ne_true}
-use Rattle.std.specs.Prelude.{nat_le, nat_lt}
+use Rattle.std.proofs.Common.{rules, ◌≡◌, ℕ, ◌+◌, ◌-◌, ◌<◌, ◌≤◌, ◌⊎◌, true, false, Some, refl}
 use Rattle.aout_core.specs.declared.symbol.Segment.TheVariants.{Undefined, Absolute, TextSeg, DataSeg, BssSeg, Other}
-use Rattle.aout_core.specs.Addresses.{data_start_in, next_boundary}
-use Rattle.aout_core.specs.{declared.header.Header.Header, declared.symbol.Segment.Segment, Contents.Contents, WellFormed.first_of}
-use Rattle.laws.specs.Core.{Space, of_instructions, of_data, has_one_space, has_segment, first_address, bytes_of, segment_byte, is_in}
-use Rattle.laws.specs.Core.{loaded_byte, core}
+use Rattle.aout_core.specs.Addresses.{data_start_in}
+use Rattle.aout_core.specs.{declared.header.Header.Header, declared.symbol.Segment.Segment, Contents.Contents}
+use Rattle.laws.specs.Core.{Space, of_instructions, of_data, has_one_space, has_segment, first_address, bytes_of, segment_byte, is_in, core}
 
 -- what it is to be in a segment
 pub record IsWithin (h : Header) (space : Space) (segment : Segment) (address : ℕ) : Type 0 where
@@ -29,17 +24,10 @@ module _ (h : Header) (space : Space) (segment : Segment) (address : ℕ) where
 pub text_before : (h : Header) → has_one_space h.magic ≡ true → h.text_size ≤ data_start_in h
 text_before h e = search rules
 
-below_text : (a t d n : ℕ) → a < 0 + t → d + n ≤ a → t ≤ d → ⊥
-below_text a t d n f g h = omega arith
-
 module _ (h : Header) (space : Space) (address : ℕ) where
   shared : (s : Space) → has_segment h.magic TextSeg s ≡ true → has_segment h.magic DataSeg s ≡ true → has_one_space h.magic ≡ true
   shared of_instructions p q = q
   shared of_data p q = p
-
-  shared_bss : (s : Space) → has_segment h.magic TextSeg s ≡ true → has_segment h.magic BssSeg s ≡ true → has_one_space h.magic ≡ true
-  shared_bss of_instructions p q = q
-  shared_bss of_data p q = p
 
   text_or_data : is_in h space TextSeg address ≡ true → is_in h space DataSeg address ≡ true → ⊥
   text_or_data p q = search rules
@@ -68,14 +56,6 @@ segments_apart h space Other two a p q = absurd (let bad : false ≡ true = p in
 segments_apart h space one _ a p q = absurd (let bad : false ≡ true = q in cc)
 
 module _ (file : Contents) (space : Space) (address byte : ℕ) where
-  loaded_in : (segment : Segment) → is_in file.header space segment address ≡ true →
-      loaded_byte file space segment address ≡ segment_byte file segment (address - first_address file.header segment)
-  loaded_in segment e =
-      ap (λ (t : Bool). let b : Option ℕ = cond t (segment_byte file segment (address - first_address file.header segment)) None in b) e
-
-  loaded_out : (segment : Segment) → (is_in file.header space segment address ≡ true → ⊥) → loaded_byte file space segment address ≡ None
-  loaded_out segment h = search rules
-
   -- a byte of a segment is in the core
   pub core_at : (segment : Segment) → is_in file.header space segment address ≡ true → segment_byte file segment
       (address - first_address file.header segment) ≡ Some byte → core file space address ≡ Some byte
@@ -88,14 +68,6 @@ module _ (file : Contents) (space : Space) (address byte : ℕ) where
   pub record IsByteOf (segment : Segment) : Type 0 where
     pub «in» : is_in file.header space segment address ≡ true
     pub reads : segment_byte file segment (address - first_address file.header segment) ≡ Some byte
-
-  loaded_back : (segment : Segment) → loaded_byte file space segment address ≡ Some byte → IsByteOf segment
-  loaded_back segment e = search rules
-
-  one_of : (x y z : Option ℕ) → first_of x (first_of y z) ≡ Some byte → (x ≡ Some byte) ⊎ ((y ≡ Some byte) ⊎ (z ≡ Some byte))
-  one_of (Some a) y z e = inl e
-  one_of None (Some b) z e = inr (inl e)
-  one_of None None z e = inr (inr e)
 
   -- a byte of the core is one of text, of data or of bss
   pub core_back : core file space address ≡ Some byte → IsByteOf TextSeg ⊎ (IsByteOf DataSeg ⊎ IsByteOf BssSeg)

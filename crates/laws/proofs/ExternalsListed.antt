@@ -1,8 +1,7 @@
 -- The rows of the externals, as the relation of linking tells them, stand once each among the symbols that nm lists.
-use Rattle.std.proofs.Common.{rules}
-use Rattle.std.proofs.Common.{◌≡◌, ◌≢◌, ℕ, ◌+◌, Bool, true, false, cond, not, ◌&&◌, ◌||◌, eqb, List, [], ◌∷◌, ◌++◌, map, filter, Some, refl}
+use Rattle.std.proofs.Common.{rules, ◌≡◌, ◌≢◌, ℕ, ◌+◌, Bool, true, false, cond, ◌&&◌, ◌||◌, List, [], ◌∷◌, ◌++◌, map, filter, Some, refl}
 use Rattle.std.proofs.Common.{sym, ◌∙◌, ap, subst, arith}
-use Rattle.std.proofs.{lemmas.Bool.and_parts, lemmas.List.Elements.filter-append, lemmas.Slice.Eq.bytes_eq-Decides}
+use Rattle.std.proofs.{lemmas.List.Elements.filter-append, lemmas.Slice.Eq.bytes_eq-Decides}
 use Rattle.std.specs.{Prelude.bytes_eq, List.flat_map, List.AllByRecursion}
 use Rattle.aout_core.specs.declared.symbol.Segment.TheVariants.{Undefined, Absolute, TextSeg, DataSeg, BssSeg, Other}
 use Rattle.aout_core.specs.{declared.header.Header.Header, declared.symbol.Symbol.Symbol, Contents.Contents, WellFormed.is_external}
@@ -12,8 +11,8 @@ use Rattle.link_session.specs.{declared.state.State.State, declared.state.State.
 use Rattle.link_session.specs.{declared.state.State.TheVariants.Wanted, Earlier.with_earlier, Starts.total}
 use Rattle.tool_options.specs.NameLists.{is_among}
 use Rattle.tool_options.specs.{declared.options.Keep.TheVariants.Nothing, Choices.Choices, declared.nm_options.NmOptions.NmOptions}
-use Rattle.link_out.specs.{KeptSymbols.is_kept_local, ReservedNames.etext, ReservedNames.edata, ReservedNames.end_name, Results.Outcome}
-use Rattle.link_laws.specs.relation.LinkedTable.{shown as row_of_name, row_for, space_for, AreRows, moved_local_in, moved_locals_in}
+use Rattle.link_out.specs.{KeptSymbols.is_kept_local, Results.Outcome}
+use Rattle.link_laws.specs.relation.LinkedTable.{row_for, space_for, AreRows, moved_local_in, moved_locals_in}
 use Rattle.link_laws.specs.{relation.NameStates.HasState, relation.Relocated.base_in, relation.Relocated.entry_of}
 use Rattle.link_laws.specs.{relation.Refusals.CommonsTake, relation.LinkedFrom.IsLinkedFrom}
 use Rattle.link_out.proofs.RowLemmas.{rows_kept-others}
@@ -50,14 +49,6 @@ module _ (h : Header) (os : List Contents) (o : Choices) where
 -- the row of a state
 
 module _ (h : Header) (bss : ℕ) (o : Choices) (at : ℕ) (name : List ℕ) where
-  -- each part of the row of a wanted name
-  abbrev wanted_row : ℕ → Bool → Bool → Bool → Bool → Bool → Bool → Symbol
-  wanted_row size z r c t d e =
-      cond z (cond r (row_of_name name 32 0)
-      (cond t (row_of_name name 34 h.text_size) (cond d (row_of_name name 35 (data_start_in h + h.data_size))
-      (cond e (row_of_name name 36 (data_start_in h + h.data_size + h.bss_size)) (row_of_name name 32 0)))))
-      (cond (not r || c) (row_of_name name 36 at) (row_of_name name 32 size))
-
   row_outer : (st : State) → is_external (row_for h bss o at name st) ≡ true
   row_outer (Defined Undefined offset) = refl
   row_outer (Defined Absolute offset) = refl

@@ -5,12 +5,10 @@ use Rattle.std.proofs.lemmas.Bool.{and_parts, or_cases, eqb-true, le-ltb, ltb-fa
 use Rattle.std.specs.Prelude.{slice_get, slice_index}
 use Rattle.aout_core.specs.{Contents.Contents, Strip.stripped}
 use Rattle.instructions.specs.Instructions.{instruction_of, instruction, following_words}
-use Rattle.instructions.specs.{Alike.is_cut, Lines.line_of, Lines.line_at}
-use Rattle.instructions.specs.{Rows.begins as in_row, Rows.row_of, Texts.number, UnixLines.call_by, UnixLines.unix_line}
-use Rattle.instructions.specs.{declared.instruction.Instruction.Instruction}
+use Rattle.instructions.specs.{Alike.is_cut, Lines.line_of, Lines.line_at, Rows.begins as in_row, Rows.row_of, Texts.number}
+use Rattle.instructions.specs.{UnixLines.call_by, UnixLines.unix_line, declared.instruction.Instruction.Instruction}
 use Rattle.instructions.specs.{declared.call_table.CallRow.CallRow, declared.line.Line.Line, declared.line.Line.TheVariants.Plain}
-use Rattle.instructions.specs.{declared.unix.Decoder.TheVariants.Unix}
-use Rattle.instructions.specs.{declared.unix.UnixLine.TheVariants.Machine}
+use Rattle.instructions.specs.{declared.unix.Decoder.TheVariants.Unix, declared.unix.UnixLine.TheVariants.Machine}
 use Rattle.instructions.specs.{declared.unix.UnixLine.TheVariants.Call, Relocated.is_relocated, UnixLaws.sys}
 use Rattle.disassemblies.specs.Lines.{unix_line_in}
 use Rattle.suspicions.specs.{Suspicions.is_foreign, SureLaw.is_whole}

@@ -1,7 +1,6 @@
 -- The bytes of two linked files that differ in one object.
-use Rattle.std.proofs.Common.{rules}
-use Rattle.std.proofs.Common.{◌≡◌, ℕ, ◌+◌, ◌-◌, ◌*◌, ◌/◌, inl, inr, Bool, true, false, cond, eqb, List, [], ◌∷◌, ◌++◌, length, refl, sym}
-use Rattle.std.proofs.Common.{◌∙◌, ap, subst, arith, length-append}
+use Rattle.std.proofs.Common.{rules, ◌≡◌, ℕ, ◌+◌, ◌-◌, ◌*◌, ◌/◌, inl, inr, Bool, true, false, List, [], ◌∷◌, ◌++◌, length, refl, sym, ◌∙◌}
+use Rattle.std.proofs.Common.{ap, subst, arith, length-append}
 use Rattle.std.proofs.{lemmas.Bool.ltb-true, lemmas.Bool.ltb-false, lemmas.List.Concat.flat_map-append}
 use Rattle.std.specs.{Prelude.nat_lt, Prelude.slice_get, List.flat_map, List.AllByRecursion}
 use Rattle.aout_core.specs.Encoding.{header_encoding, reloc_encoding, symbol_encoding, relocation_at, symbols_at, encoding}

@@ -1,22 +1,19 @@
 -- The link of objects, one of which is replaced by another that may take its place.
-use Rattle.std.proofs.Common.{rules}
-use Rattle.std.proofs.Common.{◌≡◌, ◌≢◌, ℕ, ◌+◌, ◌*◌, ◌/◌, Bool, true, false, cond, ◌&&◌, List, [], ◌∷◌, ◌++◌, map, length, refl, sym, ◌∙◌}
-use Rattle.std.proofs.Common.{ap, subst}
+use Rattle.std.proofs.Common.{rules, ◌≡◌, ◌≢◌, ℕ, ◌/◌, Bool, true, false, cond, ◌&&◌, List, [], ◌∷◌, ◌++◌, map, length, refl, sym, ◌∙◌, ap}
+use Rattle.std.proofs.Common.{subst}
 use Rattle.std.specs.{Prelude.filter, Prelude.nat_lt, Prelude.Result, Prelude.Ok, Prelude.Err, List.flat_map, List.AllByRecursion}
 use Rattle.aout_core.specs.declared.symbol.Segment.TheVariants.{TextSeg, DataSeg, BssSeg}
 use Rattle.aout_core.specs.{declared.symbol.Symbol.Symbol, declared.symbol.Segment.Segment, declared.reloc.Reloc.Reloc, Contents.Contents}
 use Rattle.aout_core.specs.{WellFormed.segment_of}
-use Rattle.link_session.specs.Mentions.{Mention, statement_by, mentions_in, mentions, names_by_first_mention, place_of, forced_mention}
+use Rattle.link_session.specs.Mentions.{Mention, statement_by, mentions_in, mentions, forced_mention}
 use Rattle.link_session.specs.{Starts.size_of, Starts.total, Cells.Referent, Cells.to_segment, Cells.to_name, Sessions.IsObject}
-use Rattle.tool_options.specs.declared.options.Keep.TheVariants.{All, NotL, Externals, Nothing}
+use Rattle.tool_options.specs.declared.options.Keep.TheVariants.{Nothing}
 use Rattle.tool_options.specs.{declared.options.Keep.Keep, Choices.Choices}
 use Rattle.link_out.specs.declared.linked.LinkFault.TheVariants.{DoesNotFit, TooManySymbols, SymbolNumber}
-use Rattle.link_out.specs.function.Tables.{is_kept_local, rows_kept, local_rows, external_rows, table, name_bits, referent_bits}
-use Rattle.link_out.specs.function.Tables.{has_number_too_large}
+use Rattle.link_out.specs.function.Tables.{is_kept_local, rows_kept, local_rows, external_rows, table, referent_bits, has_number_too_large}
 use Rattle.link_out.specs.function.Link.{Outcome, linked_header, linked_file, link}
-use Rattle.link_out.specs.{declared.linked.LinkFault.LinkFault, Layouts.bases, Layouts.magic_of, function.Plans.Plan, function.Plans.plan}
-use Rattle.link_out.specs.{function.Plans.commons_laid, function.Finals.final, function.Words.final_word, function.Words.final_words}
-use Rattle.link_out.specs.{function.Reports.report_of, function.Reports.entry_word}
+use Rattle.link_out.specs.{declared.linked.LinkFault.LinkFault, Layouts.bases, function.Plans.Plan, function.Plans.plan}
+use Rattle.link_out.specs.{function.Plans.commons_laid, function.Words.final_word, function.Words.final_words, function.Reports.report_of}
 use Rattle.link_laws.specs.relation.Refusals.{kept_locals}
 use Rattle.link_session.proofs.NeighbourLemmas.{mentions_in_same}
 use Rattle.link_out.proofs.OutcomeLemmas.{made}

@@ -1,11 +1,10 @@
 -- The parts of a link, where one object is replaced by another of the same sizes, with as many kept locals.
-use Rattle.std.proofs.Common.{rules}
-use Rattle.std.proofs.Common.{◌≡◌, ℕ, ◌+◌, ◌*◌, ◌/◌, ◌%◌, Bool, true, false, cond, not, ◌&&◌, List, [], ◌∷◌, ◌++◌, map, length, refl, sym}
-use Rattle.std.proofs.Common.{◌∙◌, ap, subst, arith}
+use Rattle.std.proofs.Common.{rules, ◌≡◌, ℕ, ◌+◌, ◌*◌, ◌/◌, ◌%◌, Bool, true, false, cond, not, ◌&&◌, List, [], ◌∷◌, ◌++◌, map, length, refl}
+use Rattle.std.proofs.Common.{sym, ◌∙◌, ap, subst, arith}
 use Rattle.std.specs.{Prelude.filter, List.flat_map, List.AllByRecursion}
-use Rattle.aout_core.specs.declared.symbol.Segment.TheVariants.{Undefined, Absolute, TextSeg, DataSeg, BssSeg, Other}
+use Rattle.aout_core.specs.declared.symbol.Segment.TheVariants.{TextSeg, DataSeg, BssSeg}
 use Rattle.aout_core.specs.{declared.symbol.Symbol.Symbol, declared.symbol.Segment.Segment, declared.reloc.Reloc.Reloc, Contents.Contents}
-use Rattle.aout_core.specs.{Contents.with_relocation, Words.plus, Words.minus, WellFormed.is_external, WellFormed.segment_of}
+use Rattle.aout_core.specs.{Contents.with_relocation, Words.plus, Words.minus, WellFormed.is_external}
 use Rattle.link_session.specs.Cells.{Referent, to_segment, to_name, referent, words_of, if_pc}
 use Rattle.link_session.specs.{Earlier.with_earlier, Starts.size_of, Starts.total, Sessions.IsObject}
 use Rattle.link_session.proofs.{ListLemmas.all_split, TotalLemmas.total-first, NeighbourLemmas.AreAsLong, NeighbourLemmas.shift_same}

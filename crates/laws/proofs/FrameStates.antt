@@ -1,18 +1,15 @@
 -- What mentions make of names, where one object defines some of them with other values.
-use Rattle.std.proofs.Common.{rules}
-use Rattle.std.proofs.Common.{◌≡◌, ◌⊎◌, inl, inr, ℕ, suc, ◌%◌, max, Bool, true, false, cond, eqb, List, [], ◌∷◌, map, None, refl, sym, ◌∙◌}
-use Rattle.std.proofs.Common.{ap, subst, eqb-true, eq-eqb}
+use Rattle.std.proofs.Common.{rules, ◌≡◌, ◌⊎◌, inl, inr, ℕ, suc, max, Bool, true, false, eqb, List, [], ◌∷◌, map, refl, sym, ◌∙◌, eq-eqb}
 use Rattle.std.proofs.lemmas.Slice.Eq.{bytes_eq-Decides}
 use Rattle.std.specs.Prelude.{bytes_eq}
-use Rattle.aout_core.specs.declared.symbol.Segment.TheVariants.{Undefined, Absolute, TextSeg, DataSeg, BssSeg, Other}
-use Rattle.aout_core.specs.WellFormed.{segment_of, segment_numbered, first_of}
+use Rattle.aout_core.specs.WellFormed.{segment_of}
 use Rattle.aout_core.specs.{declared.symbol.Symbol.Symbol, declared.symbol.Segment.Segment}
 use Rattle.link_session.specs.Mentions.{Mention, statement_by, names_of}
-use Rattle.link_session.specs.States.{state, state_by, definition_by, size_wanted_by, first_definition, wanted_size}
+use Rattle.link_session.specs.States.{state}
 use Rattle.link_session.specs.{declared.state.State.State, declared.state.State.TheVariants.Defined}
 use Rattle.link_session.specs.{declared.state.State.TheVariants.Wanted, internal.Updates.updated_state}
 use Rattle.link_session.proofs.StateLemmas.{state-append}
-use Rattle.laws.specs.Frame.{IsRevalued, AreRevalued, HasOtherValue}
+use Rattle.laws.specs.Frame.{AreRevalued, HasOtherValue}
 
 -- two states that differ at most in the offset of a definition
 abbrev pub AreNear : State → State → Type 0
@@ -39,25 +36,7 @@ near_updated (Wanted m) (Wanted n) _ _ e f = absurd f
 abbrev pub said_by : (Segment → ℕ) → Symbol → Mention
 said_by at s = record { name = s.name; says = statement_by at (segment_of s) s.value }
 
-near_said : (at : Segment → ℕ) (segment : Segment) (v w : ℕ) → (segment ≡ Undefined → v ≡ w) →
-    AreNear (statement_by at segment v) (statement_by at segment w)
-near_said at Undefined v w e = e refl
-near_said at _ v w e = refl
-
--- the state of a name by one mention of it
-near_once : (a b : State) → AreNear a b → AreNear (state_by (first_of (definition_by a) None) (max (size_wanted_by a) 0))
-    (state_by (first_of (definition_by b) None) (max (size_wanted_by b) 0))
-near_once (Defined g m) (Defined h n) e = e
-near_once (Wanted m) (Wanted n) e = ap (λ (x : ℕ). max x 0) e
-near_once _ _ e = absurd e
-
 module _ (at : Segment → ℕ) where
-  same_segment : (s t : Symbol) → IsRevalued s t → segment_of s ≡ segment_of t
-  same_segment s t r = ap (λ (n : ℕ). segment_numbered (n % 0o40)) r.type_bits
-
-  near_mention : (s t : Symbol) → IsRevalued s t → AreNear (said_by at s).says (said_by at t).says
-  near_mention s t r = search rules
-
   -- symbols with other values mention the same names
   pub names_revalued : (ss ts : List Symbol) → AreRevalued ss ts → names_of (map (said_by at) ss) ≡ names_of (map (said_by at) ts)
   names_revalued [] [] h = refl

@@ -1,20 +1,18 @@
 -- The link of objects, one of which is replaced by another that defines its names with other values.
-use Rattle.std.proofs.Common.{rules}
-use Rattle.std.proofs.Common.{◌≡◌, ◌≢◌, ◌⊎◌, inl, inr, ℕ, zero, suc, ◌+◌, ◌-◌, ◌*◌, ◌<◌, ◌≤◌, Bool, true, false, cond, not, ◌&&◌, eqb, List}
-use Rattle.std.proofs.Common.{[], ◌∷◌, ◌++◌, map, length, Option, Some, None, refl, sym, ◌∙◌, ap, subst, arith, take, length-append}
+use Rattle.std.proofs.Common.{rules, ◌≡◌, ◌≢◌, ◌⊎◌, inl, inr, ℕ, zero, suc, ◌+◌, ◌-◌, ◌*◌, ◌≤◌, Bool, true, false, cond, not, ◌&&◌, eqb}
+use Rattle.std.proofs.Common.{List, [], ◌∷◌, ◌++◌, map, length, Option, Some, None, refl, sym, ◌∙◌, ap, subst, arith, take, length-append}
 use Rattle.std.proofs.{lemmas.Bool.ltb-true, lemmas.Bool.ltb-false, lemmas.List.length-map}
 use Rattle.std.specs.Prelude.{filter, nat_lt, slice_get, sum_by}
 use Rattle.aout_core.specs.declared.symbol.Segment.TheVariants.{TextSeg, DataSeg, BssSeg}
 use Rattle.aout_core.specs.{declared.symbol.Symbol.Symbol, declared.symbol.Segment.Segment, Contents.Contents}
 use Rattle.aout_core.proofs.AlikeLemmas.{slice_get_front, slice_get_after}
-use Rattle.link_session.specs.Mentions.{Mention, mentions_in, mentions, externals_in, names_of, names_by_first_mention, place_of}
+use Rattle.link_session.specs.Mentions.{Mention, mentions_in, mentions, externals_in, names_by_first_mention, place_of}
 use Rattle.link_session.specs.{declared.state.State.State, declared.state.State.TheVariants.Defined}
 use Rattle.link_session.specs.{declared.state.State.TheVariants.Wanted, Starts.shift, Cells.Referent, Cells.to_segment, Cells.to_name}
 use Rattle.link_session.specs.{States.state, States.multiple_names, internal.Updates.updated_state}
 use Rattle.link_session.proofs.{MentionLemmas.mentions-append, MentionLemmas.names_of-append, StateLemmas.state-append}
 use Rattle.link_session.proofs.{NeighbourLemmas.blocks, NeighbourLemmas.mentions_in_same}
-use Rattle.tool_options.specs.{NameLists.is_among, NameLists.new_names, declared.options.Keep.TheVariants.Nothing, Choices.Choices}
-use Rattle.tool_options.specs.{Choices.lays_commons}
+use Rattle.tool_options.specs.{NameLists.is_among, declared.options.Keep.TheVariants.Nothing, Choices.Choices}
 use Rattle.link_out.specs.function.Plans.{Plan, plan, common_size, commons_size, common_offset, commons_laid}
 use Rattle.link_out.specs.function.Tables.{local_rows, external_row, external_rows, table, name_bits, referent_bits}
 use Rattle.link_out.specs.function.Reports.{report_of, entry_word, entry_found_bad, is_undefined, undefined_names}

@@ -1,9 +1,8 @@
 -- The words of the other objects, where one object is replaced by another that defines its names with other values.
-use Rattle.std.proofs.Common.{rules}
-use Rattle.std.proofs.Common.{◌≡◌, ◌≢◌, ◌⊎◌, inl, inr, ℕ, ◌+◌, ◌/◌, cond, List, ◌∷◌, ◌++◌, Option, Some, None, refl, sym, ◌∙◌, ap, subst}
-use Rattle.std.proofs.Common.{arith, append_assoc}
+use Rattle.std.proofs.Common.{rules, ◌≡◌, ◌≢◌, ◌⊎◌, inl, inr, ℕ, ◌+◌, ◌/◌, cond, List, ◌∷◌, ◌++◌, Option, Some, None, refl, sym, ◌∙◌, ap}
+use Rattle.std.proofs.Common.{subst, arith, append_assoc}
 use Rattle.std.specs.{Prelude.slice_get, Prelude.Ok, List.AllByRecursion}
-use Rattle.aout_core.specs.declared.symbol.Segment.TheVariants.{Undefined, Absolute, TextSeg, DataSeg, BssSeg, Other}
+use Rattle.aout_core.specs.declared.symbol.Segment.TheVariants.{Absolute, TextSeg, DataSeg, BssSeg}
 use Rattle.aout_core.specs.WellFormed.{kind_of, is_pc_relative, symbol_number}
 use Rattle.aout_core.specs.{declared.symbol.Symbol.Symbol, declared.symbol.Segment.Segment, declared.reloc.Reloc.Reloc}
 use Rattle.aout_core.specs.{declared.reloc.Kind.Kind, Contents.Contents, Words.plus, Words.minus}

@@ -1,17 +1,16 @@
 -- Linking preserves instructions.
-use Rattle.std.proofs.Common.{◌≡◌, ℕ, zero, suc, ◌+◌, ◌-◌, ◌*◌, ◌/◌, ◌%◌, ◌<◌, ◌≤◌, Bool, true, false, eqb, if◌then◌else◌, cond, List, []}
-use Rattle.std.proofs.Common.{◌∷◌, ◌++◌, length, drop, Some, refl, sym, ◌∙◌, ap, subst, append_assoc, arith}
-use Rattle.std.proofs.lemmas.Option.{slice_get_within, same_Some}
+use Rattle.std.proofs.Common.{rules, ◌≡◌, ℕ, zero, suc, ◌+◌, ◌*◌, ◌/◌, ◌%◌, ◌<◌, ◌≤◌, Bool, true, false, eqb, if◌then◌else◌, List, [], ◌∷◌}
+use Rattle.std.proofs.Common.{◌++◌, length, drop, Some, refl, sym, ◌∙◌, ap, subst, append_assoc, arith}
+use Rattle.std.proofs.lemmas.Option.{slice_get_within}
 use Rattle.std.proofs.{lemmas.List.length-drop, lemmas.List.Sums.sum_by-append, lemmas.Bool.eqb-true}
 use Rattle.std.specs.{Prelude.slice_get, Prelude.not, List.AllByRecursion}
-use Rattle.aout_core.specs.WellFormed.{kind_numbered, kind_of, is_pc_relative, symbol_number}
 use Rattle.aout_core.specs.{declared.symbol.Symbol.Symbol, declared.symbol.Segment.TheVariants.TextSeg, declared.reloc.Reloc.Reloc}
-use Rattle.aout_core.specs.{declared.reloc.Kind.TheVariants.Absolute, Contents.Contents, Contents.IsWord, Words.plus, Words.minus}
+use Rattle.aout_core.specs.{Contents.Contents, Contents.IsWord}
 use Rattle.link_session.specs.{Starts.size_of, Starts.total, Sessions.IsObject}
-use Rattle.link_session.proofs.{ListLemmas.all_split, WellFormedLemmas.well_formed_parts}
+use Rattle.link_session.proofs.{ListLemmas.all_split}
 use Rattle.tool_options.specs.Choices.{Choices}
 use Rattle.link_out.specs.Results.{Outcome}
-use Rattle.link_laws.specs.relation.Relocated.{move_in, IsAdded, IsRelocated}
+use Rattle.link_laws.specs.relation.Relocated.{IsRelocated}
 use Rattle.link_laws.specs.relation.LinkedFrom.{IsLinkedFrom}
 use Rattle.instructions.specs.{Lines.lines, Relocated.is_relocated}
 use Rattle.instructions.proofs.AlikeLemmas.{Pairs, Same, get_from, drop_twice, BeginAlike, begin_alike}
@@ -25,9 +24,7 @@ relocs_by false words relocs size e long same = absurd cc
 
 -- an object has a relocation word for each word of text
 pub relocs_long : (k : Contents) → IsObject k → length k.text_reloc ≡ length k.text_words
-relocs_long k is =
-    relocs_by (eqb k.header.flag 0) (length k.text_words) (length k.text_reloc) k.header.text_size
-    (well_formed_parts k is.well).0 is.fits.text is.fits.text_relocation
+relocs_long k is = search rules
 
 -- so there is one at each place of the text
 pub reloc_inside : (rs : List Reloc) (i : ℕ) → i < length rs → (r : Reloc) × (slice_get rs i ≡ Some r)
@@ -48,14 +45,7 @@ low_bits false n e h = absurd cc
 unmoved : (file : Contents) (rows : List Symbol) (os before : List Contents) (k : Contents) (i w v : ℕ) (r : Reloc) →
     w < 65536 → r.0 % 16 ≡ 0 →
     IsRelocated file rows os before k TextSeg i w r → slice_get file.text_words (total TextSeg before / 2 + i) ≡ Some v → v ≡ w
-unmoved file rows os before k i w v r small low is there =
-    let kind : kind_of r ≡ Some Absolute = ap kind_numbered (let e : r.0 / 2 % 8 ≡ 0 = omega arith in e) in
-    let pc : is_pc_relative r ≡ false = ap (λ n. eqb n 1) (let e : r.0 % 2 ≡ 0 = omega arith in e) in
-    let added : is.added ≡ 0 = subst (λ m. IsAdded file.header rows os before k m (symbol_number r) is.added) kind is.is in
-    let value : minus (plus w is.added) (cond (is_pc_relative r) (move_in file.header os before k TextSeg) 0) ≡ w =
-    ap (λ b. minus (plus w is.added) (cond b (move_in file.header os before k TextSeg) 0)) pc
-    ∙ ap (λ n. minus (plus w n) 0) added ∙ (let e : ((w + 0) % 65536 + (65536 - 0 % 65536)) % 65536 ≡ w = omega arith in e) in
-    same_Some v w (sym there ∙ is.word ∙ ap (λ n. Some n) value)
+unmoved file rows os before k i w v r small low is there = search rules
 
 -- a word that is not relocated has a relocation word whose low four bits are 0
 pub moves_low : (rs : List Reloc) (i : ℕ) (r : Reloc) → slice_get rs i ≡ Some r → is_relocated (slice_get rs i) ≡ false → r.0 % 16 ≡ 0
@@ -69,13 +59,7 @@ module _ (forced : List (List ℕ)) (os : List Contents) (o : Choices) (x : Outc
   linked_pairs before k after e is i q w v at word there =
       let same : q ≡ i = omega arith in
       let r = reloc_inside k.text_reloc i (omega (arith, relocs_long k is, slice_get_within k.text_words i w word)) in
-      subst (λ n. IsLinkedWord x.file l.rows os before k n w v) (sym same) (record {
-        reloc = r.0;
-        word = word;
-        at = r.1;
-        is = l.text before k after e i w r.0 word r.1;
-        there = sym (get_from x.file.text_words (total TextSeg before / 2) i) ∙ there;
-      })
+      search (rules, get_from)
 
   -- the text of an object is in the file with the same words, but for those that are relocated
   pub linked_same : (before : List Contents) (k : Contents) (after : List Contents) → os ≡ before ++ k ∷ after →
@@ -109,12 +93,7 @@ module _ (forced : List (List ℕ)) (os : List Contents) (o : Choices) (x : Outc
   texts_from : (before after : List Contents) → os ≡ before ++ after → AllByRecursion IsObject before →
       AllByRecursion IsObject after → AllByRecursion HasWholeText after →
       AreLinesOf x.file l.rows os before after (lines (drop (total TextSeg before / 2) x.file.text_words))
-  texts_from before [] e first later whole =
-      let sum : total TextSeg os ≡ total TextSeg before = ap (λ (ys : List Contents). total TextSeg ys) (e ∙ append_nothing before) in
-      let even : 2 * (total TextSeg before / 2) ≡ total TextSeg before = whole_words TextSeg tt before first in
-      let none : drop (total TextSeg before / 2) x.file.text_words ≡ [] =
-      dropped x.file.text_words (total TextSeg before / 2) (omega (arith, l.holds.text_words)) in
-      ap lines none
+  texts_from before [] e first later whole = search (rules, append_nothing, whole_words, dropped)
     where
       append_nothing : (xs : List Contents) → xs ++ [] ≡ xs
       append_nothing [] = refl
@@ -151,12 +130,7 @@ module _ (forced : List (List ℕ)) (os : List Contents) (o : Choices) (x : Outc
 pub instructions_kept : InstructionsAreKept
 instructions_kept forced before k after o x all has l =
     let b = begins forced (before ++ k ∷ after) o x all l before k after refl (all_split IsObject before (k ∷ after) all).1.0 has in
-    record {
-      front = b.front;
-      back = lines (drop (length k.text_words) (drop (total TextSeg before / 2) x.file.text_words));
-      all = b.all;
-      alike = b.alike;
-    }
+    search rules
 
 -- and decoded from its beginning, it has those of all objects in order
 pub texts_kept : TextsAreKept

@@ -1,33 +1,31 @@
 -- Two links of the same objects: the same places, the same bytes, and words that move as what they refer to.
-use Rattle.std.proofs.Common.{rules}
-use Rattle.std.proofs.Common.{◌≡◌, ◌≢◌, ℕ, zero, suc, ◌+◌, ◌*◌, ◌/◌, ◌%◌, ◌<◌, Bool, true, false, cond, eqb, List, [], ◌∷◌, ◌++◌, length}
-use Rattle.std.proofs.Common.{take, drop, Option, Some, None, refl, sym, ◌∙◌, ap, subst, arith}
+use Rattle.std.proofs.Common.{rules, ◌≡◌, ◌≢◌, ℕ, zero, suc, ◌+◌, ◌*◌, ◌/◌, ◌%◌, ◌<◌, Bool, true, false, cond, eqb, List, [], ◌∷◌, ◌++◌}
+use Rattle.std.proofs.Common.{length, take, drop, Option, Some, None, refl, sym, ◌∙◌, ap, subst, arith}
 use Rattle.std.proofs.{lemmas.List.Sorted.IsPermutation-sym, lemmas.Bool.eqb-true, lemmas.Bool.eqb-false, lemmas.Option.same_Some}
-use Rattle.std.specs.{Prelude.slice_get, Prelude.bytes_eq, Prelude.Ok, List.AllByRecursion}
-use Rattle.aout_core.specs.declared.symbol.Segment.TheVariants.{Undefined, Absolute, TextSeg, DataSeg, BssSeg, Other}
+use Rattle.std.specs.{Prelude.slice_get, Prelude.Ok, List.AllByRecursion}
+use Rattle.aout_core.specs.declared.symbol.Segment.TheVariants.{Absolute, TextSeg, DataSeg, BssSeg}
 use Rattle.aout_core.specs.WellFormed.{kind_numbered, kind_of, is_pc_relative, symbol_number, segment_of}
 use Rattle.aout_core.specs.{declared.symbol.Symbol.Symbol, declared.symbol.Segment.Segment, declared.reloc.Reloc.Reloc}
-use Rattle.aout_core.specs.{declared.reloc.Kind.Kind, Contents.Contents, Addresses.data_start_in, Words.plus, Words.minus}
-use Rattle.link_session.specs.{Starts.size_of, Starts.total, Starts.own, Sessions.IsObject, Cells.segment_words, Cells.segment_relocs}
-use Rattle.link_session.proofs.{ListLemmas.all_split, WellFormedLemmas.well_formed_parts}
+use Rattle.aout_core.specs.{declared.reloc.Kind.Kind, Contents.Contents, Words.plus, Words.minus}
+use Rattle.link_session.specs.{Starts.size_of, Starts.own, Sessions.IsObject, Cells.segment_words, Cells.segment_relocs}
+use Rattle.link_session.proofs.{ListLemmas.all_split}
 use Rattle.tool_options.specs.Choices.{Choices, lays_commons}
 use Rattle.tool_options.specs.{declared.options.Keep.TheVariants.Nothing, declared.options.Layout.Layout}
-use Rattle.link_out.specs.{ReservedNames.etext, ReservedNames.edata, ReservedNames.end_name, Results.Outcome, function.Link.link}
-use Rattle.link_laws.specs.relation.Relocated.{base_in, move_in, entry_of, address_in, IsAdded}
-use Rattle.link_laws.specs.relation.LinkedTable.{shown, undefined_row}
-use Rattle.link_laws.specs.{WordsAndNames.IsDefined, CommonsAndLayouts.HasSpace}
+use Rattle.link_out.specs.{Results.Outcome, function.Link.link}
+use Rattle.link_laws.specs.relation.Relocated.{move_in, entry_of, address_in, IsAdded}
+use Rattle.link_laws.specs.{CommonsAndLayouts.HasSpace}
 use Rattle.link_laws.proofs.{SegmentLemmas.HasWords, DefinedLemmas.definitions_hold}
 use Rattle.instructions.proofs.AlikeLemmas.{get_inside}
 use Rattle.laws.specs.Core.{Space, of_instructions, of_data, has_segment, is_in, core, IsWordAt}
 use Rattle.laws.specs.Orders.{AreLinks, Meaning, definition, common, missing, IsDefinedBy, Means, MeansTheSame}
-use Rattle.laws.specs.Isomorphism.{Place, of_object, of_common, IsPlaceOf, segment_at, value_in, address_at, IsLoadedAt, PlacesAreLoaded}
-use Rattle.laws.specs.Isomorphism.{AreRenumbered, moved, Target, to_place, to_end, to_nothing, address_to, moved_target, missing_target}
+use Rattle.laws.specs.Isomorphism.{Place, of_object, of_common, IsPlaceOf, segment_at, address_at, IsLoadedAt, PlacesAreLoaded}
+use Rattle.laws.specs.Isomorphism.{AreRenumbered, moved, Target, to_place, to_nothing, address_to, moved_target, missing_target}
 use Rattle.laws.specs.Isomorphism.{IsDefinedAt, IsTargetOf, RefersTo, IsUnrelocated, MovesAsTarget, LinksAreIsomorphic}
 use Rattle.laws.specs.{CoreLaws.space_of, CoreLaws.IsPlace, CoreLaws.IsLoaded, Operands.operand, Operands.FindsMore}
-use Rattle.laws.proofs.InstructionLemmas.{relocs_by, relocs_long, reloc_inside, moves_low}
+use Rattle.laws.proofs.InstructionLemmas.{relocs_long, reloc_inside, moves_low}
 use Rattle.laws.proofs.IsomorphismLists.{cut, take_before, get_between}
 use Rattle.laws.proofs.LoadedLemmas.{address_of, words_there, words_loaded}
-use Rattle.laws.proofs.OperandLemmas.{loaded_finds, any_place, defined_address}
+use Rattle.laws.proofs.OperandLemmas.{loaded_finds, any_place}
 use Rattle.laws.proofs.ReorderedMeanings.{laid, objects_too, referents_kept}
 use Rattle.laws.proofs.{CoreLemmas.core_at, CoreLemmas.one_space, IsomorphismPlaces.place_in, ReorderedMentions.wanted_too}
 use Rattle.aout_core.specs.declared.reloc.Kind.TheVariants as kinds
@@ -182,11 +180,6 @@ missing_is : (forced : List (List ℕ)) (os : List Contents) (o : Choices) (file
     IsTargetOf forced os o file name t
 missing_is forced os o file name m (to_place place) e none = absurd none
 missing_is forced os o file name m _ e none = (m, e)
-
-missing_value : (o : Choices) → o.relocatable ≡ false → (file : Contents) (os : List Contents) (name : List ℕ) →
-    entry_of file.symbols name ≡ Some (undefined_row file.header o name) →
-    (row : Symbol) → entry_of file.symbols name ≡ Some row → address_in row % 65536 ≡ address_to file os (missing_target name) % 65536
-missing_value o nr file os name is row found = search rules
 
 -- a common gives the address of its first byte
 common_value : (file : Contents) (os : List Contents) (name : List ℕ) (size : ℕ) → HasSpace file os name size → (row : Symbol) →

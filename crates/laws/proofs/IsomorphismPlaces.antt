@@ -1,18 +1,17 @@
 -- The places of a link: each is loaded, no two at one address, and each byte that is loaded has one.
-use Rattle.std.proofs.Common.{rules}
-use Rattle.std.proofs.Common.{◌≡◌, ◌≢◌, ℕ, zero, suc, ◌+◌, ◌-◌, ◌%◌, ◌<◌, ◌≤◌, ◌⊎◌, inl, inr, Bool, true, false, cond, ◌||◌, eqb, nat_lt}
+use Rattle.std.proofs.Common.{rules, ◌≡◌, ◌≢◌, ℕ, zero, suc, ◌+◌, ◌-◌, ◌%◌, ◌<◌, ◌≤◌, ◌⊎◌, inl, inr, Bool, true, false, cond, ◌||◌, nat_lt}
 use Rattle.std.proofs.Common.{List, [], ◌∷◌, take, drop, Option, Some, None, refl, sym, ◌∙◌, ap, subst, arith}
-use Rattle.std.proofs.lemmas.Bool.{ltb-true, ltb-false, eqb-true}
+use Rattle.std.proofs.lemmas.Bool.{ltb-true, ltb-false}
 use Rattle.std.proofs.{lemmas.Option.same_Some, lemmas.Slice.Eq.bytes_eq-Decides, Math.Bool.or-true}
 use Rattle.std.specs.{Prelude.slice_get, Prelude.sum_by, Prelude.bytes_eq, Prelude.Ok, List.AllByRecursion}
-use Rattle.aout_core.specs.declared.symbol.Segment.TheVariants.{Undefined, Absolute, TextSeg, DataSeg, BssSeg, Other}
+use Rattle.aout_core.specs.declared.symbol.Segment.TheVariants.{TextSeg, DataSeg, BssSeg}
 use Rattle.aout_core.specs.{declared.symbol.Symbol.Symbol, declared.symbol.Segment.Segment, Contents.Contents, Addresses.data_start_in}
 use Rattle.aout_core.specs.{Words.plus}
 use Rattle.link_session.specs.Mentions.{Mention, mentions, names_of, names_by_first_mention, place_of}
 use Rattle.link_session.specs.{declared.state.State.State, declared.state.State.TheVariants.Defined}
 use Rattle.link_session.specs.{declared.state.State.TheVariants.Wanted, Starts.size_of, Starts.total, Sessions.IsObject, States.state}
 use Rattle.tool_options.specs.{NameLists.is_among, declared.options.Keep.TheVariants.Nothing, Choices.Choices, Choices.lays_commons}
-use Rattle.link_session.proofs.{MentionLemmas.get_place, UpdateLemmas.own_name}
+use Rattle.link_session.proofs.{MentionLemmas.get_place}
 use Rattle.link_out.specs.function.Plans.{Plan, plan, common_size, commons_total, common_offset, commons_laid}
 use Rattle.link_out.specs.function.Finals.{Final, final, final_by, bound_at, waiting, reserved_or_waiting}
 use Rattle.link_out.specs.{Results.Outcome, function.Tables.external_row, function.Link.link}

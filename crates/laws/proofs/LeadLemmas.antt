@@ -1,40 +1,31 @@
 -- Where a line of a program leads: within the text of its object, or by a jump or a call.
-use Rattle.std.proofs.Math.Bool.{and-false}
-use Rattle.std.proofs.Common.{◌≡◌, ℕ, suc, ◌+◌, ◌-◌, ◌*◌, ◌/◌, ◌%◌, ◌<◌, ◌≤◌, ◌⊎◌, inl, inr, Bool, true, false, ◌||◌, eqb, nat_lt}
+use Rattle.std.proofs.Common.{rules, ◌≡◌, ℕ, suc, ◌+◌, ◌-◌, ◌*◌, ◌/◌, ◌%◌, ◌<◌, ◌≤◌, ◌⊎◌, inl, inr, Bool, true, false, ◌||◌, eqb, nat_lt}
 use Rattle.std.proofs.Common.{if◌then◌else◌, List, ◌∷◌, length, drop, Option, Some, None, refl, sym, ◌∙◌, ap, subst, arith}
-use Rattle.std.proofs.{lemmas.Option.same_Some, lemmas.Bool.and_parts, lemmas.Bool.and_from, lemmas.Bool.or_cases, lemmas.Bool.eqb-true}
+use Rattle.std.proofs.Math.Bool.{and-false}
+use Rattle.std.proofs.{lemmas.Bool.and_parts, lemmas.Bool.and_from, lemmas.Bool.or_cases}
 use Rattle.std.proofs.lemmas.Bool.{eq-eqb, lt-ltb, or_left, or_right}
-use Rattle.std.specs.Prelude.{slice_get, IfSome, not}
+use Rattle.std.specs.Prelude.{slice_get, IfSome}
 use Rattle.std.specs.List.{list_any}
-use Rattle.aout_core.specs.{Contents.Contents, Strip.stripped, Words.plus}
-use Rattle.instructions.specs.Instructions.{instruction_of, instruction_in, instruction as made_of, field_operand, word_count_of}
-use Rattle.instructions.specs.Instructions.{following_words, jumps}
-use Rattle.instructions.specs.{Lines.word_for, Operands.is_missing, Operands.operand_of, Texts.number, Fields.place as bit, Fields.size}
-use Rattle.instructions.specs.{Rows.row_of, declared.table.Row.Row, declared.field.Field.Field, Modes.addressing}
-use Rattle.instructions.specs.declared.mode.Addressing.TheVariants.{Immediate, Absolute, Relative, RelativeDeferred, Indexed}
-use Rattle.instructions.specs.{declared.mode.Addressing.Addressing, declared.operation.Operation.Operation}
-use Rattle.instructions.specs.{declared.operand.Operand.Operand, declared.instruction.Instruction.Instruction}
-use Rattle.instructions.specs.{declared.call.SystemCall.SystemCall, declared.call_table.CallRow.CallRow}
-use Rattle.instructions.specs.{declared.unix.UnixLine.TheVariants.Machine, declared.unix.UnixLine.TheVariants.Call}
-use Rattle.suspicions.specs.{ReachedLaw.is_place, Reached.passes, Reached.flows, Reached.calls_csv, Reached.calls_by_r5, Reached.is_pc_itself}
-use Rattle.suspicions.specs.Reached.{may_write_pc, is_followed, returns, next_of, parent_of, branch_of, jump, jump_of, jump_by, leads_by}
+use Rattle.aout_core.specs.{Contents.Contents, Strip.stripped}
+use Rattle.instructions.specs.Instructions.{instruction_of, instruction_in, word_count_of, following_words, jumps}
+use Rattle.instructions.specs.{Lines.word_for, Texts.number, Rows.row_of, declared.table.Row.Row, declared.mode.Addressing.Addressing}
+use Rattle.instructions.specs.{declared.operation.Operation.Operation, declared.operand.Operand.Operand}
+use Rattle.instructions.specs.{declared.instruction.Instruction.Instruction, declared.call.SystemCall.SystemCall}
+use Rattle.instructions.specs.{declared.call_table.CallRow.CallRow, declared.unix.UnixLine.TheVariants.Machine}
+use Rattle.instructions.specs.{declared.unix.UnixLine.TheVariants.Call, Operands.takes_word}
+use Rattle.suspicions.specs.{ReachedLaw.is_place, Reached.passes, Reached.flows, Reached.calls_csv, Reached.calls_by_r5}
+use Rattle.suspicions.specs.Reached.{returns, next_of, parent_of, branch_of, jump, leads_by}
 use Rattle.suspicions.specs.declared.evidence.Evidence.TheVariants.{Flow, Promise}
-use Rattle.instructions.specs.{Operands.takes_word}
 use Rattle.instructions.proofs.AlikeLemmas.{get_from}
 use Rattle.laws.specs.{OperandPlaces.addressing_of, OperandPlaces.IsDirect, OperandPlaces.IsOperand, OperandWords.machine_value}
 use Rattle.laws.proofs.{ReachedInstructionLemmas.decoded, OperandPlaceLemmas.takes_its_word}
 use Rattle.instructions.specs.declared.operand.Operand.TheVariants as operands
 use Rattle.instructions.specs.declared.operation.Operation.TheVariants as operations
-use Rattle.instructions.specs.declared.field.Field.TheVariants as fields
 use Rattle.instructions.specs.declared.call.SystemCall.TheVariants as calls
 
 -- an address is that of a place
 pub placed : (q address : ℕ) → is_place q (Some address) ≡ true → address ≡ 2 * q
-placed q address e =
-    let both = and_parts (eqb (address % 2) 0) (eqb (address / 2) q) e in
-    let even = eqb-true (address % 2) 0 both.0 in
-    let half = eqb-true (address / 2) q both.1 in
-    omega arith
+placed q address e = search rules
 
 pub place_is : (q address : ℕ) → address ≡ 2 * q → is_place q (Some address) ≡ true
 place_is q address e =
@@ -92,22 +83,11 @@ call_leads file k start p i q c at whole parent e = elim (or_cases
             j = i + (1 + c.words);
             at = omega (arith, on.1);
             within = whole;
-            led = λ below.
-                or_left (is_place (i + (1 + c.words)) (next_of Promise k i (Call c)))
-                (is_place (i + (1 + c.words)) (parent_of k i c.call) || false)
-                (leads_on_back (returns c.call || is_followed Promise k i (Call c)) (i + (1 + c.words)) (2 * (i + (1 + c.words)))
-                (or_left (returns c.call) (is_followed Promise k i (Call c)) (or-nothing (returns c.call) on.0)) refl);
+            led = search (rules, or_left, leads_on_back, or-nothing);
           }
       | inr h ↦
           let led = parent_leads file k start p i q c.call at parent (or-nothing (is_place q (parent_of (stripped file) p c.call)) h) in
-          record {
-            j = led.0;
-            at = led.1;
-            within = led.2;
-            led = λ below.
-                or_right (is_place led.0 (next_of Promise k i (Call c))) (is_place led.0 (parent_of k i c.call) || false)
-                (or_left (is_place led.0 (parent_of k i c.call)) false (led.3 below));
-          }
+          search rules
     ]
 
 -- control comes to the line after an instruction of the program only if it does in the object
@@ -125,12 +105,7 @@ passes_more _ a b e = e
 
 flows_more : (file k : Contents) (p i : ℕ) (instruction : Instruction) → flows (stripped file) p instruction ≡ true →
     flows k i instruction ≡ true
-flows_more file k p i instruction e =
-    let both = and_parts (not (may_write_pc instruction))
-    (passes instruction.row.operation (is_pc_itself instruction.first || calls_csv (stripped file) p)) e in
-    and_from (not (may_write_pc instruction)) (passes instruction.row.operation (is_pc_itself instruction.first || calls_csv k i)) both.0
-    (passes_more instruction.row.operation (is_pc_itself instruction.first) (calls_csv k i)
-    (subst (λ (b : Bool). passes instruction.row.operation (is_pc_itself instruction.first || b) ≡ true) (no_csv file p) both.1))
+flows_more file k p i instruction e = search (rules, and_parts, and_from, passes_more, no_csv)
 
 -- branches
 
@@ -139,49 +114,15 @@ abbrev IsShort : Option Operand → Type 0
 IsShort (Some (operands.Backward v)) = v < 0o400
 IsShort _ = Unit {0}
 
-short_field : (f : Field) (v : ℕ) → v < 0o400 → IsShort (Some (operand_of f v))
-short_field fields.Floating v h = by (nat_lt v 8)
-  where
-    by : (t : Bool) → IsShort (Some (if t then operands.Accumulator v else operand_of fields.Source v))
-    by true = tt
-    by false = tt
-short_field fields.Backward v h = h
-short_field _ v h = tt
-
-small_field : (f : Field) (w : ℕ) → w / bit f % size f < 0o400
-small_field fields.Source w = omega arith
-small_field fields.Destination w = omega arith
-small_field fields.Floating w = omega arith
-small_field fields.Register w = omega arith
-small_field fields.LowRegister w = omega arith
-small_field fields.Accumulator w = omega arith
-small_field fields.Forward w = omega arith
-small_field fields.Backward w = omega arith
-small_field fields.Byte w = omega arith
-small_field fields.SixBits w = omega arith
-small_field fields.ThreeBits w = omega arith
-
-short_operand : (f : Option Field) (w : ℕ) → IsShort (field_operand f w)
-short_operand None w = tt
-short_operand (Some f) w = short_field f (w / bit f % size f) (small_field f w)
-
 short_in : (o : Option Row) (w : ℕ) (instruction : Instruction) → instruction_in o w ≡ Some instruction →
     IsShort instruction.first × IsShort instruction.second
 short_in None w instruction e = absurd cc
-short_in (Some row) w instruction e = by (is_missing (field_operand row.first w) || is_missing (field_operand row.second w)) e
-  where
-    by : (t : Bool) → (if t then None else Some (made_of row w)) ≡ Some instruction → IsShort instruction.first × IsShort instruction.second
-    by true e = absurd cc
-    by false e =
-        let same : made_of row w ≡ instruction = same_Some (made_of row w) instruction e in
-        subst (λ (i : Instruction). IsShort i.first × IsShort i.second) same (short_operand row.first w, short_operand row.second w)
+short_in (Some row) w instruction e = search rules
 
 pub branch_leads : (x : Option Operand) (start length p i q : ℕ) → IsShort x → p ≡ start + i → 2 * (start + length) < 65536 →
     IfSome (branch_of (2 * i) x) (λ a. a ≤ 2 * length) → is_place q (branch_of (2 * p) x) ≡ true →
     (j : ℕ) × (q ≡ start + j) × (j ≤ length) × (is_place j (branch_of (2 * i) x) ≡ true)
-branch_leads (Some (operands.Forward v)) start length p i q short at fits inside e =
-    forward (if nat_lt v 0o200 then 0 else 0o177000) inside
-    (placed q ((2 * p + 2 + 2 * v + (if nat_lt v 0o200 then 0 else 0o177000)) % 0o200000) e)
+branch_leads (Some (operands.Forward v)) start length p i q short at fits inside e = search (rules, forward, placed)
   where
     forward : (c : ℕ) → (2 * i + 2 + 2 * v + c) % 0o200000 ≤ 2 * length → (2 * p + 2 + 2 * v + c) % 0o200000 ≡ 2 * q →
         (j : ℕ) × (q ≡ start + j) × (j ≤ length) × (is_place j (Some ((2 * i + 2 + 2 * v + c) % 0o200000)) ≡ true)
@@ -218,30 +159,9 @@ pub record GoesBy (operation : Operation) (place q : ℕ) (x : Option Operand) (
   pub direct : IsDirect way
   pub value : machine_value way (2 * place + 2) (number word) ≡ 2 * q
 
-module _ (file : Contents) (operation : Operation) (place q : ℕ) (x : Option Operand) (word : Option ℕ) (fits : 2 * q < 65536) where
-  by_way : jumps operation ≡ true → (o : Option Addressing) → addressing_of x ≡ o →
-      is_place q (jump_by None (2 * place + 2) (number word) o) ≡ true → GoesBy operation place q x word
-  by_way j (Some Relative) m e =
-      record { jumps = j; way = Relative; mode = m; direct = inl refl; value = placed q (plus (number word) (2 * place + 2)) e }
-  by_way j (Some Absolute) m e =
-      let is : number word ≡ 2 * q = placed q (number word) e in
-      record { jumps = j; way = Absolute; mode = m; direct = inr refl; value = let v : number word % 65536 ≡ 2 * q = omega arith in v }
-  by_way j _ m e = absurd cc
-
-by_operand : (file : Contents) (operation : Operation) (place q : ℕ) (x : Option Operand) (word : Option ℕ) → 2 * q < 65536 →
-    jumps operation ≡ true → is_place q (jump_of (stripped file) place x word) ≡ true → GoesBy operation place q x word
-by_operand file operation place q (Some (operands.General m r)) word fits j e =
-    by_way file operation place q (Some (operands.General m r)) word fits j (addressing m r) refl e
-by_operand file operation place q _ word fits j e = absurd cc
-
 goes_by : (file : Contents) (operation : Operation) (place q : ℕ) (x : Option Operand) (word : Option ℕ) → 2 * q < 65536 →
     is_place q (jump (stripped file) operation place x word) ≡ true → GoesBy operation place q x word
-goes_by file operation place q x word fits e = by (jumps operation) refl e
-  where
-    by : (t : Bool) → jumps operation ≡ t → is_place q (if t then jump_of (stripped file) place x word else None) ≡ true →
-        GoesBy operation place q x word
-    by true j e = by_operand file operation place q x word fits j e
-    by false j e = absurd cc
+goes_by file operation place q x word fits e = search rules
 
 -- the operand word of an operand at a place of a text
 word_is : (x : Option Operand) (n p w : ℕ) (ws g : List ℕ) → takes_word x ≡ true → drop p ws ≡ w ∷ g →
@@ -274,17 +194,7 @@ module _ (file k : Contents) (start p i q w : ℕ) (f g : List ℕ) (instruction
       let goes = goes_by file instruction.row.operation (p + 1 + n) q x (word_for x n g) fits e in
       let takes : takes_word x ≡ true = takes_its_word x goes.way goes.mode in
       let sum : p + 1 + n ≡ start + (i + 1 + n) = omega arith in
-      record {
-        operand = x;
-        place = i + 1 + n;
-        is = is;
-        word = word_for x n g;
-        there = word_is x n p w file.text_words g takes there ∙ ap (λ (m : ℕ). slice_get file.text_words m) sum;
-        goes = subst (λ (m : ℕ). GoesBy instruction.row.operation m q x (word_for x n g)) sum goes;
-        own_word = word_for x n f;
-        here = word_is x n i w k.text_words f takes here;
-        led = led;
-      }
+      search (rules, word_is)
 
 module _ (file k : Contents) (start p i q w : ℕ) (f g : List ℕ) (instruction : Instruction) (at : p ≡ start + i) (fits : 2 * q < 65536)
     (inside : 2 * (start + length k.text_words) < 65536) (here : drop i k.text_words ≡ w ∷ f) (there : drop p file.text_words ≡ w ∷ g)
@@ -331,10 +241,7 @@ module _ (file k : Contents) (start p i q w : ℕ) (f g : List ℕ) (instruction
         j = i + line_size;
         at = omega (arith, on.1);
         within = whole;
-        led = λ below.
-            or_left (is_next (i + line_size)) (after_next (i + line_size))
-            (leads_on_back (flows k i instruction || is_followed Promise k i (Machine (decoded instruction f))) (i + line_size) (2 * (i + line_size))
-            (or_left (flows k i instruction) (is_followed Promise k i (Machine (decoded instruction f))) flow) refl);
+        led = search (rules, or_left, leads_on_back, decoded);
       }
 
   -- to the target of a branch
@@ -374,38 +281,8 @@ module _ (file k : Contents) (start p i q w : ℕ) (f g : List ℕ) (instruction
   abbrev next : Bool
   next = is_place q (if flows (stripped file) p instruction || false then Some (2 * (p + line_size)) else None)
 
-  abbrev branch_one : Bool
-  branch_one = is_place q (branch_of (2 * p) instruction.first)
-
-  abbrev branch_two : Bool
-  branch_two = is_place q (branch_of (2 * p) instruction.second)
-
-  abbrev jump_one : Bool
-  jump_one = is_place q (jump (stripped file) operation (p + 1) instruction.first (word_for instruction.first 0 g))
-
-  abbrev jump_two : Bool
-  jump_two = is_place q (jump (stripped file) operation (p + 1 + words_first) instruction.second
-      (word_for instruction.second words_first g))
-
   pub instruction_leads : list_any (is_place q) (leads_by Flow (stripped file) p (Machine (decoded instruction g))) ≡ true →
       Within start (length k.text_words) q own ⊎ JumpsBy
   instruction_leads e =
       let short = short_in (row_of w) w instruction is in
-      elim (or_cases next (branch_one || (branch_two || (jump_one || (jump_two || false)))) e) [
-        | inl h ↦ inl (next_leads h)
-        | inr a ↦ elim (or_cases branch_one (branch_two || (jump_one || (jump_two || false))) a) [
-          | inl h ↦ inl (branches_lead instruction.first short.0 first
-              (λ j b. or_right (is_next j) (after_next j) (or_left (is_place j (branch_of (2 * i) instruction.first))
-              (is_place j (branch_of (2 * i) instruction.second) || jumps_after j) b)) h)
-          | inr b ↦ elim (or_cases branch_two (jump_one || (jump_two || false)) b) [
-            | inl h ↦ inl (branches_lead instruction.second short.1 second
-                (λ j b. or_right (is_next j) (after_next j) (or_right (is_place j (branch_of (2 * i) instruction.first))
-                (is_place j (branch_of (2 * i) instruction.second) || jumps_after j)
-                (or_left (is_place j (branch_of (2 * i) instruction.second)) (jumps_after j) b))) h)
-            | inr c ↦ elim (or_cases jump_one (jump_two || false) c) [
-              | inl h ↦ inr (first_jumps h)
-              | inr d ↦ inr (second_jumps (or-nothing jump_two d))
-            ]
-          ]
-        ]
-      ]
+      search (rules, or_cases, next_leads, branches_lead, or_right, or_left, first_jumps, second_jumps, or-nothing)

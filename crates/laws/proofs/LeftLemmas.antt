@@ -1,6 +1,6 @@
 -- What the lines of a session leave: its objects are those of the files that are left, taken one after another.
-use Rattle.std.proofs.Common.{◌≡◌, ℕ, Bool, true, false, List, [], ◌∷◌, ◌++◌, map, Option, Some, None, Result, Ok, Err, option_and_then}
-use Rattle.std.proofs.Common.{option_map, refl, sym, ap, ◌∙◌, subst, inl, inr}
+use Rattle.std.proofs.Common.{rules, ◌≡◌, ℕ, Bool, true, false, List, [], ◌∷◌, ◌++◌, map, Option, Some, None, Result, Ok, Err}
+use Rattle.std.proofs.Common.{option_and_then, option_map, refl, sym, ap, ◌∙◌, subst, inl, inr}
 use Rattle.std.proofs.lemmas.List.{map-append}
 use Rattle.std.specs.Prelude.{IfSome, eqb, unwrap_or}
 use Rattle.aout_core.specs.{Contents.Contents, Decoding.decode}
@@ -35,10 +35,7 @@ longer (Some fault) kept more e h = absurd (cc)
 
 takes_less : (forced : List (List ℕ)) (kept more : List Labelled) (i : Input) (is : List Input) →
     TakesAll forced kept (i ∷ is) more → TakesAll forced kept (without_last (i ∷ is)) (without_last more)
-takes_less forced kept more i [] (next, takes, same) =
-    let e : Labelled = record { label = i.path; object = takes.object } in
-    let l : next ≡ kept ++ e ∷ [] = longer (refusal forced (objects kept) takes.object) kept next e takes.accepts in
-    ap without_last (same ∙ l) ∙ without_last-put_last kept e
+takes_less forced kept more i [] (next, takes, same) = search (rules, longer, without_last-put_last)
 takes_less forced kept more i (j ∷ js) (next, takes, rest) = (next, takes, takes_less forced next more j js rest)
 
 takes_but_last : (forced : List (List ℕ)) (more : List Labelled) (is : List Input) → TakesAll forced [] is more →
@@ -81,9 +78,7 @@ module _ (o : Choices) (forced : List (List ℕ)) (left : List Opened) (old : Ke
 
   not_added_line : (path : List ℕ) (did : Stepped) → did.verdict ≡ refused → r.status ≡ status_after did.verdict →
       AddsIf did.verdict old r.kept → Next (to_add path) (eqb r.status 0)
-  not_added_line path did e status adds =
-      subst (Next (to_add path)) (sym (is_zero 1 (status ∙ ap status_after e)))
-      (stays (subst (λ (v : Verdict). AddsIf v old r.kept) e adds))
+  not_added_line path did e status adds = search rules
 
   added_line : (path : List ℕ) (h : OpensOne old path r) (object : Contents) (fault : Option AddFault) →
       refusal old.forced (objects old.entries) object ≡ fault → IfSome h.known (λ bytes. Ok object ≡ object_in (decode bytes)) →
@@ -109,12 +104,7 @@ module _ (o : Choices) (forced : List (List ℕ)) (left : List Opened) (old : Ke
       entries = h.does.entries ∙ ap (λ (s : Stepped). s.kept) e
 
       takes : Takes old.forced old.entries i whole
-      takes = record {
-        works = refl;
-        object = object;
-        is_found = found;
-        accepts = ap (λ (f : Option AddFault). unless not_added f whole) limit;
-      }
+      takes = search rules
 
       one_more : TakesAll forced [] (inputs_opened left ++ i ∷ []) whole
       one_more =
@@ -144,14 +134,7 @@ module _ (o : Choices) (forced : List (List ℕ)) (left : List Opened) (old : Ke
   withdrawn_line : (last : Option Labelled) → DoesStep (withdraw_step old.entries last) r →
       WithdrawsIf (withdraw_step old.entries last).verdict old r.kept → Next to_withdraw (eqb r.status 0)
   withdrawn_line None does same = subst (Next to_withdraw) (sym (is_zero 1 does.status)) (stays same)
-  withdrawn_line (Some e) does (d, takes) =
-      subst (Next to_withdraw) (sym (is_zero 0 does.status)) (record {
-        names = takes.forced ∙ is.names;
-        taken =
-            subst (λ (is : List Input). TakesAll forced [] is r.kept.entries) (sym (inputs_but_last left))
-            (subst (TakesAll forced [] (without_last (inputs_opened left))) (sym does.entries)
-            (takes_but_last forced old.entries (inputs_opened left) is.taken));
-      })
+  withdrawn_line (Some e) does (d, takes) = search (rules, is_zero, inputs_but_last, takes_but_last)
 
   left_line : (a : Asked) → IsLineOf o old r a → Next a (eqb r.status 0)
   left_line (to_add path) (inl h) =
@@ -181,9 +164,7 @@ pub record IsAt (o : Choices) (old : Kept) (before : List LineRun) (r : LineRun)
 pub at_line : (o : Choices) (old : Kept) (before : List LineRun) (r : LineRun) (after : List LineRun) (new : Kept) →
     Chains o old (before ++ r ∷ after) new → IsAt o old before r after new
 at_line o old [] r after new (line, rest) = record { mid = old; first = refl; line = line; rest = rest }
-at_line o old (s ∷ ss) r after new (line, rest) =
-    let later = at_line o s.kept ss r after new rest in
-    record { mid = later.mid; first = (line, later.first); line = later.line; rest = later.rest }
+at_line o old (s ∷ ss) r after new (line, rest) = search (rules, (at_line o s.kept ss r after new rest))
 
 -- ---- the bytes of the files that are left
 

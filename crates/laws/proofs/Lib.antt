@@ -26,7 +26,6 @@ mod IsomorphismLists
 mod IsomorphismPlaces
 mod IsomorphismLemmas
 pub mod InstructionPlaceLemmas
-mod OperandWordLemmas
 pub mod OperandPlaceLemmas
 pub mod ReachedInstructionLemmas
 pub mod FlowLemmas

@@ -1,23 +1,18 @@
 -- The lines that a session ran and answered: all of its script if it ends well, and else the first.
-use Rattle.std.proofs.Common.{rules}
-use Rattle.std.proofs.Common.{◌≡◌, ℕ, ◌≤◌, List, [], ◌∷◌, ◌++◌, Option, Some, None, Result, Ok, Err, refl, sym, ap, ◌∙◌, arith, inl, inr}
+use Rattle.std.proofs.Common.{rules, ◌≡◌, ℕ, ◌≤◌, List, [], ◌++◌, Option, Some, None, Result, Ok, Err, refl, sym, ap, ◌∙◌, arith, inl, inr}
 use Rattle.std.proofs.Common.{subst}
-use Rattle.std.proofs.{KnownBytes.Appends-nil, lemmas.List.append-nil, lemmas.List.append_assoc, lemmas.List.append_cancel_left}
-use Rattle.std.specs.{Io.KnownBytes.Appends, Prelude.IfSome}
-use Rattle.aout_core.specs.Wires.{Latched}
-use Rattle.link_session.specs.Sessions.{nothing_kept}
+use Rattle.std.proofs.{lemmas.List.append-nil, lemmas.List.append_cancel_left}
 use Rattle.tool_options.specs.Choices.{Choices}
 use Rattle.surroundings.specs.Events.{Extends}
-use Rattle.command_words.specs.Scripts.{Asked, Given, ScriptFault, long_line, many_lines}
-use Rattle.command_words.specs.declared.words.Call.TheVariants.{Ld, Nm, Size, Strip, Session}
-use Rattle.command_words.specs.{ScriptAnswers.NamesPath, declared.words.Call.Call}
+use Rattle.command_words.specs.Scripts.{Asked, Given, ScriptFault}
+use Rattle.command_words.specs.declared.words.Call.TheVariants.{Session}
+use Rattle.command_words.specs.{declared.words.Call.Call}
 use Rattle.v7tools.specs.CommandRuns.{Ends, IsCallRun, RunsWords}
-use Rattle.v7tools.specs.SessionRuns.{AreFirst, AreLines, EndsAfter, IsSessionRun, StopsAfter, answers_of, events_of, given, lines_asked}
+use Rattle.v7tools.specs.SessionRuns.{AreFirst, AreLines, IsSessionRun, given}
 use Rattle.v7tools.specs.{LineRuns.LineRun, declared.fault.CliFault.CliFault}
 use Rattle.laws.specs.Disks.{Run}
 use Rattle.laws.specs.SessionsByCommands.{AnsweredLines, AnswersLaw, LinesLaw, RanLines}
 use Rattle.laws.proofs.CallLemmas.{IsSession, same_session}
-use Rattle.v7tools.specs.declared.fault.CliFault.TheVariants as faults
 
 no_fault : (answer : ℕ) (fault : CliFault) → (let x : Result ℕ CliFault = Ok answer in let y : Result ℕ CliFault = Err fault in x ≡ y) → ⊥
 no_fault answer fault e = cc
@@ -66,39 +61,10 @@ module _ {W E : Type 0} (out_contents : W → Option (List ℕ)) (error_contents
   none_first None = tt
   none_first (Some bytes) = ((given bytes).lines, refl)
 
-  fewer_first : (script : Option (List ℕ)) (lines more : List Asked) → AreFirst script (lines ++ more) → AreFirst script lines
-  fewer_first None lines more h = tt
-  fewer_first (Some bytes) lines more (rest, e) = (more ++ rest, e ∙ append_assoc lines more rest)
-
-  named_first : (script : Option (List ℕ)) (lines : List Asked) →
-      IfSome script (λ bytes. (a : Asked) × (more : List Asked) × NamesPath a × ((given bytes).lines ≡ lines ++ a ∷ more)) →
-      AreFirst script lines
-  named_first None lines h = tt
-  named_first (Some bytes) lines (a, more, names, e) = (a ∷ more, e)
-
-  stops_first : (script : Option (List ℕ)) (lines : List Asked) (fault : CliFault) → StopsAfter script lines fault → AreFirst script lines
-  stops_first script lines faults.LongLine h = all_first script lines (Some long_line) h
-  stops_first script lines faults.ManyLines h = all_first script lines (Some many_lines) h
-  stops_first script lines faults.ScriptFailed h = h
-  stops_first script lines (faults.Memory _) h = named_first script lines h
-  stops_first script lines _ h = absurd h
-
-  ends_first : (script : Option (List ℕ)) (runs : List LineRun) (result : Result ℕ CliFault) → EndsAfter script runs result →
-      AreFirst script (lines_asked runs)
-  ends_first script runs (Ok status) h = all_first script (lines_asked runs) None h.0
-  ends_first script runs (Err fault) h = stops_first script (lines_asked runs) fault h
-
   -- no line was run
   silent_run : (forced : List (List ℕ)) (o : Choices) (r : Run W E) → Extends (Some r.earlier) (Some (r.earlier ++ r.events)) [] →
       r.output_after ≡ r.output_before → HasAnswered forced o r
   silent_run forced o r asked silent = search rules
-
-  answered_session : (forced : List (List ℕ)) (o : Choices) (r : Run W E) (result : Result ℕ CliFault) →
-      IsSessionRun out_contents forced o r.script (Some r.earlier) (Some (r.earlier ++ r.events)) result
-      r.output_before r.output_after → HasAnswered forced o r
-  answered_session forced o r result (inl h) = silent_run forced o r h.0 h.1.silent
-  answered_session forced o r result (inr (inl h)) = search rules
-  answered_session forced o r result (inr (inr h)) = search rules
 
   answered_call : (forced : List (List ℕ)) (o : Choices) (r : Run W E) (result : Result ℕ CliFault) (call : Call) →
       IsSession forced o call → IsCallRun out_contents r.script call (Some r.earlier) (Some (r.earlier ++ r.events)) result

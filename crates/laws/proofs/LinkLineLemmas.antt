@@ -1,30 +1,28 @@
 -- What `ld` does with the files that a session has left, and what a line of the session did.
 use Rattle.std.proofs.Common.{rules}
-use Rattle.std.specs.Prelude.{IfSome, String, codes, decimal, string_bytes}
-use Rattle.std.specs.{declared.alloc.Global.Global, List.AllByRecursion}
 use Rattle.std.proofs.Common.{◌≡◌, ℕ, List, [], ◌∷◌, ◌++◌, Option, Some, None, Result, Ok, Err, refl, sym, ap, ◌∙◌, inl, inr, subst, ◌⊎◌}
+use Rattle.std.specs.Prelude.{IfSome, String, string_bytes}
+use Rattle.std.specs.{declared.alloc.Global.Global, List.AllByRecursion}
 use Rattle.std.proofs.lemmas.List.{append-nil, append_cancel_left}
 use Rattle.aout_core.specs.{Contents.Contents, Refusals.refused}
-use Rattle.command_words.specs.declared.words.Call.TheVariants.{Ld, Nm, Size, Strip, Session}
+use Rattle.command_words.specs.declared.words.Call.TheVariants.{Ld}
 use Rattle.command_words.specs.{declared.words.Call.Call, Scripts.Asked, Scripts.to_link}
 use Rattle.link_session.specs.{Labelled.Labelled, Labelled.objects, Sessions.nothing_kept}
 use Rattle.link_session.proofs.ListLemmas.{all_append}
 use Rattle.link_out.specs.{declared.linked.Linked.Linked, declared.linked.LinkFault.LinkFault, FaultTexts.link_text, Outcomes.outcome_of}
 use Rattle.link_out.specs.{Outcomes.report_names, Results.Outcome, Steps.and_then, Steps.refused_as, function.Link.link}
-use Rattle.link_out.specs.{function.Reports.line, function.Reports.report_text, function.Reports.status_of, Inputs.Refusal, Inputs.linked}
-use Rattle.link_out.specs.{Inputs.not_linked}
+use Rattle.link_out.specs.{function.Reports.line, function.Reports.status_of, Inputs.Refusal, Inputs.linked, Inputs.not_linked}
 use Rattle.tool_options.specs.Choices.{Choices}
 use Rattle.surroundings.specs.Events.{Event, Extends, Opened, opened, opens, paths_of, stored}
 use Rattle.surroundings.specs.declared.office.Stored.{Stored}
 use Rattle.surroundings.specs.declared.office.Stored.TheVariants.{Kept, NotCreated, Failed}
 use Rattle.v7tools.specs.LinkRuns.{IsLinkOfFiles, IsLinkRun, Refuses, Reports, ReportsIf, inputs_opened}
-use Rattle.v7tools.specs.{Answers.Stepped, Answers.link_answer_text, Answers.link_status, Answers.link_step, Calls.fault_of_words}
-use Rattle.v7tools.specs.{CommandRuns.Ends, CommandRuns.IsCallRun, CommandRuns.RunsWords, FaultTexts.cli_text, FaultTexts.no_memory}
-use Rattle.v7tools.specs.{LineRuns.IsLineOf, LineRuns.LineRun, LinkAnswers.IsLinkOfBytes, LinkAnswers.IsTrueOf, LinkAnswers.known_inputs}
-use Rattle.v7tools.specs.{LinkAnswers.said_by, SessionSteps.IsLinkBy, declared.fault.CliFault.CliFault}
-use Rattle.laws.specs.SessionsByCommands.{AreThere, AsksToLink, CannotRead, CannotWrite, DoesAsLd, FailsBy, IsOpening, IsRefusedAsLd, LinkLineLaw}
-use Rattle.laws.specs.SessionsByCommands.{RefusedLineLaw, Says, files_left}
-use Rattle.laws.specs.{Disks.Disk, Disks.IsOn, Disks.Run, Disks.Writes}
+use Rattle.v7tools.specs.{Answers.link_answer_text, Calls.fault_of_words, CommandRuns.Ends, CommandRuns.IsCallRun, CommandRuns.RunsWords}
+use Rattle.v7tools.specs.{FaultTexts.cli_text, FaultTexts.no_memory, LineRuns.IsLineOf, LineRuns.LineRun, LinkAnswers.IsLinkOfBytes}
+use Rattle.v7tools.specs.{LinkAnswers.IsTrueOf, LinkAnswers.known_inputs, LinkAnswers.said_by, declared.fault.CliFault.CliFault}
+use Rattle.laws.specs.SessionsByCommands.{AreThere, AsksToLink, CannotRead, CannotWrite, DoesAsLd, FailsBy, IsOpening, IsRefusedAsLd}
+use Rattle.laws.specs.SessionsByCommands.{LinkLineLaw, RefusedLineLaw, files_left}
+use Rattle.laws.specs.{Disks.Disk, Disks.IsOn, Disks.Run}
 use Rattle.laws.proofs.LeftLemmas.{IsAt, IsLeft, all_known, at_line, bytes_of, left_lines, same_ok, taken_bytes}
 use Rattle.laws.proofs.{CallLemmas.IsLink, CallLemmas.same_link}
 use Rattle.aout_core.specs.declared.file.ReadFault.TheVariants as reads

@@ -1,34 +1,31 @@
 -- What a link puts into the core: words, zeros, and nothing else.
-use Rattle.std.proofs.Common.{rules}
+use Rattle.std.proofs.Common.{rules, ◌≡◌, ◌≢◌, ℕ, zero, ◌+◌, ◌-◌, ◌*◌, ◌/◌, ◌%◌, ◌<◌, ◌≤◌, ◌⊎◌, inl, inr, Bool, true, false, cond, List, []}
+use Rattle.std.proofs.Common.{◌∷◌, ◌++◌, length, Some, refl, sym, ◌∙◌, ap, subst, arith}
 use Rattle.instructions.proofs.AlikeLemmas.{get_inside}
-use Rattle.std.proofs.Common.{◌≡◌, ◌≢◌, ℕ, zero, ◌+◌, ◌-◌, ◌*◌, ◌/◌, ◌%◌, ◌<◌, ◌≤◌, ◌⊎◌, inl, inr, Bool, true, false, cond, eqb, List}
-use Rattle.std.proofs.Common.{[], ◌∷◌, ◌++◌, length, Some, refl, sym, ◌∙◌, ap, subst, arith}
-use Rattle.std.proofs.lemmas.Bool.{ltb-true, ltb-false, eqb-true, eqb-false}
-use Rattle.std.proofs.{lemmas.List.Sums.sum_by-append, lemmas.Option.slice_get_within, lemmas.Option.same_Some}
+use Rattle.std.proofs.lemmas.Bool.{ltb-true, ltb-false}
+use Rattle.std.proofs.{lemmas.List.Sums.sum_by-append, lemmas.Option.slice_get_within}
 use Rattle.std.specs.{Prelude.slice_get, Prelude.nat_lt, Prelude.Ok, List.AllByRecursion}
-use Rattle.aout_core.specs.declared.symbol.Segment.TheVariants.{Undefined, Absolute, TextSeg, DataSeg, BssSeg, Other}
+use Rattle.aout_core.specs.declared.symbol.Segment.TheVariants.{TextSeg, DataSeg, BssSeg}
 use Rattle.aout_core.specs.{declared.header.Header.Header, declared.symbol.Symbol.Symbol, declared.symbol.Segment.Segment}
 use Rattle.aout_core.specs.{declared.reloc.Reloc.Reloc, Contents.Contents, Words.plus, Words.minus, WellFormed.is_pc_relative}
 use Rattle.aout_core.specs.{Addresses.data_start_in}
-use Rattle.link_session.specs.{Starts.size_of, Starts.total, Starts.own, Sessions.IsObject, Mentions.mentions, Cells.segment_words}
-use Rattle.link_session.specs.{Cells.segment_relocs}
+use Rattle.link_session.specs.{Starts.size_of, Starts.total, Starts.own, Sessions.IsObject, Cells.segment_words, Cells.segment_relocs}
 use Rattle.link_session.proofs.ListLemmas.{all_split}
 use Rattle.tool_options.specs.{declared.options.Keep.Keep, declared.options.Keep.TheVariants.Nothing, declared.options.Layout.Layout}
 use Rattle.tool_options.specs.{declared.options.Layout.TheVariants.Plain, declared.options.Layout.TheVariants.Pure}
 use Rattle.tool_options.specs.{declared.options.Layout.TheVariants.Split, Choices.Choices, Choices.lays_commons}
-use Rattle.link_out.specs.Layouts.{magic_of, data_base}
-use Rattle.link_out.specs.{Results.Outcome, function.Plans.plan, function.Plans.commons_laid, function.Link.link, function.Link.linked_file}
+use Rattle.link_out.specs.Layouts.{magic_of}
+use Rattle.link_out.specs.{Results.Outcome, function.Plans.plan, function.Link.link}
 use Rattle.link_laws.specs.relation.Relocated.{base_in, move_in, entry_of, IsRelocated, HoldsObjects}
 use Rattle.link_laws.specs.{relation.LinkedFrom.IsLinkedFrom, CommonsAndLayouts.IsCommon, CommonsAndLayouts.HasSpace}
-use Rattle.link_out.proofs.OutcomeLemmas.{made_file, made_fits}
+use Rattle.link_out.proofs.OutcomeLemmas.{made_file}
 use Rattle.link_laws.proofs.SegmentLemmas.{HasWords, made_length}
 use Rattle.link_laws.proofs.RelocatedLemmas.{words_relocated, objects_fill}
-use Rattle.link_laws.proofs.{MoveLemmas.data_begun, CommonLemmas.commons_have_space, LinkedTheorem.linked_exactly}
-use Rattle.laws.specs.Core.{Space, of_instructions, of_data, has_one_space, has_segment, first_address, bytes_of, segment_byte, is_in, core}
-use Rattle.laws.specs.Core.{IsWordAt}
+use Rattle.link_laws.proofs.{CommonLemmas.commons_have_space, LinkedTheorem.linked_exactly}
+use Rattle.laws.specs.Core.{Space, of_instructions, of_data, has_segment, first_address, bytes_of, segment_byte, is_in, core, IsWordAt}
 use Rattle.laws.specs.CoreLaws.{space_of, IsPlace, IsLoaded, IsZero, IsOfWord}
 use Rattle.laws.proofs.ByteLemmas.{low_byte, high_byte}
-use Rattle.laws.proofs.CoreLemmas.{IsWithin, within, within_back, core_at, IsByteOf, core_back, one_space}
+use Rattle.laws.proofs.CoreLemmas.{IsWithin, within, IsByteOf, core_back}
 
 -- places
 
@@ -63,10 +60,6 @@ words_have_place DataSeg has = tt
 words_have_place _ has = absurd has
 
 -- the magic of a link
-
-pub magic_is : (forced : List (List ℕ)) (os : List Contents) (o : Choices) (x : Outcome) → link forced os o ≡ Ok x →
-    magic_of o.layout ≡ x.file.header.magic
-magic_is forced os o x linked = ap (λ (f : Contents). f.header.magic) (made_file (plan forced os o) os x linked)
 
 found_by : (layout : Layout) (segment : Segment) → HasPlace segment → has_segment (magic_of layout) segment (space_of segment) ≡ true
 found_by Plain TextSeg has = refl
@@ -110,12 +103,6 @@ module _ (file : Contents) (space : Space) where
 
       next : (f n : ℕ) → f + n + 1 - f ≡ n + 1
       next f n = omega arith
-
-      low_in : (f n l s : ℕ) → n < l → 2 * l ≡ s → f + 2 * n < f + s
-      low_in f n l s g h = omega arith
-
-      high_in : (f n l s : ℕ) → n < l → 2 * l ≡ s → f + 2 * n + 1 < f + s
-      high_in f n l s g h = omega arith
 
 -- the objects' words fill whole words
 pub whole_words : (segment : Segment) → HasWords segment → (os : List Contents) → AllByRecursion IsObject os →

@@ -1,17 +1,13 @@
 -- The places of a map are those of the file.
-use Rattle.std.proofs.Common.{rules}
-use Rattle.std.proofs.Common.{◌≡◌, ℕ, ◌+◌, ◌<◌, ◌≤◌, min, Bool, true, false, if◌then◌else◌, nat_lt, List, [], ◌∷◌, ◌++◌, length, map}
-use Rattle.std.proofs.Common.{Some, None, Ok, slice_get, refl, sym, ap, ◌∙◌, subst, arith, ltb-false}
+use Rattle.std.proofs.Common.{rules, ◌≡◌, ℕ, ◌+◌, ◌<◌, ◌≤◌, min, List, [], ◌∷◌, ◌++◌, length, map, Some, None, Ok, slice_get, refl, sym, ap}
+use Rattle.std.proofs.Common.{◌∙◌, subst, arith}
 use Rattle.std.proofs.lemmas.List.Sums.{sum_by-append}
 use Rattle.std.specs.List.{AllByRecursion}
 use Rattle.aout_core.specs.{Contents.Contents, Addresses.data_start_in, declared.part.Part.Part}
 use Rattle.aout_core.specs.declared.symbol.Segment.{Segment}
 use Rattle.aout_core.specs.declared.symbol.Segment.TheVariants.{TextSeg, DataSeg, BssSeg}
-use Rattle.link_session.specs.{Labelled.Labelled, Labelled.objects, Limits.limit_passed}
-use Rattle.link_session.specs.declared.entry.AddFault.TheVariants.{TextFull, DataFull, BssFull, NamesFull}
-use Rattle.link_session.specs.{Mentions.externals, Mentions.mentions, Sessions.IsObject, Starts.size_of, Starts.total}
-use Rattle.link_out.specs.{function.Link.link, function.Link.linked_file, function.Plans.Plan, function.Plans.commons_laid}
-use Rattle.link_out.specs.{function.Plans.plan, Results.Outcome}
+use Rattle.link_session.specs.{Labelled.Labelled, Labelled.objects, Limits.limit_passed, Sessions.IsObject, Starts.size_of, Starts.total}
+use Rattle.link_out.specs.{function.Link.link, function.Link.linked_file, function.Plans.Plan, function.Plans.plan, Results.Outcome}
 use Rattle.link_out.proofs.OutcomeLemmas.{made_file, made_fits}
 use Rattle.link_session.proofs.TotalLemmas.{total-first}
 use Rattle.link_laws.specs.relation.Relocated.{base_in}

@@ -1,7 +1,7 @@
 -- The words under each symbol of a map are those that lead to it.
-use Rattle.std.proofs.Common.{◌≡◌, ℕ, zero, suc, ◌+◌, ◌*◌, ◌<◌, ◌≤◌, Bool, true, false, ◌&&◌, eqb, if◌then◌else◌, List, [], ◌∷◌, ◌++◌, length}
-use Rattle.std.proofs.Common.{map, Option, Some, None, slice_get, refl, sym, ap, ◌∙◌, subst, inl, inr, arith}
-use Rattle.std.proofs.Common.{eq-eqb, eqb-true}
+use Rattle.std.proofs.Common.{rules, ◌≡◌, ℕ, zero, suc, ◌+◌, ◌*◌, ◌<◌, ◌≤◌, Bool, true, false, ◌&&◌, eqb, if◌then◌else◌, List, [], ◌∷◌}
+use Rattle.std.proofs.Common.{◌++◌, length, map, Option, Some, None, slice_get, refl, sym, ap, ◌∙◌, subst, inl, inr, arith, eq-eqb}
+use Rattle.std.proofs.Common.{eqb-true}
 use Rattle.std.proofs.lemmas.List.Elements.{Contains-append_cases, Contains-append_left, Contains-append_right}
 use Rattle.std.proofs.lemmas.List.Sorted.{Contains-permutation, IsPermutation-sym}
 use Rattle.std.specs.{Prelude.◌⊎◌, List.Contains, List.flat_map}
@@ -84,12 +84,7 @@ module _ (line_starts : List Bool) (k : Contents) (part : Part) where
   only_lead : (offset : ℕ) (found : Option Aim) (l : Lead) → Contains (lead_by part offset found) l →
       (l.part ≡ part) × (l.offset ≡ offset) × (found ≡ Some l.aim)
   only_lead offset None l h = absurd (none_in l h)
-  only_lead offset (Some aim) l h =
-      let same = only_one (record { part = part; offset = offset; aim = aim }) l h in (
-        ap (λ (x : Lead). x.part) (sym same),
-        ap (λ (x : Lead). x.offset) (sym same),
-        ap (λ (x : Lead). Some x.aim) same,
-      )
+  only_lead offset (Some aim) l h = search rules
 
   -- after the first words of the part
   pub leads_are : (rs : List Reloc) (ws : List ℕ) (i offset : ℕ) → offset ≡ 2 * i → 2 * (i + length rs) ≤ 65534 →
@@ -129,18 +124,7 @@ module _ (line_starts : List Bool) (k : Contents) (part : Part) where
       2 * (i + length rs) ≤ 65534 → slice_get rs j ≡ Some r → slice_get ws j ≡ Some w →
       aim_of line_starts k part (2 * (i + j)) r w ≡ Some aim →
       Contains (leads_in line_starts k part offset rs ws) (record { part = part; offset = 2 * (i + j); aim = aim })
-  lead_there (x ∷ rs) (y ∷ ws) i offset zero r w aim is fits there word_there leads =
-      let same : x ≡ r = cc in
-      let same_word : y ≡ w = cc in
-      let at : offset ≡ 2 * (i + 0) = is ∙ (let e : 2 * i ≡ 2 * (i + 0) = omega arith in e) in
-      let found : aim_of line_starts k part offset x y ≡ Some aim =
-      (λ n. aim_of line_starts k part (at n) (same n) (same_word n)) ∙ leads in
-      let here : Contains (lead_by part (2 * (i + 0)) (Some aim)) (record { part = part; offset = 2 * (i + 0); aim = aim }) =
-      one_there (record { part = part; offset = 2 * (i + 0); aim = aim }) [] in
-      Contains-append_left (lead_by part offset (aim_of line_starts k part offset x y)) (leads_in line_starts k part (plus offset 2) rs ws)
-      (record { part = part; offset = 2 * (i + 0); aim = aim })
-      (subst (λ (ls : List Lead). Contains ls (record { part = part; offset = 2 * (i + 0); aim = aim }))
-      (sym ((λ n. lead_by part (at n) (found n)))) here)
+  lead_there (x ∷ rs) (y ∷ ws) i offset zero r w aim is fits there word_there leads = search rules
   lead_there (x ∷ rs) (y ∷ ws) i offset (suc j) r w aim is fits there word_there leads =
       let step : 2 * (i + 1 + j) ≡ 2 * (i + suc j) = omega arith in
       Contains-append_right (lead_by part offset (aim_of line_starts k part offset x y)) (leads_in line_starts k part (plus offset 2) rs ws)
@@ -151,15 +135,9 @@ module _ (line_starts : List Bool) (k : Contents) (part : Part) where
   lead_there _ _ i offset j r w aim is fits there word_there leads = absurd (cc)
 
 -- a word leads to a symbol as the map has it
-both_true : (a b : Bool) → a && b ≡ true → (a ≡ true) × (b ≡ true)
-both_true true b h = (refl, h)
-both_true false b h = absurd (cc)
-
 hit : (aim : Aim) (number : ℕ) (s : Symbol) → leads_to aim number s ≡ true → Hits aim number s
 hit (Numbered n) number s h = eqb-true n number h
-hit (Addressed segment address) number s h =
-    let both = both_true (eqb (masked_type s) (segment_number segment)) (eqb s.value address) h in
-    (eqb-true (masked_type s) (segment_number segment) both.0, eqb-true s.value address both.1)
+hit (Addressed segment address) number s h = search rules
 
 hits_so : (aim : Aim) (number : ℕ) (s : Symbol) → Hits aim number s → leads_to aim number s ≡ true
 hits_so (Numbered n) number s h = eq-eqb n number h
@@ -278,15 +256,7 @@ module _ (object : ℕ) (line_starts : List Bool) (k : Contents) where
   pub use_there : (ss : List Symbol) (n j : ℕ) (s : Symbol) → slice_get ss j ≡ Some s → is_external s ≡ true →
       Contains (uses_by object line_starts k n ss) (use_of object line_starts k (n + j) s)
   use_there [] n j s there outer = absurd (cc)
-  use_there (x ∷ ss) n zero s there outer =
-      let same : x ≡ s = cc in
-      let u = use_of object line_starts k n s in
-      let here : Contains (use_by object line_starts k n x) u =
-      subst (λ (y : Symbol). Contains (use_by object line_starts k n y) u) (sym same)
-      (subst (λ (b : Bool). Contains (if b then u ∷ [] else []) u) (sym outer) (one_there u [])) in
-      subst (λ (m : ℕ). Contains (uses_by object line_starts k n (x ∷ ss)) (use_of object line_starts k m s))
-      (let e : n ≡ n + 0 = omega arith in e)
-      (Contains-append_left (use_by object line_starts k n x) (uses_by object line_starts k (n + 1) ss) u here)
+  use_there (x ∷ ss) n zero s there outer = search rules
   use_there (x ∷ ss) n (suc j) s there outer =
       let u = use_of object line_starts k (n + 1 + j) s in
       subst (λ (m : ℕ). Contains (uses_by object line_starts k n (x ∷ ss)) (use_of object line_starts k m s))
@@ -329,13 +299,8 @@ uses_among (o ∷ os) first u h =
 
 use_among : (before : List Contents) (k : Contents) (after : List Contents) (first : ℕ) (u : Use) →
     Contains (uses_in (first + length before) k) u → Contains (uses_from first (before ++ k ∷ after)) u
-use_among [] k after first u h =
-    Contains-append_left (uses_in first k) (uses_from (first + 1) after) u
-    (subst (λ (n : ℕ). Contains (uses_in n k) u) (let e : first + 0 ≡ first = omega arith in e) h)
-use_among (o ∷ os) k after first u h =
-    Contains-append_right (uses_in first o) (uses_from (first + 1) (os ++ k ∷ after)) u
-    (use_among os k after (first + 1) u
-    (subst (λ (n : ℕ). Contains (uses_in n k) u) (let e : first + length (o ∷ os) ≡ first + 1 + length os = omega arith in e) h))
+use_among [] k after first u h = search (rules, Contains-append_left)
+use_among (o ∷ os) k after first u h = search (rules, Contains-append_right, (use_among os k after))
 
 module _ (forced : List (List ℕ)) (os : List Contents)
     (small : (before : List Contents) (k : Contents) (after : List Contents) → os ≡ before ++ k ∷ after → IsSmallObject k) where
@@ -349,17 +314,7 @@ module _ (forced : List (List ℕ)) (os : List Contents)
   words_of_names u w h refers = by_case (Contains-append_cases (map forced_use forced) (uses_from 0 os) u (unsorted u h))
     where
       of_symbol : (a : IsAmong os 0 u) → IsUse (0 + length a.before) (starts Unix a.k) a.k u → IsOfName os u w
-      of_symbol a used = record {
-        before = a.before;
-        k = a.k;
-        after = a.after;
-        all = a.all;
-        object = ap (λ (v : Use). v.object) (sym used.is) ∙ ap (λ (n : ℕ). Some n) (let e : 0 + length a.before ≡ length a.before = omega arith in e);
-        outer = ap (λ (v : Use). is_external v.symbol) (sym used.is) ∙ used.outer;
-        leads = subst (λ (v : Use). LeadsTo a.k w.part w.offset v.symbol) used.is
-            (words_lead a.k (small a.before a.k a.after a.all) used.number used.s used.named w
-            (subst (λ (v : Use). Contains v.references w) (sym used.is) refers));
-      }
+      of_symbol a used = search (rules, words_lead)
 
       by_case : Contains (map forced_use forced) u ⊎ Contains (uses_from 0 os) u → IsOfName os u w
       by_case (inl name) =

@@ -1,37 +1,31 @@
 -- What words of a linked program find, beside what they find in their objects.
-use Rattle.std.proofs.Common.{rules}
-use Rattle.std.proofs.Common.{◌≡◌, ◌≢◌, ℕ, ◌+◌, ◌*◌, ◌-◌, ◌%◌, ◌<◌, ◌≤◌, Bool, true, false, cond, not, ◌||◌, eqb, List, [], ◌∷◌, ◌++◌}
-use Rattle.std.proofs.Common.{Option, Some, None, refl, sym, ◌∙◌, ap, subst, arith}
+use Rattle.std.proofs.Common.{rules, ◌≡◌, ◌≢◌, ℕ, ◌+◌, ◌-◌, ◌%◌, ◌<◌, ◌≤◌, Bool, true, false, cond, eqb, List, [], ◌∷◌, ◌++◌, Some, None}
+use Rattle.std.proofs.Common.{refl, sym, ◌∙◌, ap, subst, arith}
 use Rattle.std.proofs.{lemmas.List.Sums.sum_by-append, lemmas.Option.same_Some}
-use Rattle.std.specs.{Prelude.slice_get, Prelude.bytes_eq, Prelude.Ok, List.AllByRecursion}
+use Rattle.std.specs.{Prelude.slice_get, Prelude.Ok, List.AllByRecursion}
 use Rattle.aout_core.specs.declared.symbol.Segment.TheVariants.{Undefined, Absolute, TextSeg, DataSeg, BssSeg, Other}
 use Rattle.aout_core.specs.{declared.header.Header.Header, declared.symbol.Symbol.Symbol, declared.symbol.Segment.Segment}
-use Rattle.aout_core.specs.{declared.reloc.Reloc.Reloc, declared.reloc.Kind.Kind, Contents.Contents, Words.plus, Words.minus}
-use Rattle.aout_core.specs.{WellFormed.kind_of, WellFormed.is_pc_relative, WellFormed.symbol_number, Addresses.data_start_in}
+use Rattle.aout_core.specs.{declared.reloc.Reloc.Reloc, declared.reloc.Kind.Kind, Contents.Contents, Words.plus, WellFormed.kind_of}
+use Rattle.aout_core.specs.{WellFormed.symbol_number}
 use Rattle.link_session.specs.{declared.state.State.State, declared.state.State.TheVariants.Defined}
-use Rattle.link_session.specs.{declared.state.State.TheVariants.Wanted, Starts.size_of, Starts.total, Starts.own, Sessions.IsObject}
-use Rattle.link_session.specs.{Mentions.mentions, Mentions.names_by_first_mention, States.state, Cells.segment_words, Cells.segment_relocs}
+use Rattle.link_session.specs.{declared.state.State.TheVariants.Wanted, Starts.size_of, Starts.total, Sessions.IsObject, Mentions.mentions}
+use Rattle.link_session.specs.{Mentions.names_by_first_mention, States.state, Cells.segment_words, Cells.segment_relocs}
 use Rattle.tool_options.specs.{NameLists.is_among, declared.options.Keep.TheVariants.Nothing, Choices.Choices}
-use Rattle.link_out.specs.function.Plans.{Plan, plan, common_offset}
-use Rattle.link_out.specs.function.Finals.{Final, final_by, bound_at, waiting, reserved_or_waiting, etext, edata, end_name}
-use Rattle.link_out.specs.{Layouts.Bases, Results.Outcome, function.Tables.external_row, function.Link.link}
-use Rattle.link_laws.specs.relation.Relocated.{move_in, entry_of, address_in, IsAddressOf, IsAdded, base_in, external_type, HoldsObjects}
+use Rattle.link_out.specs.function.Plans.{Plan, plan}
+use Rattle.link_out.specs.function.Finals.{final_by}
+use Rattle.link_out.specs.{Results.Outcome, function.Tables.external_row, function.Link.link}
+use Rattle.link_laws.specs.relation.Relocated.{move_in, entry_of, address_in, external_type, HoldsObjects}
 use Rattle.link_laws.specs.WordsAndNames.{IsDefined}
 use Rattle.link_laws.proofs.{RelocatedLemmas.objects_fill, ExternalLemmas.entry_in_table, ExternalLemmas.row_address}
 use Rattle.link_laws.proofs.{SegmentLemmas.HasWords, DefinedLemmas.definitions_hold, LinkedTheorem.linked_exactly}
 use Rattle.link_out.proofs.OutcomeLemmas.{made_file}
-use Rattle.laws.specs.Operands.{operand, FindsMore, FindsName, segment_meant, Calls, Defines, is_usable_in, Arrives}
+use Rattle.laws.specs.Operands.{FindsMore, FindsName, segment_meant, Calls, Defines, is_usable_in, Arrives}
 use Rattle.laws.specs.{Core.Space, Core.is_in, CoreLaws.IsPlace, CoreLaws.IsLoaded}
 use Rattle.laws.proofs.CoreLemmas.{within_back}
-use Rattle.laws.proofs.LoadedLemmas.{address_of, place_at, words_there, words_loaded, words_of_rows}
+use Rattle.laws.proofs.LoadedLemmas.{address_of, place_at, words_loaded, words_of_rows}
 use Rattle.aout_core.specs.declared.reloc.Kind.TheVariants as kinds
 
 -- sums
-
-by_pc : (pc : Bool) (start own n w more : ℕ) →
-    operand pc (start + n) (minus (plus w more) (cond pc (minus start own) 0)) ≡ plus more (operand pc (own + n) w)
-by_pc true start own n w more = search rules
-by_pc false start own n w more = search rules
 
 -- a word that is loaded finds more by what was added to it
 module _ (file : Contents) (rows : List Symbol) (os before : List Contents) (k : Contents) where
@@ -43,9 +37,6 @@ module _ (file : Contents) (rows : List Symbol) (os before : List Contents) (k :
   loaded_finds _ has i w r l = absurd has
 
 -- names
-
-reserved_written : (b : Bases) (name : List ℕ) → (reserved_or_waiting b name).address ≡ (reserved_or_waiting b name).written
-reserved_written b name = search rules
 
 -- without relocation a name's value is its address
 module _ (forced : List (List ℕ)) (os : List Contents) (o : Choices) (unkept : o.relocatable ≡ false) where
@@ -101,19 +92,6 @@ names_found forced before k after o x good others unkept linked segment i w r ew
     search (rules, value_given)
 
 -- segments
-
-meant_added : (h : Header) (rows : List Symbol) (os before : List Contents) (k : Contents)
-    (kind : Kind) (meant : Segment) (number a : ℕ) → segment_meant kind ≡ Some meant →
-    IsAdded h rows os before k (Some kind) number a → a ≡ move_in h os before k meant
-meant_added h rows os before k kinds.Absolute meant number a e is =
-    is ∙ ap (λ (s : Segment). move_in h os before k s) (same_Some Absolute meant e)
-meant_added h rows os before k kinds.TextSeg meant number a e is =
-    is ∙ ap (λ (s : Segment). move_in h os before k s) (same_Some TextSeg meant e)
-meant_added h rows os before k kinds.DataSeg meant number a e is =
-    is ∙ ap (λ (s : Segment). move_in h os before k s) (same_Some DataSeg meant e)
-meant_added h rows os before k kinds.BssSeg meant number a e is =
-    is ∙ ap (λ (s : Segment). move_in h os before k s) (same_Some BssSeg meant e)
-meant_added h rows os before k kinds.External meant number a e is = absurd (cc)
 
 -- for `operand_law`: a word that refers to a segment finds it where it was moved
 pub segments_found : (forced : List (List ℕ)) (before : List Contents) (k : Contents) (after : List Contents) (o : Choices) (x : Outcome) →

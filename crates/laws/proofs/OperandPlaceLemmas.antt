@@ -1,6 +1,5 @@
 -- What the operands of an instruction are in a program: the addresses of the bytes to which they refer.
-use Rattle.std.proofs.Common.{rules}
-use Rattle.std.proofs.Common.{◌≡◌, ◌≢◌, ℕ, ◌+◌, ◌-◌, ◌*◌, ◌/◌, ◌%◌, ◌<◌, ◌≤◌, ◌⊎◌, inl, inr, Bool, true, false, ◌||◌, nat_lt, if◌then◌else◌}
+use Rattle.std.proofs.Common.{rules, ◌≡◌, ◌≢◌, ℕ, ◌+◌, ◌-◌, ◌*◌, ◌/◌, ◌%◌, ◌<◌, ◌≤◌, ◌⊎◌, inl, inr, Bool, true, false, ◌||◌, if◌then◌else◌}
 use Rattle.std.proofs.Common.{List, [], ◌∷◌, ◌++◌, length, drop, Option, Some, None, refl, sym, ◌∙◌, ap, subst, arith}
 use Rattle.std.proofs.{lemmas.Bool.Decides.nat_tests, lemmas.List.length-drop, lemmas.Option.same_Some}
 use Rattle.std.specs.{Prelude.slice_get, Prelude.Ok, List.AllByRecursion}
@@ -11,12 +10,11 @@ use Rattle.link_session.specs.{Starts.own, Sessions.IsObject, Cells.segment_word
 use Rattle.link_session.proofs.ListLemmas.{all_split}
 use Rattle.tool_options.specs.{declared.options.Keep.TheVariants.Nothing, Choices.Choices}
 use Rattle.link_out.specs.{Results.Outcome, function.Link.link}
-use Rattle.link_laws.specs.relation.Relocated.{move_in, entry_of, address_in, external_type}
+use Rattle.link_laws.specs.relation.Relocated.{move_in, entry_of, address_in}
 use Rattle.link_laws.specs.{relation.LinkedFrom.IsLinkedFrom, WordsAndNames.IsDefined}
 use Rattle.link_laws.proofs.{DefinedLemmas.definitions_hold, LinkedTheorem.linked_exactly}
-use Rattle.instructions.specs.declared.mode.Mode.TheVariants.{Direct, Deferred, Increment, IncrementDeferred, Decrement, DecrementDeferred}
-use Rattle.instructions.specs.declared.mode.Mode.TheVariants.{Index, IndexDeferred}
-use Rattle.instructions.specs.declared.mode.Addressing.TheVariants.{Immediate, Absolute, Relative, RelativeDeferred, Indexed}
+use Rattle.instructions.specs.declared.mode.Mode.TheVariants.{Increment, IncrementDeferred, Index, IndexDeferred}
+use Rattle.instructions.specs.declared.mode.Addressing.TheVariants.{Immediate, Absolute}
 use Rattle.instructions.specs.Modes.{is_pc, has_word, addressing, counts_from_pc}
 use Rattle.instructions.specs.Instructions.{instruction_of, jumps, word_count_of, following_words}
 use Rattle.instructions.specs.{declared.operation.Operation.Operation, declared.mode.Mode.Mode, declared.mode.Register.Register}
@@ -25,12 +23,12 @@ use Rattle.instructions.specs.{declared.instruction.Instruction.Instruction, Ope
 use Rattle.instructions.proofs.AlikeLemmas.{get_inside}
 use Rattle.laws.specs.OperandPlaces.{addressing_of, within_text, kind_meant, IsNamedByte, IsAddress, HasOperand, IsOperand}
 use Rattle.laws.specs.OperandPlaces.{OperandsAreThere, IsDirect, JumpsArrive, PointersToSegments, PointersToNames}
-use Rattle.laws.specs.{Core.Space, Core.of_instructions, Core.of_data, Core.IsWordAt, CoreLaws.space_of, Operands.operand}
-use Rattle.laws.specs.{Operands.FindsMore, Operands.segment_meant, Operands.Defines, OperandWords.machine_value}
-use Rattle.laws.specs.{OperandWords.moves_instructions, OperandWords.space_used}
-use Rattle.laws.proofs.OperandLemmas.{loaded_finds, address_found, names_found, segments_found, any_place, defined_address, byte_in}
+use Rattle.laws.specs.{Core.Space, Core.of_instructions, Core.of_data, Core.IsWordAt, Operands.operand, Operands.FindsMore}
+use Rattle.laws.specs.{Operands.segment_meant, Operands.Defines, OperandWords.machine_value, OperandWords.moves_instructions}
+use Rattle.laws.specs.{OperandWords.space_used}
+use Rattle.laws.proofs.OperandLemmas.{loaded_finds, address_found, names_found, segments_found, any_place, byte_in}
 use Rattle.laws.proofs.{InstructionLemmas.relocs_long, InstructionLemmas.reloc_inside, LoadedLemmas.address_of, LoadedLemmas.words_there}
-use Rattle.laws.proofs.{LoadedLemmas.words_of_rows, OperandWordLemmas.machine_is}
+use Rattle.laws.proofs.{LoadedLemmas.words_of_rows}
 use Rattle.aout_core.specs.declared.symbol.Segment.TheVariants as segs
 use Rattle.aout_core.specs.declared.reloc.Kind.TheVariants as kinds
 use Rattle.instructions.specs.declared.operand.Operand.TheVariants as operands

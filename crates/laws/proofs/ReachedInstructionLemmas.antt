@@ -1,11 +1,11 @@
 -- The instructions at the sure places of an object, in a program, if nothing is suspicious for sure in the object.
+use Rattle.std.proofs.Common.{rules, ◌≡◌, ℕ, zero, suc, ◌+◌, ◌*◌, ◌/◌, ◌%◌, Bool, true, false, inl, inr, List, [], ◌∷◌, ◌++◌, drop, Option}
+use Rattle.std.proofs.Common.{Some, None, refl, sym, ◌∙◌, ap, subst, arith}
 use Rattle.instructions.proofs.LineLemmas.{from_place}
-use Rattle.std.proofs.Common.{◌≡◌, ℕ, zero, suc, ◌+◌, ◌*◌, ◌/◌, ◌%◌, Bool, true, false, inl, inr, List, [], ◌∷◌, ◌++◌, length, drop}
-use Rattle.std.proofs.Common.{Option, Some, None, refl, sym, ◌∙◌, ap, subst, arith}
-use Rattle.std.proofs.{lemmas.Bool.le-ltb, lemmas.Bool.eqb-true, lemmas.Option.same_Some}
-use Rattle.std.specs.Prelude.{slice_get, slice_index, nat_lt, eqb, cond, if◌then◌else◌, Ok}
+use Rattle.std.proofs.{lemmas.Bool.eqb-true, lemmas.Option.same_Some}
+use Rattle.std.specs.Prelude.{slice_get, slice_index, eqb, cond, if◌then◌else◌, Ok}
 use Rattle.std.specs.List.{find}
-use Rattle.aout_core.specs.WellFormed.{kind_numbered, kind_of, is_pc_relative, symbol_number, kind_fault, word_fault, first_bad_word}
+use Rattle.aout_core.specs.WellFormed.{kind_numbered, kind_of, is_pc_relative, word_fault, first_bad_word}
 use Rattle.aout_core.specs.{declared.symbol.Symbol.Symbol, declared.reloc.Reloc.Reloc, declared.reloc.Kind.Kind, Contents.Contents}
 use Rattle.aout_core.specs.{Words.plus}
 use Rattle.link_session.specs.Sessions.{IsObject}
@@ -13,16 +13,16 @@ use Rattle.link_session.proofs.{ListLemmas.all_split, WellFormedLemmas.first_of_
 use Rattle.tool_options.specs.Choices.{Choices}
 use Rattle.link_out.specs.{Results.Outcome, function.Link.link}
 use Rattle.link_laws.proofs.LinkedTheorem.{linked_exactly}
-use Rattle.instructions.specs.declared.mode.Addressing.TheVariants.{Immediate, Absolute, Relative, RelativeDeferred, Indexed}
-use Rattle.instructions.specs.Instructions.{instruction_of, word_count_of, following_words}
+use Rattle.instructions.specs.declared.mode.Addressing.TheVariants.{Immediate, Absolute, Relative, RelativeDeferred}
+use Rattle.instructions.specs.Instructions.{instruction_of, word_count_of}
 use Rattle.instructions.specs.Lines.{word_for, line_of, line_at}
-use Rattle.instructions.specs.UnixLines.{call_word, call_of, call_by, unix_line, unix_line_at}
+use Rattle.instructions.specs.UnixLines.{call_word, call_of, call_by, unix_line}
 use Rattle.instructions.specs.{Modes.counts_from_pc, declared.operation.Operation.Operation, declared.mode.Addressing.Addressing}
 use Rattle.instructions.specs.{declared.operand.Operand.Operand, declared.instruction.Instruction.Instruction}
-use Rattle.instructions.specs.{declared.call_table.CallRow.CallRow, declared.line.Line.Line, declared.line.Line.TheVariants.Plain}
-use Rattle.instructions.specs.{declared.line.Line.TheVariants.Decoded, declared.unix.Decoder.TheVariants.Unix}
-use Rattle.instructions.specs.{declared.unix.UnixLine.UnixLine, declared.unix.UnixLine.TheVariants.Machine, Calls.system_calls}
-use Rattle.instructions.specs.{Relocated.is_relocated, Alike.is_cut, UnixLaws.sys, UnixLaws.AreMadeBySys}
+use Rattle.instructions.specs.{declared.call_table.CallRow.CallRow, declared.line.Line.Line, declared.line.Line.TheVariants.Decoded}
+use Rattle.instructions.specs.{declared.unix.Decoder.TheVariants.Unix, declared.unix.UnixLine.UnixLine}
+use Rattle.instructions.specs.{declared.unix.UnixLine.TheVariants.Machine, Calls.system_calls, Relocated.is_relocated, Alike.is_cut}
+use Rattle.instructions.specs.{UnixLaws.sys, UnixLaws.AreMadeBySys}
 use Rattle.instructions.proofs.CallLemmas.{each_made_by_sys}
 use Rattle.disassemblies.specs.Lines.{unix_line_in}
 use Rattle.suspicions.specs.SureLaw.{is_whole, SuitsMode, SuitsModes}
@@ -40,17 +40,12 @@ head_of : (ws : List ℕ) (i w : ℕ) (more : List ℕ) → drop i ws ≡ w ∷ 
     line_of (instruction_of (slice_index ws i)) (slice_index ws i) (drop (suc i) ws) ≡ line_of (instruction_of w) w more
 head_of [] zero w more e = absurd cc
 head_of [] (suc i) w more e = absurd cc
-head_of (v ∷ ws) zero w more e =
-    let same : v ≡ w = cc in
-    let rest : ws ≡ more = cc in
-    (λ j. line_of (instruction_of (same j)) (same j) (rest j))
+head_of (v ∷ ws) zero w more e = search rules
 head_of (v ∷ ws) (suc i) w more e = head_of ws i w more e
 
 -- so the line there is that of the first word
 pub at_head : (ws : List ℕ) (i w : ℕ) (more : List ℕ) → drop i ws ≡ w ∷ more → line_at ws i ≡ line_of (instruction_of w) w more
-at_head ws i w more e =
-    let next : i + 1 ≡ suc i = omega arith in
-    ap (λ (n : ℕ). line_of (instruction_of (slice_index ws i)) (slice_index ws i) (drop n ws)) next ∙ head_of ws i w more e
+at_head ws i w more e = search (rules, head_of)
 
 -- the instruction of a system call has no operand word
 
@@ -87,15 +82,9 @@ word_at [] (suc i) w following e = absurd cc
 word_at (v ∷ ws) zero w following e = let same : v ≡ w = cc in same
 word_at (v ∷ ws) (suc i) w following e = word_at ws i w following e
 
-still_line : (b : Bool) (moved line : UnixLine) → b ≡ false → (if b then moved else line) ≡ line
-still_line true moved line e = absurd cc
-still_line false moved line e = refl
-
 pub line_there : (k : Contents) (i : ℕ) → is_relocated (slice_get k.text_reloc i) ≡ false →
     unix_line_in Unix k i ≡ unix_line (call_by Unix (slice_index k.text_words i)) k.text_words i
-line_there k i still =
-    still_line (is_relocated (slice_get k.text_reloc i)) (Machine (Plain (slice_index k.text_words i)))
-    (unix_line_at Unix k.text_words i) still
+line_there k i still = search rules
 
 abbrev pub decoded : Instruction → List ℕ → Line
 decoded i following = Decoded i (word_for i.first 0 following) (word_for i.second (word_count_of i.first) following)
@@ -103,12 +92,7 @@ decoded i following = Decoded i (word_for i.first 0 following) (word_for i.secon
 pub decoded_by : (o : Option Instruction) (w : ℕ) (following : List ℕ) (instruction : Instruction) → o ≡ Some instruction →
     is_cut o following ≡ false → line_of o w following ≡ decoded instruction following
 decoded_by None w following instruction e whole = absurd cc
-decoded_by (Some i) w following instruction e whole =
-    by (nat_lt (length following) (following_words i)) whole ∙ ap (λ (j : Instruction). decoded j following) (same_Some i instruction e)
-  where
-    by : (t : Bool) → t ≡ false → (if t then Plain w else decoded i following) ≡ decoded i following
-    by true e = absurd cc
-    by false e = refl
+decoded_by (Some i) w following instruction e whole = search rules
 
 -- each operand word suits its mode, if the line does
 
@@ -158,19 +142,10 @@ bit_suits k p _ a r s e at near moved = absurd cc
 
 -- what an operand word refers to
 
-has_kind : (symbols : List Symbol) (i number : ℕ) (found : Option Kind) → kind_fault symbols i found number ≡ None →
-    (kind : Kind) × (found ≡ Some kind)
-has_kind symbols i number None e = absurd cc
-has_kind symbols i number (Some kind) e = (kind, refl)
-
 kind_at : (symbols : List Symbol) (i : ℕ) (rs ss : List Reloc) (p : ℕ) (r : Reloc) → first_bad_word symbols i (rs ++ ss) ≡ None →
     slice_get rs p ≡ Some r → (kind : Kind) × (kind_of r ≡ Some kind)
 kind_at symbols i [] ss p r e at = absurd cc
-kind_at symbols i (q ∷ rs) ss zero r e at =
-    let same : q ≡ r = cc in
-    subst (λ (s : Reloc). (kind : Kind) × (kind_of s ≡ Some kind)) same
-    (has_kind symbols i (symbol_number q) (kind_of q)
-    (first_of_none (word_fault symbols i q) (first_bad_word symbols (i + 1) (rs ++ ss)) e).0)
+kind_at symbols i (q ∷ rs) ss zero r e at = search rules
 kind_at symbols i (q ∷ rs) ss (suc p) r e at =
     kind_at symbols (i + 1) rs ss p r (first_of_none (word_fault symbols i q) (first_bad_word symbols (i + 1) (rs ++ ss)) e).1 at
 
@@ -183,11 +158,6 @@ record IsSaid (a : Addressing) (r : Reloc) : Type 0 where
 abbrev meant_by : Bool → Bool → Option Kind → Option Kind
 meant_by relative pc found = if relative then (if pc then found else within_text found) else (if pc then None else found)
 
-meant_if_same : (relative pc : Bool) (found : Option Kind) → pc ≡ relative → meant_by relative pc found ≡ found
-meant_if_same true true found e = refl
-meant_if_same false false found e = refl
-meant_if_same _ _ found e = absurd cc
-
 abbrev number_or_distance : Bool → Kind
 number_or_distance relative = if relative then kinds.TextSeg else kinds.Absolute
 
@@ -197,27 +167,16 @@ meant_alone true false found e f = ap within_text f
 meant_alone false false found e f = f
 meant_alone _ true found e f = absurd cc
 
-said_alone : (relative : Bool) →
-    (if relative then (let k : Option Kind = Some kinds.TextSeg in k) else Some kinds.Absolute) ≡ Some (number_or_distance relative)
-said_alone true = refl
-said_alone false = refl
-
 said_by : (a : Addressing) (r : Reloc) (kind : Kind) (moved : Bool) → is_relocated (Some r) ≡ moved → kind_of r ≡ Some kind →
     (is_relocated (Some r) ≡ true → is_pc_relative r ≡ counts_from_pc a) → IsSaid a r
-said_by a r kind true e is bit = record {
-  kind = kind;
-  said = ap (λ (b : Bool). if b then kind_of r else (if counts_from_pc a then Some kinds.TextSeg else Some kinds.Absolute)) e ∙ is;
-  meant = meant_if_same (counts_from_pc a) (is_pc_relative r) (kind_of r) (bit e) ∙ is;
-}
+said_by a r kind true e is bit = search rules
 said_by a r kind false e is bit =
     let low : r.0 % 16 ≡ 0 = moves_low (r ∷ []) 0 r refl e in
     let number : kind_of r ≡ Some kinds.Absolute = ap kind_numbered (let z : r.0 / 2 % 8 ≡ 0 = omega arith in z) in
     let pc : is_pc_relative r ≡ false = ap (λ (n : ℕ). eqb n 1) (let z : r.0 % 2 ≡ 0 = omega arith in z) in
     record {
       kind = number_or_distance (counts_from_pc a);
-      said =
-          ap (λ (b : Bool). if b then kind_of r else (if counts_from_pc a then Some kinds.TextSeg else Some kinds.Absolute)) e
-          ∙ said_alone (counts_from_pc a);
+      said = search rules;
       meant = meant_alone (counts_from_pc a) (is_pc_relative r) (kind_of r) pc number;
     }
 
@@ -244,12 +203,7 @@ operand_said os o x before k operation a p is h bit =
       meant = s.meant;
       bit = bit;
       number =
-          λ e. let own : IsOwnByte k (kind_meant a h.r) n segs.Absolute n = record {
-            meant = kinds.Absolute;
-            is = s.meant ∙ ap (λ (kind : Kind). Some kind) e;
-            segment = refl;
-            byte = value_small a (2 * p + 2) h.w;
-          } in
+          λ e. let own : IsOwnByte k (kind_meant a h.r) n segs.Absolute n = search rules in
           let there = h.segments segs.Absolute n own in
           same_number n (machine_value a (h.address + 2) h.word) there.address (value_small a (2 * p + 2) h.w) there.is
           there.place.symbol;
@@ -282,12 +236,7 @@ record Begins (o : Option Instruction) (following : List ℕ) : Type 0 where
 begins_by : (o : Option Instruction) (w : ℕ) (following : List ℕ) → is_foreign w ≡ false →
     is_whole (Machine (line_of o w following)) ≡ true → Begins o following
 begins_by None w following own e = absurd cc
-begins_by (Some i) w following own e =
-    record { instruction = i; is = refl; whole = by (nat_lt (length following) (following_words i)) e }
-  where
-    by : (t : Bool) → is_whole (Machine (if t then Plain w else decoded i following)) ≡ true → t ≡ false
-    by true e = absurd cc
-    by false e = refl
+begins_by (Some i) w following own e = search rules
 
 begins : (w : ℕ) (ws : List ℕ) (i : ℕ) → w ≡ slice_index ws i → is_foreign (slice_index ws i) ≡ false →
     (o : Option CallRow) → call_by Unix w ≡ o →
@@ -295,13 +244,7 @@ begins : (w : ℕ) (ws : List ℕ) (i : ℕ) → w ≡ slice_index ws i → is_f
 begins w ws i same own None e whole = begins_by (instruction_of (slice_index ws i)) (slice_index ws i) (drop (i + 1) ws) own whole
 begins w ws i same own (Some c) e whole =
     let is : instruction_of (slice_index ws i) ≡ made c = ap instruction_of (sym same) ∙ call_made w c e in
-    record {
-      instruction = sys c.number;
-      is = is;
-      whole =
-          ap (λ (o : Option Instruction). is_cut o (drop (i + 1) ws)) is
-          ∙ le-ltb (length (drop (i + 1) ws)) 0 (omega arith);
-    }
+    search rules
 
 -- and one begins at each sure place
 pub sure_places_begin : SurePlacesBegin
@@ -311,11 +254,4 @@ sure_places_begin e k none i s own =
     let whole : is_whole (unix_line (call_by Unix w) k.text_words i) ≡ true =
     ap is_whole (sym (line_there k i still)) ∙ (sure_places e k none i s).0 in
     let b = begins w k.text_words i refl own (call_by Unix w) refl whole in
-    record {
-      w = w;
-      following = drop (i + 1) k.text_words;
-      instruction = b.instruction;
-      here = from_place k.text_words i (sure_below e k i s);
-      is = b.is;
-      whole = b.whole;
-    }
+    search (rules, from_place, sure_below)

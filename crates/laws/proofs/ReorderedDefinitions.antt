@@ -1,18 +1,17 @@
 -- What defines a name among the same objects in two orders.
-use Rattle.std.proofs.Common.{rules}
-use Rattle.std.proofs.Common.{◌≡◌, ℕ, ◌+◌, Bool, true, false, cond, eqb, eqb-true, List, [], ◌∷◌, ◌++◌, map, length, Option, Some, refl}
-use Rattle.std.proofs.Common.{sym, ◌∙◌, ap, subst, append_assoc, ◌⊎◌, inl, inr}
+use Rattle.std.proofs.Common.{rules, ◌≡◌, ℕ, ◌+◌, Bool, true, false, cond, eqb, List, [], ◌∷◌, ◌++◌, map, length, Option, Some, refl, sym}
+use Rattle.std.proofs.Common.{◌∙◌, ap, subst, append_assoc, ◌⊎◌, inl, inr}
 use Rattle.std.proofs.lemmas.Slice.Eq.{bytes_eq-Decides}
 use Rattle.std.specs.{Prelude.bytes_eq, Prelude.filter, Prelude.slice_get, List.AllByRecursion, List.Sorted.IsPermutation}
-use Rattle.aout_core.specs.declared.symbol.Segment.TheVariants.{Undefined, Absolute, TextSeg, DataSeg, BssSeg, Other}
-use Rattle.aout_core.specs.WellFormed.{is_external, masked_type, segment_of, segment_numbered}
+use Rattle.aout_core.specs.declared.symbol.Segment.TheVariants.{Undefined, TextSeg, DataSeg, BssSeg}
+use Rattle.aout_core.specs.WellFormed.{is_external, masked_type, segment_of}
 use Rattle.aout_core.specs.{declared.symbol.Symbol.Symbol, declared.symbol.Segment.Segment, Contents.Contents, Words.plus}
 use Rattle.aout_core.proofs.AlikeLemmas.{slice_get_after}
 use Rattle.link_session.specs.Mentions.{Mention, statement, mention, mentions, mentions_in, forced_mention}
 use Rattle.link_session.specs.States.{Definition, first_definition, wanted_size, state_by, state, differs, multiple_names}
 use Rattle.link_session.specs.{declared.state.State.State, declared.state.State.TheVariants.Defined}
 use Rattle.link_session.specs.{declared.state.State.TheVariants.Wanted, Starts.shift}
-use Rattle.link_session.proofs.AgreementLemmas.{AgreesIn, none_differ, agrees_with}
+use Rattle.link_session.proofs.AgreementLemmas.{AgreesIn, none_differ}
 use Rattle.link_session.proofs.{ListLemmas.all_append, NeighbourLemmas.blocks}
 use Rattle.link_laws.specs.{relation.NameStates.LeavesOpen, relation.NameStates.IsFirst, relation.NameStates.HasState, WordsAndNames.IsSaid}
 use Rattle.link_laws.proofs.{HasStateLemmas.has_state, SaidLemmas.of_entry}

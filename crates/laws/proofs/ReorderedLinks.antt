@@ -1,26 +1,22 @@
 -- Links of the same objects in two orders: refusals, sizes and reports.
-use Rattle.std.proofs.Common.{rules}
-use Rattle.std.proofs.Common.{◌≡◌, ℕ, ◌+◌, ◌*◌, Bool, true, false, cond, ◌&&◌, List, [], length, sym, ◌∙◌}
-use Rattle.std.proofs.Common.{ap, subst}
+use Rattle.std.proofs.Common.{rules, ◌≡◌, ℕ, ◌+◌, Bool, true, false, cond, ◌&&◌, List, [], length, sym, ◌∙◌, ap, subst}
 use Rattle.std.proofs.lemmas.List.Concat.{length-flat_map}
 use Rattle.std.proofs.lemmas.List.Sorted.{IsPermutation-refl, length_permutation, sum_by-IsPermutation}
-use Rattle.std.specs.{Prelude.filter, Prelude.nat_lt, Prelude.Result, Prelude.Ok, Prelude.Err, List.Sorted.IsPermutation}
-use Rattle.aout_core.specs.declared.symbol.Segment.TheVariants.{TextSeg, DataSeg, BssSeg}
+use Rattle.std.specs.{Prelude.nat_lt, Prelude.Result, Prelude.Ok, Prelude.Err, List.Sorted.IsPermutation}
 use Rattle.aout_core.specs.{Contents.Contents}
 use Rattle.link_session.specs.{Mentions.mentions, Mentions.externals}
 use Rattle.link_out.specs.declared.linked.LinkFault.TheVariants.{DoesNotFit, TooManySymbols, SymbolNumber}
 use Rattle.link_out.specs.function.Plans.{Plan, plan, commons_laid}
 use Rattle.link_out.specs.function.Reports.{report_of, undefined_names}
 use Rattle.link_out.specs.function.Link.{Outcome, linked_header, linked_file, link}
-use Rattle.link_out.specs.{declared.linked.LinkFault.LinkFault, KeptSymbols.is_kept_local, Layouts.Bases, Layouts.bases, Layouts.magic_of}
-use Rattle.link_out.specs.{Results.ReportNames, function.Tables.table, function.Tables.has_number_too_large}
+use Rattle.link_out.specs.{declared.linked.LinkFault.LinkFault, Layouts.Bases, Results.ReportNames, function.Tables.table}
+use Rattle.link_out.specs.{function.Tables.has_number_too_large}
 use Rattle.tool_options.specs.Choices.{Choices, lays_commons}
 use Rattle.link_laws.specs.relation.Refusals.{kept_locals, entries}
 use Rattle.link_laws.proofs.{RefusalLemmas.table_long}
 use Rattle.link_out.proofs.OutcomeLemmas.{made_file, made_report}
 use Rattle.laws.specs.Orders.{AreOrders}
-use Rattle.laws.proofs.ReorderedMentions.{names_reordered, same_total, same_commons, same_reserved}
-use Rattle.laws.proofs.ReorderedMentions.{undefined_reordered}
+use Rattle.laws.proofs.ReorderedMentions.{names_reordered, same_total, same_commons, same_reserved, undefined_reordered}
 
 module _ (forced : List (List ℕ)) (os ps : List Contents) (o : Choices) (same : IsPermutation os ps) where
   abbrev p : Plan

@@ -1,33 +1,29 @@
 -- What names mean, and what words refer to, in links of the same objects in two orders and two layouts.
-use Rattle.std.proofs.Common.{rules}
-use Rattle.std.proofs.Common.{◌≡◌, ◌≢◌, ℕ, ◌+◌, Bool, true, false, cond, not, ◌||◌, eqb, List, [], ◌∷◌, ◌++◌, Option, Some, None, refl, sym}
-use Rattle.std.proofs.Common.{◌∙◌, ap, subst, append_assoc, arith, eqb-true}
+use Rattle.std.proofs.Common.{rules, ◌≡◌, ◌≢◌, ℕ, Bool, true, false, cond, eqb, List, [], ◌∷◌, ◌++◌, Option, Some, None, refl, sym, ◌∙◌, ap}
+use Rattle.std.proofs.Common.{subst, append_assoc, eqb-true}
 use Rattle.std.proofs.lemmas.List.Sorted.{IsPermutation-sym}
-use Rattle.std.specs.{Prelude.bytes_eq, Prelude.slice_get, Prelude.Ok, List.AllByRecursion, List.Sorted.IsPermutation}
-use Rattle.aout_core.specs.declared.symbol.Segment.TheVariants.{Undefined, Absolute, TextSeg, DataSeg, BssSeg, Other}
+use Rattle.std.specs.{Prelude.slice_get, Prelude.Ok, List.AllByRecursion, List.Sorted.IsPermutation}
 use Rattle.aout_core.specs.{declared.header.Header.Header, declared.symbol.Symbol.Symbol, declared.symbol.Segment.Segment}
 use Rattle.aout_core.specs.{declared.reloc.Kind.Kind, declared.reloc.Kind.TheVariants.External, Contents.Contents, Words.plus}
-use Rattle.aout_core.specs.{WellFormed.kind_of, WellFormed.symbol_number, WellFormed.segment_of, Addresses.data_start_in}
+use Rattle.aout_core.specs.{WellFormed.kind_of, WellFormed.symbol_number, WellFormed.segment_of}
 use Rattle.link_session.specs.Mentions.{statement, mentions, names_of, externals}
 use Rattle.link_session.specs.{declared.state.State.State, declared.state.State.TheVariants.Defined}
-use Rattle.link_session.specs.{declared.state.State.TheVariants.Wanted, Starts.total, Starts.shift, Sessions.IsObject, States.state}
-use Rattle.link_session.specs.{States.multiple_names, Cells.referent_by, Cells.name_in}
+use Rattle.link_session.specs.{declared.state.State.TheVariants.Wanted, Sessions.IsObject, States.state, States.multiple_names}
+use Rattle.link_session.specs.{Cells.referent_by, Cells.name_in}
 use Rattle.tool_options.specs.Choices.{Choices, lays_commons}
 use Rattle.tool_options.specs.{NameLists.is_among, declared.options.Keep.TheVariants.Nothing}
 use Rattle.link_session.proofs.{ListLemmas.all_split, MentionLemmas.is_among-externals, CellLemmas.RefersAmong, UpdateLemmas.unmentioned}
-use Rattle.link_out.specs.function.Plans.{Plan, plan, commons_laid}
-use Rattle.link_out.specs.function.Finals.{Final, final, final_by, type_of, bound_at, waiting, reserved_or_waiting, etext, edata, end_name}
+use Rattle.link_out.specs.function.Plans.{Plan, plan}
+use Rattle.link_out.specs.function.Finals.{Final, final, final_by, type_of, bound_at, waiting, reserved_or_waiting}
 use Rattle.link_out.specs.function.Link.{Outcome, linked_header, linked_file, link}
 use Rattle.link_out.specs.{Layouts.Bases, Layouts.base, Results.ReportNames, function.Words.move, function.Tables.external_row}
 use Rattle.link_laws.specs.{relation.NameStates.HasState, relation.NameStates.IsWanted, relation.Relocated.entry_of}
-use Rattle.link_laws.specs.{relation.Relocated.external_type, relation.Relocated.IsRelocated, relation.LinkedTable.shown}
-use Rattle.link_laws.specs.{relation.LinkedTable.undefined_row, WordsAndNames.IsDefined, WordsAndNames.IsSaid, CommonsAndLayouts.IsCommon}
-use Rattle.link_laws.proofs.{HasStateLemmas.has_state, HasStateLemmas.state_is, MoveLemmas.data_begun, MoveLemmas.move_by_header}
-use Rattle.link_laws.proofs.{ExternalLemmas.row_at, ExternalLemmas.entry_there, CommonLemmas.commons_have_space, SegmentLemmas.word_at}
-use Rattle.link_laws.proofs.{RelocatedLemmas.words_relocated}
+use Rattle.link_laws.specs.{relation.Relocated.external_type, relation.Relocated.IsRelocated, relation.LinkedTable.undefined_row}
+use Rattle.link_laws.specs.{WordsAndNames.IsDefined, WordsAndNames.IsSaid}
+use Rattle.link_laws.proofs.{HasStateLemmas.has_state, HasStateLemmas.state_is, ExternalLemmas.row_at, ExternalLemmas.entry_there}
+use Rattle.link_laws.proofs.{CommonLemmas.commons_have_space, SegmentLemmas.word_at, RelocatedLemmas.words_relocated}
 use Rattle.link_out.proofs.OutcomeLemmas.{made_file, made_report}
-use Rattle.laws.specs.Orders.{definition, common, missing, IsDefinedBy, Means, MeansTheSame, OrderKeepsMeanings}
-use Rattle.laws.specs.Orders.{OrderKeepsReferents}
+use Rattle.laws.specs.Orders.{definition, common, missing, IsDefinedBy, Means, MeansTheSame, OrderKeepsMeanings, OrderKeepsReferents}
 use Rattle.laws.proofs.ReorderedMentions.{size_if_wanted, wanted_too, same_names, same_wants, placed_again}
 use Rattle.laws.proofs.ReorderedDefinitions.{definition_found, said_again, defines, first_is_said}
 
@@ -38,12 +34,6 @@ module _ (forced : List (List ℕ)) (os : List Contents) (o : Choices) where
 
   abbrev h : Header
   h = linked_header (plan forced os o) os
-
-  data_ends : p.at.data_end ≡ data_start_in h + h.data_size
-  data_ends = ap (λ (n : ℕ). n + total DataSeg os) (data_begun o.layout (total TextSeg os))
-
-  bss_ends : p.at.bss_end ≡ data_start_in h + h.data_size + h.bss_size
-  bss_ends = search rules
 
   undefined_same : (name : List ℕ) → row_at name (cond o.relocatable (waiting 0) (reserved_or_waiting p.at name)) ≡ undefined_row h o name
   undefined_same name = search rules

@@ -1,22 +1,19 @@
 -- What is said of names by the same objects in two orders.
-use Rattle.std.proofs.Common.{rules}
-use Rattle.std.proofs.Common.{◌≡◌, ◌≢◌, ℕ, zero, suc, ◌+◌, ◌<◌, ◌≤◌, Bool, true, false, cond, not, ◌&&◌, ◌||◌, eqb, List, [], ◌∷◌, ◌++◌}
-use Rattle.std.proofs.Common.{map, length, Option, Some, None, refl, sym, ◌∙◌, ap, subst, append_assoc, arith, inl, inr}
+use Rattle.std.proofs.Common.{rules, ◌≡◌, ℕ, zero, suc, ◌+◌, ◌<◌, ◌≤◌, Bool, true, false, cond, not, ◌||◌, eqb, List, [], ◌∷◌, ◌++◌, map}
+use Rattle.std.proofs.Common.{length, Option, Some, None, refl, sym, ◌∙◌, ap, subst, append_assoc, arith, inl, inr}
 use Rattle.std.proofs.lemmas.List.Sorted.{IsPermutation-sym, Contains-permutation, sum_by-IsPermutation}
 use Rattle.std.proofs.{lemmas.Bool.or_parts, lemmas.List.Elements.Contains-append_right}
 use Rattle.std.specs.Prelude.{bytes_eq, filter, slice_get, slice_index_or, sum_by}
 use Rattle.std.specs.{List.AllByRecursion, List.Contains, List.Sorted.IsPermutation}
-use Rattle.aout_core.specs.declared.symbol.Segment.TheVariants.{Undefined, Absolute, TextSeg, DataSeg, BssSeg, Other}
-use Rattle.aout_core.specs.WellFormed.{is_external, segment_of}
-use Rattle.aout_core.specs.{declared.symbol.Symbol.Symbol, declared.symbol.Segment.Segment, Contents.Contents, Words.plus}
+use Rattle.aout_core.specs.WellFormed.{is_external}
+use Rattle.aout_core.specs.{declared.symbol.Symbol.Symbol, declared.symbol.Segment.Segment, Contents.Contents}
 use Rattle.aout_core.proofs.AlikeLemmas.{slice_get_after}
-use Rattle.link_session.specs.Mentions.{Mention, statement, mention, mentions, mentions_in, forced_mention, names_of}
-use Rattle.link_session.specs.Mentions.{names_by_first_mention}
+use Rattle.link_session.specs.Mentions.{Mention, mention, mentions, mentions_in, forced_mention, names_of, names_by_first_mention}
 use Rattle.link_session.specs.{declared.state.State.State, declared.state.State.TheVariants.Defined}
-use Rattle.link_session.specs.{declared.state.State.TheVariants.Wanted, Starts.size_of, Starts.total, Starts.shift, States.state}
+use Rattle.link_session.specs.{declared.state.State.TheVariants.Wanted, Starts.size_of, Starts.total, States.state}
 use Rattle.tool_options.specs.NameLists.{is_among}
 use Rattle.link_session.proofs.{ListLemmas.all_append, ListLemmas.all_split, MentionLemmas.is_among-externals, NeighbourLemmas.blocks}
-use Rattle.link_out.specs.function.Reports.{is_undefined, is_missing, reserved_taken, undefined_names}
+use Rattle.link_out.specs.function.Reports.{is_undefined, reserved_taken, undefined_names}
 use Rattle.link_out.specs.{ReservedNames.reserved_names, function.Plans.common_size, function.Plans.commons_total}
 use Rattle.link_laws.specs.relation.NameStates.{LeavesOpen, IsFirst, WantsAtMost, IsWanted, HasState}
 use Rattle.link_laws.proofs.{HasStateLemmas.has_state, SaidLemmas.of_entry}

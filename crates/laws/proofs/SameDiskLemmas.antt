@@ -1,9 +1,8 @@
 -- The files that a session has left, on its disk and on another.
-use Rattle.std.proofs.Common.{◌≡◌, ℕ, Bool, true, false, cond, List, [], ◌∷◌, ◌++◌, Option, Some, None, refl, sym, ap, ◌∙◌, subst}
-use Rattle.std.proofs.{lemmas.Bool.false_from_ne_true, lemmas.Grind.flat_map-append, lemmas.List.append_assoc}
-use Rattle.std.proofs.{lemmas.Slice.Eq.bytes_eq-Decides}
-use Rattle.std.specs.{List.AllByRecursion, Prelude.◌≢◌, Prelude.IfSome, Prelude.bytes_eq, Prelude.eqb}
-use Rattle.command_words.specs.Scripts.{Asked, to_add, to_withdraw, for_externals, for_undefined, to_link, for_nothing}
+use Rattle.std.proofs.Common.{rules, ◌≡◌, ℕ, Bool, true, List, [], ◌∷◌, ◌++◌, Option, Some, None, refl, ◌∙◌, subst}
+use Rattle.std.proofs.{lemmas.Grind.flat_map-append, lemmas.List.append_assoc}
+use Rattle.std.specs.{List.AllByRecursion, Prelude.◌≢◌, Prelude.IfSome, Prelude.eqb}
+use Rattle.command_words.specs.Scripts.{Asked, to_add, to_withdraw}
 use Rattle.link_session.specs.Edits.{without_last}
 use Rattle.link_session.proofs.ListLemmas.{all_append}
 use Rattle.surroundings.specs.Events.{Event, Opened, looked, opened, stored, written}
@@ -14,10 +13,7 @@ use Rattle.laws.specs.SessionsByCommands.{AreThere, IsSameOn, SameDiskLaw, Store
 
 -- a file that is stored elsewhere changes nothing at a path
 elsewhere : (disk : Disk) (at path : List ℕ) (bytes : Option (List ℕ)) → at ≢ path → with_file disk at bytes path ≡ disk path
-elsewhere disk at path bytes other = ap (λ (t : Bool). cond t bytes (disk path)) differs
-  where
-    differs : bytes_eq path at ≡ false
-    differs = false_from_ne_true (bytes_eq path at) (λ same. other (sym ((bytes_eq-Decides path at).0 same)))
+elsewhere disk at path bytes other = search rules
 
 -- after events that store nothing at a path its bytes are those before
 untouched : (disk : Disk) (path : List ℕ) (events : List Event) → AllByRecursion (StoresNot path) events →
@@ -88,21 +84,12 @@ module _ (disk : Disk) (all : List Event) where
   same_there : (other : Disk) (files : List Opened) → AllByRecursion Gave files → AllByRecursion (IsSameOn disk other all) files →
       AreThere other files
   same_there other [] h k = tt
-  same_there other (f ∷ fs) h k = (
-    record {
-      bytes = k.0.bytes;
-      read = subst (λ (d : Option (List ℕ)). IfSome d (λ bytes. f.1 ≡ Some bytes)) k.0.first (h.0 k.0.untouched);
-      there = k.0.second;
-    },
-    same_there other fs h.1 k.1,
-  )
+  same_there other (f ∷ fs) h k = search (rules, (same_there other fs h.1 k.1))
 
 module _ {W E : Type 0} (out_contents : W → Option (List ℕ)) (error_contents : E → Option (List ℕ)) where
   pub same_disk : SameDiskLaw out_contents error_contents
   same_disk forced o s before after disk ran on same =
-      let events : s.events ≡ events_of before ++ (events_of after ++ ran.further) =
-      ran.events ∙ ap (λ (es : List Event). es ++ ran.further) (flat_map-append (λ (r : LineRun). r.events) before after)
-      ∙ append_assoc (events_of before) (events_of after) ran.further in
+      let events : s.events ≡ events_of before ++ (events_of after ++ ran.further) = search (rules, flat_map-append, append_assoc) in
       same_there s.disk (events_of before) disk (files_left before)
       (lines_gave s.disk (events_of before) s.disk [] before (events_of after ++ ran.further) (λ path h. refl) (λ path h. h)
       (subst (λ (es : List Event). IsOn s.disk es) events on) tt) same

@@ -1,6 +1,5 @@
 -- What nm shows of a table: its locals and its externals apart, and the lines of one file.
-use Rattle.std.proofs.Common.{◌≡◌, ℕ, Bool, true, false, cond, not, ◌&&◌, ◌||◌, List, [], ◌∷◌, ◌++◌, filter, codes, refl, ◌∙◌, ap}
-use Rattle.std.proofs.Common.{append-nil}
+use Rattle.std.proofs.Common.{rules, ◌≡◌, ℕ, Bool, true, false, cond, not, ◌&&◌, ◌||◌, List, [], ◌∷◌, ◌++◌, filter, refl, ◌∙◌, ap}
 use Rattle.std.proofs.lemmas.List.Elements.{filter-append}
 use Rattle.std.specs.List.{AllByRecursion}
 use Rattle.aout_core.specs.{declared.symbol.Symbol.Symbol, Contents.Contents, WellFormed.is_external}
@@ -55,9 +54,4 @@ module _ (n : NmOptions) (locals rows : List Symbol) (inner : filter is_external
 
 -- one file has no heading
 pub one_file : (n : NmOptions) (path : List ℕ) (c : Contents) → nm_text n ((path, c) ∷ []) ≡ lines n path (shown n c)
-one_file n path c =
-    append-nil ((cond (not n.each_line && false) (path ++ codes ":\n") []) ++ lines n path (shown n c)) ∙ by_test n.each_line
-  where
-    by_test : (t : Bool) → (cond (not t && false) (path ++ codes ":\n") []) ++ lines n path (shown n c) ≡ lines n path (shown n c)
-    by_test true = refl
-    by_test false = refl
+one_file n path c = search rules

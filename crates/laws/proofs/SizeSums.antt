@@ -1,17 +1,14 @@
 -- The sizes of a linked file are the sums of the objects' sizes, bss with the commons.
-use Rattle.std.proofs.Common.{rules}
-use Rattle.std.proofs.Common.{◌≡◌, ℕ, ◌+◌, Bool, true, false, cond, List, [], ◌∷◌, ◌++◌, refl, sym, ◌∙◌, ap, arith, append-nil}
+use Rattle.std.proofs.Common.{rules, ◌≡◌, ℕ, ◌+◌, Bool, true, false, cond, List, [], ◌∷◌, arith}
 use Rattle.std.proofs.lemmas.List.Sums.{sum_by-cons}
 use Rattle.std.specs.Prelude.{Ok}
 use Rattle.aout_core.specs.Contents.{Contents}
 use Rattle.link_session.specs.{Mentions.Mention, Mentions.mentions, Mentions.externals, States.state}
 use Rattle.tool_options.specs.Choices.{Choices, lays_commons}
-use Rattle.link_out.specs.function.Plans.{plan, common_size, commons_size, commons_laid}
+use Rattle.link_out.specs.function.Plans.{common_size, commons_size, commons_laid}
 use Rattle.link_out.specs.function.Link.{Outcome, link}
 use Rattle.link_laws.specs.{relation.LinkedTable.space_for, relation.Refusals.CommonsTake}
 use Rattle.link_laws.proofs.{HasStateLemmas.has_state, LinkedRows.space_laid}
-use Rattle.link_out.proofs.OutcomeLemmas.{made_file}
-use Rattle.symtools.specs.SizeLines.{size_line}
 use Rattle.laws.specs.Listings.{HasSizes}
 
 module _ (o : Choices) (ms : List Mention) where

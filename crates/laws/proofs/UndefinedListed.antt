@@ -1,25 +1,23 @@
 -- The symbols that nm -u shows of a linked file: some of the kept locals, and the names that are reported.
-use Rattle.std.proofs.Common.{rules}
-use Rattle.std.proofs.Common.{◌≡◌, ◌≢◌, ◌⊎◌, ℕ, ◌-◌, Bool, true, false, cond, not, ◌&&◌, ◌||◌, eqb, eqb-true, List, [], ◌∷◌, ◌++◌, map}
-use Rattle.std.proofs.Common.{filter, IsPermutation, refl, sym, ◌∙◌, ap, subst, inl, inr}
+use Rattle.std.proofs.Common.{rules, ◌≡◌, ◌≢◌, ◌⊎◌, ℕ, Bool, true, false, cond, eqb, List, [], ◌∷◌, ◌++◌, map, filter, IsPermutation, refl}
+use Rattle.std.proofs.Common.{sym, ◌∙◌, ap, subst, inl, inr}
 use Rattle.std.proofs.{lemmas.List.Elements.filter-append, lemmas.List.Sorted.IsPermutation-sym, lemmas.List.Sorted.IsPermutation-map}
-use Rattle.std.specs.{Prelude.bytes_eq, Prelude.Ok, List.flat_map, List.AllByRecursion}
+use Rattle.std.specs.{Prelude.Ok, List.flat_map, List.AllByRecursion}
 use Rattle.aout_core.specs.declared.symbol.Segment.TheVariants.{Undefined, Absolute, TextSeg, DataSeg, BssSeg, Other}
-use Rattle.aout_core.specs.WellFormed.{masked_type, is_external, segment_numbered}
-use Rattle.aout_core.specs.{declared.symbol.Symbol.Symbol, Contents.Contents, Words.plus}
+use Rattle.aout_core.specs.WellFormed.{masked_type, is_external}
+use Rattle.aout_core.specs.{declared.symbol.Symbol.Symbol, Contents.Contents}
 use Rattle.link_session.specs.Mentions.{Mention, mentions, names_by_first_mention}
 use Rattle.link_session.specs.{declared.state.State.State, declared.state.State.TheVariants.Defined}
 use Rattle.link_session.specs.{declared.state.State.TheVariants.Wanted, Earlier.with_earlier, States.state}
 use Rattle.tool_options.specs.{declared.options.Keep.TheVariants.Nothing, Choices.Choices, declared.nm_options.NmOptions.NmOptions}
-use Rattle.link_out.specs.function.Plans.{Plan, plan, common_offset}
-use Rattle.link_out.specs.function.Finals.{Final, final_by, bound_at, waiting, etext, edata, end_name}
-use Rattle.link_out.specs.function.Tables.{moved_value, moved_local, local_rows, external_row, external_rows}
-use Rattle.link_out.specs.function.Reports.{ReportNames, is_missing, undefined_names}
+use Rattle.link_out.specs.function.Plans.{Plan, plan}
+use Rattle.link_out.specs.function.Finals.{Final, final_by}
+use Rattle.link_out.specs.function.Tables.{moved_local, local_rows, external_row, external_rows}
+use Rattle.link_out.specs.function.Reports.{is_missing, undefined_names}
 use Rattle.link_out.specs.{KeptSymbols.is_kept_local, Layouts.Bases, function.Link.Outcome, function.Link.link}
 use Rattle.link_laws.specs.relation.Refusals.{kept_locals}
 use Rattle.link_laws.proofs.ExternalLemmas.{row_at}
 use Rattle.link_out.proofs.partial_links.PartialLemmas.{IsProper, state_is_proper, local_rows_inner, external_row_outer}
-use Rattle.link_out.proofs.{OutcomeLemmas.made_file, OutcomeLemmas.made_report, RowLemmas.rows_kept-others}
 use Rattle.symtools.specs.{SymbolLines.is_shown_undefined, NmLists.is_shown, NmLists.arranged, NmLists.shown, NmLists.nm_text}
 use Rattle.laws.specs.Listings.{undefined_locals, listed_locals, undefined_symbol, lines}
 use Rattle.laws.proofs.{ArrangedLemmas.arranged_moves, ShownLemmas.undefined_apart, ShownLemmas.one_file}
@@ -27,10 +25,6 @@ use Rattle.laws.proofs.{ArrangedLemmas.arranged_moves, ShownLemmas.undefined_apa
 -- the small letter, by what tests of type and value say
 abbrev small : Bool → Bool → Bool → Bool → Bool → Bool → Bool → ℕ
 small z v t d b r f = cond z (cond v 117 99) (cond t 116 (cond d 100 (cond b 98 (cond r 114 (cond f 102 97)))))
-
--- the letter of a type that is not 0 is neither u nor U
-typed_shown : (s : Symbol) → eqb (masked_type s) 0 ≡ false → is_shown_undefined s ≡ false
-typed_shown s e = search rules
 
 -- locals
 

@@ -1,26 +1,23 @@
 -- Two lines that add a file and withdraw it, and two runs of the same lines for which the system gave the same.
-use Rattle.std.proofs.Common.{rules}
-use Rattle.std.proofs.Common.{◌≡◌, ℕ, max, List, [], ◌∷◌, ◌++◌, map, Option, Some, None, Result, Ok, Err, refl, sym, ap, ◌∙◌, arith, inl}
-use Rattle.std.proofs.Common.{inr, subst}
+use Rattle.std.proofs.Common.{rules, ◌≡◌, ℕ, List, [], ◌∷◌, ◌++◌, Option, Some, None, Result, Ok, Err, refl, ap, ◌∙◌, arith, inl, inr}
+use Rattle.std.proofs.Common.{subst}
 use Rattle.std.proofs.{lemmas.List.same_from_push, lemmas.Grind.flat_map-append}
-use Rattle.std.specs.{Prelude.IfSome, Prelude.codes, List.AllByRecursion}
-use Rattle.aout_core.specs.{Contents.Contents, Decoding.decode}
-use Rattle.command_words.specs.Scripts.{Asked, to_add, to_withdraw, for_externals, for_undefined, to_link, for_nothing}
+use Rattle.std.specs.{Prelude.codes}
+use Rattle.aout_core.specs.{Contents.Contents}
+use Rattle.command_words.specs.Scripts.{Asked, to_add, to_withdraw}
 use Rattle.link_session.specs.{declared.entry.AddFault.AddFault, Edits.last_of, Labelled.Labelled, Labelled.objects, Limits.refusal}
 use Rattle.link_session.specs.{Sessions.Adds, Sessions.Withdraws, Sessions.nothing_kept, Undo.Kept}
-use Rattle.link_out.specs.Inputs.{Cause, not_added, kept_with, object_in, with_input}
-use Rattle.link_out.specs.{declared.linked.LinkFault.LinkFault, Steps.unless, function.Link.link, function.Reports.line}
+use Rattle.link_out.specs.Inputs.{Cause, not_added, kept_with}
+use Rattle.link_out.specs.{Steps.unless, function.Reports.line}
 use Rattle.link_session.proofs.EditLemmas.{last_of-put_last}
 use Rattle.tool_options.specs.Choices.{Choices}
-use Rattle.surroundings.specs.Events.{Event, opened, stored}
-use Rattle.v7tools.specs.Answers.{absent, adding, anything_else, listing_externals, listing_undefined, withdrawing, Verdict, done, refused}
-use Rattle.v7tools.specs.Answers.{to_store, Stepped, add_step, link_answer_text, link_status, link_step, step, withdraw_step}
-use Rattle.v7tools.specs.LineRuns.{DoesStep, IsAddOf, IsLineOf, LineRun, LinksNone, OpensOne, status_after}
+use Rattle.surroundings.specs.Events.{opened}
+use Rattle.v7tools.specs.Answers.{done, refused, Stepped, add_step, withdraw_step}
+use Rattle.v7tools.specs.LineRuns.{IsAddOf, IsLineOf, LineRun, OpensOne, status_after}
 use Rattle.v7tools.specs.SessionRuns.{Chains, answers_of, events_of, lines_asked, worst}
-use Rattle.v7tools.specs.SessionSteps.{AddsIf, IsLinkBy, WithdrawsIf}
-use Rattle.laws.specs.Disks.{Writes}
-use Rattle.laws.specs.SessionsByCommands.{AreGivenTheSame, IsKnown, IsUndisturbed, UndoLaw, gift}
-use Rattle.laws.proofs.LeftLemmas.{IsAt, adds_found, at_line, same_ok}
+use Rattle.v7tools.specs.SessionSteps.{WithdrawsIf}
+use Rattle.laws.specs.SessionsByCommands.{AreGivenTheSame, UndoLaw}
+use Rattle.laws.proofs.LeftLemmas.{IsAt, adds_found, at_line}
 
 -- ---- an addition that is done, and the withdrawal after it
 
@@ -93,64 +90,6 @@ record DoesTheSame (r t : LineRun) : Type 0 where
   answer : t.answer ≡ r.answer
   status : t.status ≡ r.status
   kept : Alike t.kept r.kept
-
-adds_names : (old new : Kept) (v : Verdict) → AddsIf v old new → new.forced ≡ old.forced
-adds_names old new done h = h.1.forced
-adds_names old new _ h = ap (λ (k : Kept). k.forced) h
-
-withdraws_names : (old new : Kept) (v : Verdict) → WithdrawsIf v old new → new.forced ≡ old.forced
-withdraws_names old new done h = h.1.forced
-withdraws_names old new _ h = ap (λ (k : Kept). k.forced) h
-
--- an addition of known bytes, if neither memory nor the device fails
-add_done : (known : Option (List ℕ)) (bytes : List ℕ) (old : Kept) (path : List ℕ) (did : Stepped) (r : LineRun) → known ≡ Some bytes →
-    r.answer ≡ did.answer → IsUndisturbed (to_add path) r.answer → IsAddOf known old path did →
-    did ≡ add_step old.entries path (with_input old.forced old.entries path bytes)
-add_done known bytes old path did r is answer calm (inl e) = absurd (calm.1 (answer ∙ ap (λ (s : Stepped). s.answer) e))
-add_done known bytes old path did r is answer calm (inr (inl (e, wants))) = absurd (calm.0 (answer ∙ ap (λ (s : Stepped). s.answer) e))
-add_done known bytes old path did r is answer calm (inr (inr k)) = search rules
-
-link_done : (o : Choices) (old : Kept) (r : LineRun) (path : List ℕ) (h : LinksNone o old r) → IsUndisturbed (to_link path) r.answer →
-    h.did ≡ link_step old.entries (link old.forced (objects old.entries) o)
-link_done o old r path h calm = search rules
-
-module _ (o : Choices) (old twin : Kept) (same : Alike twin old) (r t : LineRun) (gives : map gift r.events ≡ map gift t.events)
-    (known : AllByRecursion IsKnown r.events) where
-  -- by a step that is the same
-  by_step : (did : Stepped) (other : Stepped) → other ≡ did → DoesStep did r → DoesStep other t → t.events ≡ r.events →
-      t.kept.forced ≡ r.kept.forced → DoesTheSame r t
-  by_step did other e h k events names = search rules
-
-  names_stay : r.kept ≡ old → t.kept ≡ twin → t.kept.forced ≡ r.kept.forced
-  names_stay h k = ap (λ (k : Kept). k.forced) k ∙ same.names ∙ ap (λ (k : Kept). k.forced) (sym h)
-
-  both_opened : (path : List ℕ) (h : OpensOne old path r) (k : OpensOne twin path t) (bytes : List ℕ) → h.known ≡ Some bytes →
-      k.known ≡ Some bytes → IsUndisturbed (to_add path) r.answer → IsUndisturbed (to_add path) t.answer → DoesTheSame r t
-  both_opened path h k bytes first second calm still = search rules
-
-  both_found : (path : List ℕ) (h : OpensOne old path r) (k : OpensOne twin path t) (x : Option (List ℕ)) → h.known ≡ x →
-      k.known ≡ x → AllByRecursion IsKnown (opened path (Some x) ∷ []) → IsUndisturbed (to_add path) r.answer →
-      IsUndisturbed (to_add path) t.answer → DoesTheSame r t
-  both_found path h k None first second is calm still = absurd is.0
-  both_found path h k (Some bytes) first second is calm still = both_opened path h k bytes first second calm still
-
-  same_line : (a : Asked) → IsLineOf o old r a → IsLineOf o twin t a → IsUndisturbed a r.answer → IsUndisturbed a t.answer → DoesTheSame r t
-  same_line (to_add path) (inl h) (inl k) calm still = search rules
-  same_line (to_add path) (inl h) (inr k) calm still =
-      absurd (let bad = sym (ap (map gift) h.events) ∙ gives ∙ ap (map gift) k.events in cc)
-  same_line (to_add path) (inr h) (inl k) calm still =
-      absurd (let bad = sym (ap (map gift) h.events) ∙ gives ∙ ap (map gift) k.events in cc)
-  same_line (to_add path) (inr h) (inr k) calm still = search rules
-  same_line to_withdraw h k calm still = search rules
-  same_line for_externals h k calm still = search rules
-  same_line for_undefined h k calm still = search rules
-  same_line (to_link path) (inl h) (inl k) calm still = search rules
-  same_line (to_link path) (inl h) (inr k) calm still =
-      absurd (let bad = sym (ap (map gift) h.only_answer.events) ∙ gives ∙ ap (map gift) k.events in cc)
-  same_line (to_link path) (inr h) (inl k) calm still =
-      absurd (let bad = sym (ap (map gift) h.events) ∙ gives ∙ ap (map gift) k.only_answer.events in cc)
-  same_line (to_link path) (inr h) (inr k) calm still = search rules
-  same_line for_nothing h k calm still = search rules
 
 -- ---- two runs of the same lines, by induction over them
 
