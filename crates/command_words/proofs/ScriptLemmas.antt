@@ -1,10 +1,10 @@
 -- The lines of a script, taken off its bytes one by one.
-use Rattle.std.proofs.Common.{◌≡◌, ◌≢◌, ◌+◌, ◌<◌, ◌≤◌, ℕ, Bool, true, false, cond, if◌then◌else◌, List, [], ◌∷◌, ◌++◌, length, Option, Some}
-use Rattle.std.proofs.Common.{None, Ok, refl, sym, ap, ◌∙◌, ◌↔◌, Err, subst, drop, drop_at, arith, append_assoc, append-nil, length-append}
-use Rattle.std.proofs.{KnownBytes.Consumes-trans, lemmas.Bool.ne_eqb, lemmas.Bool.lt-leb, lemmas.Bool.lt-ltb, lemmas.Bool.le-ltb}
+use Rattle.std.proofs.Common.{rules, ◌≡◌, ◌≢◌, ◌+◌, ◌<◌, ◌≤◌, ℕ, Bool, true, false, cond, List, [], ◌∷◌, ◌++◌, length, Option, Some, None}
+use Rattle.std.proofs.Common.{Ok, refl, sym, ap, ◌∙◌, ◌↔◌, Err, subst, drop, drop_at, arith, append_assoc, append-nil, length-append}
+use Rattle.std.proofs.{lemmas.Bool.ne_eqb}
 use Rattle.aout_core.specs.Refusals.{refused}
-use Rattle.std.specs.{Prelude.nat_lt, Prelude.IsSome, Io.KnownBytes.Consumes, Io.KnownBytes.IsAtEnd}
-use Rattle.command_words.specs.Scripts.{asked, long_line, many_lines, and_given, ends_with_fault, given_after}
+use Rattle.std.specs.{Prelude.IsSome, Io.KnownBytes.Consumes, Io.KnownBytes.IsAtEnd}
+use Rattle.command_words.specs.Scripts.{asked, long_line, and_given, ends_with_fault, given_after}
 use Rattle.command_words.specs.ScriptAnswers.{Answer, asked_by, HasLine, HasNone, NamesPath, after_line, WhereKnown, IsNextOf}
 use Rattle.command_words.specs.internal.LineParts.{IsStopOf, IsTakenOf}
 use Rattle.command_words.specs.{declared.lines.Line.Line, declared.line_reader.Stop.Stop}
@@ -23,29 +23,18 @@ goes_on all line held none split whole empty =
 -- where a line goes on after the bytes that were taken, some are held, and its reader is not asked
 pub not_asked : {A : Type 0} {before now after : A} (all line held : List ℕ) → HasNone line →
     (HasLine all → (all ≡ line ++ held) × (now ≡ before)) → ((held ≡ [] → ⊥) → after ≡ now) → HasLine all → after ≡ before
-not_asked all line held none begun kept whole =
-    let (split, same) = begun whole in
-    kept (goes_on all line held none split whole) ∙ same
-
--- nothing was left after the bytes that were taken
-pub taken_to_end : (a b c : Option (List ℕ)) (bs : List ℕ) → HasNone bs → Consumes a b bs →
-    Consumes b c [] × IsAtEnd c → HasNone bs × Consumes a c bs × IsAtEnd c
-taken_to_end a b c bs none taken end = (none, subst (Consumes a c) (append-nil bs) (Consumes-trans a b c bs [] taken end.0), end.1)
+not_asked all line held none begun kept whole = search rules
 
 -- ---- the lines of bytes
 
 -- a line that a newline ends
 lines_of_line : (line rest : List ℕ) → HasNone line → lines_in (line ++ 10 ∷ rest) ≡ line ∷ lines_in rest
 lines_of_line [] rest h = refl
-lines_of_line (x ∷ line) rest h =
-    ap (λ (c : Bool). cond c ([] ∷ lines_in (line ++ 10 ∷ rest)) (on_first x (lines_in (line ++ 10 ∷ rest))))
-    (ne_eqb x 10 h.0) ∙ ap (on_first x) (lines_of_line line rest h.1)
+lines_of_line (x ∷ line) rest h = cc (ne_eqb x 10 h.0, lines_of_line line rest h.1)
 
 after_whole_line : (line rest : List ℕ) → HasNone line → after_line (line ++ 10 ∷ rest) ≡ rest
 after_whole_line [] rest h = refl
-after_whole_line (x ∷ line) rest h =
-    ap (λ (c : Bool). cond c (line ++ 10 ∷ rest) (after_line (line ++ 10 ∷ rest))) (ne_eqb x 10 h.0)
-    ∙ after_whole_line line rest h.1
+after_whole_line (x ∷ line) rest h = cc (ne_eqb x 10 h.0, after_whole_line line rest h.1)
 
 newline_inside : (line rest : List ℕ) → HasNone (line ++ 10 ∷ rest) → ⊥
 newline_inside [] rest h = h.0 refl
@@ -72,29 +61,16 @@ starts_line : (x : ℕ) (front rest : List ℕ) → HasNone (x ∷ front) →
 starts_line x [] rest h =
     let (more, others, same) = first_line x (lines_in rest) in
     (more, others, ap (λ (c : Bool). cond c ([] ∷ lines_in rest) (on_first x (lines_in rest))) (ne_eqb x 10 h.0) ∙ same)
-starts_line x (y ∷ front) rest h =
-    let (more, others, same) = starts_line y front rest h.1 in (
-      more,
-      others,
-      ap (λ (c : Bool). cond c ([] ∷ lines_in (y ∷ (front ++ rest))) (on_first x (lines_in (y ∷ (front ++ rest)))))
-          (ne_eqb x 10 h.0) ∙ ap (on_first x) same,
-    )
+starts_line x (y ∷ front) rest h = search (rules, ne_eqb, (starts_line y front rest h.1))
 
 -- ---- what they give
 
 given_line : (n : ℕ) (l : List ℕ) (ls : List (List ℕ)) → n < 1000000 → length l ≤ 4096 →
     given_after n (l ∷ ls) ≡ and_given (asked l) (given_after (n + 1) ls)
-given_line n l ls few short =
-    ap (λ (c : Bool). if c then ends_with_fault many_lines else (if nat_lt 4096 (length l) then ends_with_fault long_line
-    else and_given (asked l) (given_after (n + 1) ls))) (lt-leb 1000000 n few)
-    ∙ ap (λ (c : Bool). if c then ends_with_fault long_line else and_given (asked l) (given_after (n + 1) ls))
-    (le-ltb 4096 (length l) short)
+given_line n l ls few short = search rules
 
 given_long : (n : ℕ) (l : List ℕ) (ls : List (List ℕ)) → n < 1000000 → 4096 < length l → given_after n (l ∷ ls) ≡ ends_with_fault long_line
-given_long n l ls few long =
-    ap (λ (c : Bool). if c then ends_with_fault many_lines else (if nat_lt 4096 (length l) then ends_with_fault long_line
-    else and_given (asked l) (given_after (n + 1) ls))) (lt-leb 1000000 n few)
-    ∙ ap (λ (c : Bool). if c then ends_with_fault long_line else and_given (asked l) (given_after (n + 1) ls)) (lt-ltb 4096 (length l) long)
+given_long n l ls few long = search rules
 
 -- ---- the same of a reader that tells its bytes
 
@@ -145,49 +121,31 @@ pub last_known : (n : ℕ) (old new : Option (List ℕ)) (line : List ℕ) → n
     WhereKnown old new (λ bytes left. IsTakenOf n bytes left line (Ok true))
 last_known n None new line few short some none taken end = tt
 last_known n (Some bytes) None line few short some none taken end = absurd taken
-last_known n (Some bytes) (Some left) line few short some none taken end =
-    let whole : bytes ≡ line = taken ∙ ap (λ (l : List ℕ). line ++ l) end ∙ append-nil line in (
-      (
-        end ∙ sym (ap after_line whole ∙ after_last_line line none),
-        ap (λ (b : List ℕ). given_after n (lines_in b)) whole ∙ last_lines n line few short some none
-            ∙ ap (λ (l : List ℕ). and_given (asked line) (given_after (n + 1) (lines_in l))) (sym end),
-      ),
-      (λ _. subst HasNone (sym whole) none, λ _. refl),
-    )
+last_known n (Some bytes) (Some left) line few short some none taken end = search (rules, after_last_line, last_lines)
 
 -- ---- the answers
 
 pub line_answered : (n : ℕ) (settled : Option Stop) (line : List ℕ) (is_last : Bool) (it : Line) (bytes left : List ℕ) →
     asked_by it ≡ asked line → (IsSome settled ↔ is_last ≡ true) →
     IsTakenOf n bytes left line (Ok is_last) → IsNextOf n bytes left settled (Ok it)
-line_answered n settled line is_last it bytes left same last h = (
-  (h.0.0, h.0.1 ∙ ap (λ a. and_given a (given_after (n + 1) (lines_in left))) (sym same)),
-  (λ some. h.1.0 (last.0 some), λ none. last.1 (h.1.1 none)),
-)
+line_answered n settled line is_last it bytes left same last h = search rules
 
 -- no memory for the line that was taken
 pub lost_known : (n : ℕ) (old new : Option (List ℕ)) (settled : Option Stop) (line : List ℕ) (is_last : Bool) → NamesPath (asked line) →
     WhereKnown old new (λ bytes left. IsTakenOf n bytes left line (Ok is_last)) →
     WhereKnown old new (λ bytes left. IsNextOf n bytes left settled (Err (stops.Memory refused)))
-lost_known n old new settled line is_last named =
-    known_map old new (λ bytes left. IsTakenOf n bytes left line (Ok is_last))
-    (λ bytes left. IsNextOf n bytes left settled (Err (stops.Memory refused))) (λ bytes left h. (asked line, named, h.0))
+lost_known n old new settled line is_last named = search rules
 
 -- why there is no further line
 stops_next : (n : ℕ) (settled : Option Stop) (stop : Stop) (bytes left : List ℕ) → IsStopOf n bytes left stop →
     IsNextOf n bytes left settled (Err stop)
-stops_next n settled stops.End bytes left h = h
-stops_next n settled stops.LongLine bytes left h = h
-stops_next n settled stops.ManyLines bytes left h = h
-stops_next n settled stops.ReadFailed bytes left h = h
 stops_next n settled (stops.Memory _) bytes left h = absurd h
+stops_next n settled _ bytes left h = h
 
 pub stop_known : (n : ℕ) (old new : Option (List ℕ)) (settled : Option Stop) (stop : Stop) →
     WhereKnown old new (λ bytes left. IsStopOf n bytes left stop) →
     WhereKnown old new (λ bytes left. IsNextOf n bytes left settled (Err stop))
-stop_known n old new settled stop =
-    known_map old new (λ bytes left. IsStopOf n bytes left stop)
-    (λ bytes left. IsNextOf n bytes left settled (Err stop)) (stops_next n settled stop)
+stop_known n old new settled stop = search rules
 
 -- the answer is that the reader failed exactly where the stop is
 pub failed_as : {P : Type 0} (stop : Stop) → (stop ≡ stops.ReadFailed ↔ P) →

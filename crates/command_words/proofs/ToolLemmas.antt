@@ -1,18 +1,18 @@
 -- What options make of a command, and what is read of the words by it.
-use Rattle.std.proofs.Common.{◌≡◌, ◌<◌, ◌+◌, ℕ, Bool, true, false, cond, drop, get_or, List, [], length, filter, map, Option, Some, None}
+use Rattle.std.proofs.Common.{rules, ◌≡◌, ◌<◌, ◌+◌, ℕ, true, false, drop, get_or, List, [], length, filter, map, Option, Some, None}
 use Rattle.std.proofs.Common.{option_map, Result, Ok, Err, refl, sym, ap, ap₂, ◌∙◌, subst, inl, inr}
 use Rattle.std.proofs.{lemmas.Bool.false_from_ne_true, lemmas.List.at_drop_more, lemmas.Slice.Eq.bytes_eq-Decides}
 use Rattle.aout_core.specs.Refusals.{refused}
 use Rattle.std.specs.Prelude.{IfErr, IfOk, IsErrAnd, String, bytes_eq, codes, string_bytes}
 use Rattle.std.specs.{Borrow.Bor, declared.alloc.Global.Global}
-use Rattle.clap.specs.Simple.{App, HasMatchesOf, app_of, is_simple, shape_of, subcommand_of, subcommand_rows_of, with_rule, with_subcommand}
+use Rattle.clap.specs.Simple.{App, HasMatchesOf, app_of, is_simple, subcommand_of, subcommand_rows_of, with_rule, with_subcommand}
 use Rattle.clap.specs.{Built.AddsArg, Built.AddsSubcommand, Faults.fault_of, Faults.is_simple_and_free, Kinds.HasKind, Kinds.Kinds}
 use Rattle.clap.specs.{Matches.subcommand_name_of, Values.kind_of, Walk.Row, Walk.Rule, Walk.rule_of, declared.builder.arg.Arg.Arg}
 use Rattle.clap.specs.{declared.builder.command.Command.Command, declared.error.Error.Error, declared.parser.matches.ArgMatches.ArgMatches}
 use Rattle.clap.specs.{declared.parser.matches.ArgMatches.TheViews.out-ArgMatches}
-use Rattle.clap.proofs.{OnLiterals.clap_on_literals, SimpleLemmas.plain_fields}
+use Rattle.clap.proofs.{OnLiterals.clap_on_literals}
 use Rattle.command_words.specs.Calls.{Asks, AsksForNone, IsAsked, fault_of_words, name_of}
-use Rattle.command_words.specs.Tools.{bare, files_rule, ld_app, nm_app, session_app, v7_app}
+use Rattle.command_words.specs.Tools.{bare, files_rule, v7_app}
 use Rattle.command_words.specs.{declared.fault.WordsFault.WordsFault, declared.fault.WordsFault.TheVariants.Memory}
 use Rattle.command_words.specs.{declared.words.Call.Call, declared.words.TheConstants.FILE, internal.ToolCalls.HasNoCall}
 use Rattle.command_words.specs.{LinkWords.values_of, internal.ToolApps.tool_app, internal.ToolApps.tools_added}
@@ -34,9 +34,7 @@ adds_rule old new a app r adds was is local = adds.shape local ∙ ap₂ with_ru
 
 pub adds_tool : (old sub new : Command) (app tool : App) → AddsSubcommand old sub new → app_of old ≡ app →
     app_of sub ≡ tool → tool.top.is_plain ≡ true → app_of new ≡ with_subcommand app tool.top
-adds_tool old sub new app tool adds was is plain =
-    let top : shape_of sub ≡ tool.top = ap (λ (a : App). a.top) is in
-    adds.shape (plain_fields sub (ap (λ s. s.is_plain) top ∙ plain)).globals ∙ ap₂ with_subcommand was top
+adds_tool old sub new app tool adds was is plain = search rules
 
 -- ---- the tool of a name
 
@@ -48,14 +46,7 @@ pub takes_files : (name : List ℕ) → (name ≡ codes "ld" → ⊥) → (name 
 takes_files name a b c = rw (is_other name (codes "ld") a, is_other name (codes "nm") b, is_other name (codes "session") c) refl
 
 tool_is_plain : (name : List ℕ) → (tool_app name).top.is_plain ≡ true
-tool_is_plain name = by_tests (bytes_eq name (codes "ld")) (bytes_eq name (codes "nm")) (bytes_eq name (codes "session"))
-  where
-    by_tests : (ld nm session : Bool) →
-        (cond ld ld_app (cond nm nm_app (cond session session_app (with_rule (bare name) files_rule)))).top.is_plain ≡ true
-    by_tests true nm session = refl
-    by_tests false true session = refl
-    by_tests false false true = refl
-    by_tests false false false = refl
+tool_is_plain name = search rules
 
 -- one of several tools is added, and the others are left
 pub adds_named : (old sub new : Command) (names : List (Bor (List ℕ))) (i : ℕ) (d : Bor (List ℕ)) → i < length names →
@@ -76,10 +67,7 @@ named_rows : {B : Type 0} (o : Option B) (f : B → List ℕ) (g : B → List Ro
     Some rows ≡ option_map (λ (p : Read). p.1) (option_map {U = Read} (λ b. (f b, g b)) o) →
     option_map {U = Read} (λ b. (f b, g b)) o ≡ Some (name, rows)
 named_rows None f g name rows named has = absurd (cc)
-named_rows (Some b) f g name rows named has =
-    let same_name : f b ≡ name = cc in
-    let same_rows : g b ≡ rows = cc in
-    ap₂ {C = Option Read} (λ n r. Some (n, r)) same_name same_rows
+named_rows (Some b) f g name rows named has = search rules
 
 read_subcommand : (m : ArgMatches) (name : List ℕ) (rows : List Row) → Some name ≡ subcommand_name_of m →
     Some rows ≡ option_map (λ (p : Read). p.1) (subcommand_rows_of m) → subcommand_rows_of m ≡ Some (name, rows)
@@ -123,38 +111,19 @@ pub asked_by_words : (words : List (List ℕ)) (name : List ℕ) (rows : List Ro
     (r : Result Call WordsFault) → fault_of v7_app words ≡ [] → subcommand_of v7_app words ≡ Some (name, rows) →
     files ≡ values_of rows FILE.now → IfOk r (λ call. name_of call ≡ name) → IfOk r (Asks rows files) → IfOk r (IsAsked words)
 asked_by_words words name rows files (Err fault) taken read are named asked = tt
-asked_by_words words name rows files (Ok call) taken read are named asked =
-    let same : subcommand_of v7_app words ≡ Some (name_of call, rows) =
-    read ∙ ap (λ (n : List ℕ). let both : Read = (n, rows) in Some both) (sym named) in
-    (taken, rows, same, subst (λ (fs : List (List ℕ)). Asks rows fs call) are asked)
-
-abbrev name_in_read : Option Read → List ℕ
-name_in_read None = []
-name_in_read (Some p) = p.0
-
-abbrev rows_in_read : Option Read → List Row
-rows_in_read None = []
-rows_in_read (Some p) = p.1
+asked_by_words words name rows files (Ok call) taken read are named asked = search rules
 
 -- a call that the words ask for is one of the name, the options and the files that were read
 asks_what_was_read : (words : List (List ℕ)) (name : List ℕ) (rows : List Row) (files : List (List ℕ)) (call : Call) →
     subcommand_of v7_app words ≡ Some (name, rows) → files ≡ values_of rows FILE.now → IsAsked words call →
     (name_of call ≡ name) × Asks rows files call
-asks_what_was_read words name rows files call read are asked =
-    let same = sym asked.2 ∙ read in
-    let same_rows : asked.1 ≡ rows = ap rows_in_read same in (
-      ap name_in_read same,
-      subst (λ (fs : List (List ℕ)). Asks rows fs call) (sym are)
-          (subst (λ (rs : List Row). Asks rs (values_of rs FILE.now) call) same_rows asked.3),
-    )
+asks_what_was_read words name rows files call read are asked = search rules
 
 pub none_for_read : (words : List (List ℕ)) (name : List ℕ) (rows : List Row) (files : List (List ℕ))
     (r : Result Call WordsFault) → subcommand_of v7_app words ≡ Some (name, rows) → files ≡ values_of rows FILE.now →
     IfErr r (HasNoCall name rows files) → IfErr r (AsksForNone words)
 none_for_read words name rows files (Ok call) read are none = tt
-none_for_read words name rows files (Err fault) read are none = λ call whole asked dashes.
-    let is = asks_what_was_read words name rows files call read are asked in
-    none call whole is.0 is.1
+none_for_read words name rows files (Err fault) read are none = search rules
 
 -- words that `clap` refuses
 pub none_refused : (command : Command) (words given : List (List ℕ)) (e : Error) (r : Result Call WordsFault) →
@@ -171,10 +140,7 @@ none_refused command words given e (Err fault) app_is words_are kinds is = λ ca
     by_kind (inr other) = absurd other
 
 pub none_without_name : (words : List (List ℕ)) (fault : WordsFault) → subcommand_of v7_app words ≡ None → AsksForNone words fault
-none_without_name words fault none call whole asked dashes = none_is_some (sym none ∙ asked.2)
-  where
-    none_is_some : {A : Type 0} {p : Read} → None ≡ Some p → A
-    none_is_some e = absurd (cc)
+none_without_name words fault none call whole asked dashes = search rules
 
 -- words with a dash alone that is no file
 pub none_with_dash : (words files : List (String Global)) (name : List ℕ) (rows : List Row) (in_words in_files : ℕ)
@@ -182,6 +148,4 @@ pub none_with_dash : (words files : List (String Global)) (name : List ℕ) (row
     map string_bytes files ≡ values_of rows FILE.now → in_words ≡ length (filter is_dash words) →
     in_files ≡ length (filter is_dash files) → (in_words ≡ in_files → ⊥) → AsksForNone (map string_bytes words) fault
 none_with_dash words files name rows in_words in_files fault read are w f differ call whole asked dashes =
-    let is = asks_what_was_read (map string_bytes words) name rows (map string_bytes files) call read are asked in
-    absurd (differ (w ∙ dashes-bytes words ∙ dashes ∙ sym (dashes-asked rows (map string_bytes files) call is.1)
-    ∙ sym (dashes-bytes files) ∙ sym f))
+    search (rules, asks_what_was_read, dashes-bytes, dashes-asked)

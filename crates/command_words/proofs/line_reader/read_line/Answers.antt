@@ -1,6 +1,6 @@
 use Rattle.std.proofs.Common.{◌≡◌, ◌++◌, ◌∷◌, ◌∙◌, [], ap, sym, append_assoc, refl, rules}
-use Rattle.std.proofs.KnownBytes.{Consumes-kept, Consumes-trans}
-use Rattle.command_words.proofs.ScriptLemmas.{goes_on, has_none_push, not_asked, taken_to_end}
+use Rattle.std.proofs.KnownBytes.{Consumes-trans}
+use Rattle.command_words.proofs.ScriptLemmas.{goes_on, has_none_push, not_asked}
 use Rattle.command_words.proofs.line_reader.read_line.Goals as goal
 
 pub loop-preserved : goal.loop-preserved
@@ -25,10 +25,7 @@ loop-preserved g c =
     )
 
 pub returns-in-Ok-Some-eq10-clause-ends : goal.returns-in-Ok-Some-eq10-clause-ends
-returns-in-Ok-Some-eq10-clause-ends g c =
-    let (unlatched, count, space, none, taken, held) = c.loop.invariant in
-    let one = rw (c.in-Ok-Some-eq10.field-0-is, c.in-Ok-Some-eq10.field-0-0-test) at c.in-Ok-Some-eq10.ensures.byte in
-    (none, Consumes-trans _ _ _ _ _ taken one)
+returns-in-Ok-Some-eq10-clause-ends g c = search (rules, Consumes-trans)
 
 pub returns-in-Ok-Some-eq10-clause-untouched : goal.returns-in-Ok-Some-eq10-clause-untouched
 returns-in-Ok-Some-eq10-clause-untouched g c =
@@ -36,9 +33,7 @@ returns-in-Ok-Some-eq10-clause-untouched g c =
     not_asked c.args.reader.now.held c.loop.line.items c.loop.reader.held none held c.in-Ok-Some-eq10.ensures.untouched
 
 pub returns-in-Ok-None-clause-ends : goal.returns-in-Ok-None-clause-ends
-returns-in-Ok-None-clause-ends g c =
-    let (unlatched, count, space, none, taken, held) = c.loop.invariant in
-    taken_to_end _ _ _ c.loop.line.items none taken (rw c.in-Ok-None.field-0-is at c.in-Ok-None.ensures.end)
+returns-in-Ok-None-clause-ends g c = search rules
 
 pub returns-in-Ok-None-clause-untouched : goal.returns-in-Ok-None-clause-untouched
 returns-in-Ok-None-clause-untouched g c =
@@ -49,9 +44,7 @@ pub returns-in-Err-clause-failed : goal.returns-in-Err-clause-failed
 returns-in-Err-clause-failed g c = (λ _. c.in-Err.ensures.fault.0 refl, λ _. refl)
 
 pub returns-in-Err-clause-ends : goal.returns-in-Err-clause-ends
-returns-in-Err-clause-ends g c =
-    let (unlatched, count, space, none, taken, held) = c.loop.invariant in
-    (none, Consumes-kept _ _ _ _ taken c.in-Err.ensures.kept)
+returns-in-Err-clause-ends g c = search rules
 
 pub returns-in-Err-clause-untouched : goal.returns-in-Err-clause-untouched
 returns-in-Err-clause-untouched g c =
@@ -59,13 +52,7 @@ returns-in-Err-clause-untouched g c =
     not_asked c.args.reader.now.held c.loop.line.items c.loop.reader.held none held c.in-Err.ensures.untouched
 
 pub returns-in-Ok-Some-next_byte-clause-ends : goal.returns-in-Ok-Some-next_byte-clause-ends
-returns-in-Ok-Some-next_byte-clause-ends g c =
-    let (unlatched, count, space, none, taken, held) = c.loop.invariant in
-    let one = rw c.in-Ok-Some-next_byte.field-0-is at c.in-Ok-Some-next_byte.ensures.byte in (
-      c.in-Ok-Some-next_byte.field-0-0,
-      has_none_push c.loop.line.items c.in-Ok-Some-next_byte.field-0-0 none c.in-Ok-Some-next_byte.field-0-0-test.1,
-      Consumes-trans _ _ _ _ _ taken one,
-    )
+returns-in-Ok-Some-next_byte-clause-ends g c = search (rules, has_none_push, Consumes-trans)
 
 pub returns-in-Ok-Some-next_byte-clause-untouched : goal.returns-in-Ok-Some-next_byte-clause-untouched
 returns-in-Ok-Some-next_byte-clause-untouched g c =
@@ -73,9 +60,7 @@ returns-in-Ok-Some-next_byte-clause-untouched g c =
     not_asked c.args.reader.now.held c.loop.line.items c.loop.reader.held none held c.in-Ok-Some-next_byte.ensures.untouched
 
 pub returns-in-Ok-None-next_byte-clause-ends : goal.returns-in-Ok-None-next_byte-clause-ends
-returns-in-Ok-None-next_byte-clause-ends g c =
-    let (unlatched, count, space, none, taken, held) = c.loop.invariant in
-    taken_to_end _ _ _ c.loop.line.items none taken (rw c.in-Ok-None-next_byte.field-0-is at c.in-Ok-None-next_byte.ensures.end)
+returns-in-Ok-None-next_byte-clause-ends g c = search rules
 
 pub returns-in-Ok-None-next_byte-clause-untouched : goal.returns-in-Ok-None-next_byte-clause-untouched
 returns-in-Ok-None-next_byte-clause-untouched g c =
@@ -86,9 +71,7 @@ pub returns-in-Err-next_byte-clause-failed : goal.returns-in-Err-next_byte-claus
 returns-in-Err-next_byte-clause-failed g c = (λ _. c.in-Err-next_byte.ensures.fault.0 refl, λ _. refl)
 
 pub returns-in-Err-next_byte-clause-ends : goal.returns-in-Err-next_byte-clause-ends
-returns-in-Err-next_byte-clause-ends g c =
-    let (unlatched, count, space, none, taken, held) = c.loop.invariant in
-    (none, Consumes-kept _ _ _ _ taken c.in-Err-next_byte.ensures.kept)
+returns-in-Err-next_byte-clause-ends g c = search rules
 
 pub returns-in-Err-next_byte-clause-untouched : goal.returns-in-Err-next_byte-clause-untouched
 returns-in-Err-next_byte-clause-untouched g c =
