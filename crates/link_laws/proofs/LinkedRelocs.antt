@@ -1,7 +1,7 @@
 -- The kept locals and the relocation words are those that the relation of linking tells, and no others.
 use Rattle.std.proofs.Common.{◌≡◌, ℕ, zero, suc, ◌+◌, ◌*◌, ◌/◌, ◌%◌, ◌≤◌, Bool, true, false, cond, ◌&&◌, ◌||◌, eqb, List, [], ◌∷◌, ◌++◌}
 use Rattle.std.proofs.Common.{map, length, Option, Some, None, refl, sym, ◌∙◌, ap, subst, arith, append_assoc, rules}
-use Rattle.std.proofs.{lemmas.Bool.ltb-false, lemmas.Bool.ltb-true, lemmas.List.Folds.list_any-append, lemmas.Option.same_Some}
+use Rattle.std.proofs.{lemmas.Bool.ltb-false, lemmas.Bool.ltb-true, lemmas.Bool.or_parts, lemmas.List.Folds.list_any-append, lemmas.Option.same_Some}
 use Rattle.std.specs.Prelude.{bytes_eq, filter, slice_get, nat_lt}
 use Rattle.std.specs.List.{flat_map, list_any, AllByRecursion}
 use Rattle.aout_core.specs.declared.symbol.Segment.TheVariants.{Undefined, TextSeg, DataSeg, BssSeg, Other}
@@ -189,16 +189,8 @@ module _ (forced : List (List ℕ)) (os : List Contents) (o : Choices) where
     where
       any_at : {A : Type 0} (t : A → Bool) (xs : List A) (i : ℕ) (x : A) → list_any t xs ≡ false → slice_get xs i ≡ Some x → t x ≡ false
       any_at t [] i x h e = absurd (cc)
-      any_at t (a ∷ xs) zero x h e = let same : a ≡ x = cc in ap t (sym same) ∙ first (t a) (list_any t xs) h
-        where
-          first : (u v : Bool) → (u || v) ≡ false → u ≡ false
-          first true v h = h
-          first false v h = refl
-      any_at t (a ∷ xs) (suc i) x h e = any_at t xs i x (rest (t a) (list_any t xs) h) e
-        where
-          rest : (u v : Bool) → (u || v) ≡ false → v ≡ false
-          rest true v h = absurd (cc)
-          rest false v h = h
+      any_at t (a ∷ xs) zero x h e = let same : a ≡ x = cc in ap t (sym same) ∙ (or_parts (t a) (list_any t xs) h).0
+      any_at t (a ∷ xs) (suc i) x h e = any_at t xs i x (or_parts (t a) (list_any t xs) h).1 e
 
       none_large : (segment : Segment) → has_too_large_in p os segment ≡ false →
           (before : List Contents) (k : Contents) (after : List Contents) → os ≡ before ++ k ∷ after →

@@ -1,7 +1,7 @@
 -- The report of a link is the one that the relation of linking tells, and no other.
 use Rattle.std.proofs.Common.{◌≡◌, ℕ, Bool, true, false, cond, not, ◌&&◌, List, [], ◌∷◌, Option, Some, None, refl, sym, ◌∙◌, ap, subst, inl}
 use Rattle.std.proofs.Common.{inr, eqb-true, rules}
-use Rattle.std.proofs.lemmas.Bool.{and_parts}
+use Rattle.std.proofs.lemmas.Bool.{and_parts, not-true}
 use Rattle.std.specs.{Prelude.bytes_eq, Prelude.filter, List.AllByRecursion}
 use Rattle.link_session.specs.States.{Definition, definition_by, first_definition, differs, state}
 use Rattle.link_session.specs.{declared.state.State.State, declared.state.State.TheVariants.Defined}
@@ -151,11 +151,7 @@ module _ (ms : List Mention) where
       IsWanted ms name 0 × (is_among reserved_names name ≡ false)
   undefined_reported name e =
       let parts = and_parts (is_undefined (state ms name)) (not (is_among reserved_names name)) e in
-      (is_wanted_none ms name parts.0, turned (is_among reserved_names name) parts.1)
-    where
-      turned : (u : Bool) → not u ≡ true → u ≡ false
-      turned false h = refl
-      turned true h = absurd (cc)
+      (is_wanted_none ms name parts.0, not-true (is_among reserved_names name) parts.1)
 
   undefined_only : (name : List ℕ) → IsWanted ms name 0 × (is_among reserved_names name ≡ false) →
       (is_undefined (state ms name) && not (is_among reserved_names name)) ≡ true

@@ -1,7 +1,7 @@
 -- The relation of linking holds exactly of what a link answers, and of one file and report at most.
-use Rattle.std.proofs.Common.{◌≡◌, ◌↔◌, ℕ, ◌+◌, ◌-◌, ◌*◌, ◌≤◌, Bool, true, false, cond, ◌&&◌, ◌||◌, List, [], ◌∷◌, ◌++◌, map, length}
-use Rattle.std.proofs.Common.{Option, Some, None, refl, sym, ◌∙◌, ap, subst, arith, rules}
-use Rattle.std.proofs.lemmas.Bool.{ltb-false}
+use Rattle.std.proofs.Common.{◌≡◌, ◌↔◌, ℕ, ◌+◌, ◌-◌, ◌*◌, ◌≤◌, Bool, true, false, cond, ◌&&◌, List, [], ◌∷◌, ◌++◌, map, length, Option}
+use Rattle.std.proofs.Common.{Some, None, refl, sym, ◌∙◌, ap, subst, arith, rules}
+use Rattle.std.proofs.lemmas.Bool.{ltb-false, or_parts}
 use Rattle.std.specs.{Prelude.Result, Prelude.Ok, List.AllByRecursion}
 use Rattle.aout_core.specs.declared.symbol.Segment.TheVariants.{TextSeg, DataSeg, BssSeg}
 use Rattle.aout_core.specs.{declared.header.Header.Header, declared.symbol.Symbol.Symbol, declared.reloc.Reloc.Reloc, Contents.Contents}
@@ -64,10 +64,6 @@ module _ (forced : List (List ℕ)) (os : List Contents) (o : Choices) where
   there name known =
       entry_among p names name ∙ ap (λ (t : Bool). let r : Option Symbol = cond t (Some (external_row p name)) None in r) known
 
-  either : (a b : Bool) → (a || b) ≡ false → (a ≡ false) × (b ≡ false)
-  either true b h = absurd (cc)
-  either false b h = (refl, h)
-
   -- one direction: what the function `link` gives has each part of the relation
 
   module _ (good : AllByRecursion IsObject os) (x : Outcome) (m : IsMade p os x) where
@@ -103,7 +99,7 @@ module _ (forced : List (List ℕ)) (os : List Contents) (o : Choices) where
     -- no number is too large where relocation is kept
     numbered : o.relocatable ≡ true → (has_too_large_in p os TextSeg ≡ false) × (has_too_large_in p os DataSeg ≡ false)
     numbered r =
-        either (has_too_large_in p os TextSeg) (has_too_large_in p os DataSeg)
+        or_parts (has_too_large_in p os TextSeg) (has_too_large_in p os DataSeg)
         (ap (λ (t : Bool). t && has_number_too_large p os) (sym r) ∙ m.numbered)
 
     relocs_long : (t : Bool) (rs : List Reloc) (n : ℕ) → 2 * length rs ≡ n → 2 * length (cond t rs []) ≡ cond t n 0

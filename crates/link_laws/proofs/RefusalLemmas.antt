@@ -1,7 +1,8 @@
 -- A link is refused exactly where an end, a count or a number is too large.
 use Rattle.std.proofs.Common.{◌≡◌, ◌↔◌, ℕ, zero, suc, ◌+◌, ◌<◌, ◌≤◌, Bool, true, false, cond, ◌&&◌, ◌||◌, eqb, eqb-true, List, [], ◌∷◌}
 use Rattle.std.proofs.Common.{◌++◌, map, length, Option, Some, None, refl, sym, ◌∙◌, ap, subst, arith, inl, inr, ◌⊎◌, length-append, rules}
-use Rattle.std.proofs.{lemmas.Bool.ltb-false, lemmas.Bool.ltb-true, lemmas.Bool.lt-ltb, lemmas.List.length-map, lemmas.List.Folds.list_any-append}
+use Rattle.std.proofs.{lemmas.Bool.ltb-false, lemmas.Bool.ltb-true, lemmas.Bool.lt-ltb, lemmas.Bool.or_right, lemmas.List.length-map}
+use Rattle.std.proofs.lemmas.List.Folds.{list_any-append}
 use Rattle.std.proofs.lemmas.Map.Keys.{any_passes_from_place}
 use Rattle.std.specs.Prelude.{filter, slice_get, nat_lt, Result, Ok, Err}
 use Rattle.std.specs.List.{flat_map, list_any, AllByRecursion}
@@ -309,10 +310,6 @@ module _ (forced : List (List ℕ)) (os : List Contents) (o : Choices) where
           has_too_large_in p os segment ≡ true → has_number_too_large p os ≡ true
       by_segment TextSeg w h = ap (λ (t : Bool). t || has_too_large_in p os DataSeg) h
       by_segment DataSeg w h = or_right (has_too_large_in p os TextSeg) (has_too_large_in p os DataSeg) h
-        where
-          or_right : (u v : Bool) → v ≡ true → (u || v) ≡ true
-          or_right true v h = refl
-          or_right false v h = h
       by_segment segment w h = absurd (none_word f.w w)
 
   -- refusals
