@@ -95,7 +95,7 @@ def wrapped(line):
 def tactics(text, known, name):
     """Tactics that may stand for a text: with the lemmas that it cites, and with the one that is proved, at its smaller arguments."""
     def applied(lemma):
-        return dict.fromkeys(re.findall(rf"(?<![\w.-]){re.escape(lemma)}(?: (?!in\b)[\w.]+)+", text))
+        return dict.fromkeys(re.findall(rf"(?<![\w.-]){re.escape(lemma)}(?: (?!in\b)[\w.«»]+)+", text))
     cited = [word for word in dict.fromkeys(WORD.findall(text)) if word in known]
     facts = ", ".join(it for word in [*cited, name] for it in applied(word))
     listed = "".join(f", {it}" for it in [*cited, *(f"({it})" for it in applied(name))])
@@ -109,7 +109,7 @@ def parts(proof):
         at, depth, is_let = value_at(line), indent(line), line.lstrip().startswith("let ")
         if at and not is_let:
             last = end_of(proof, first, depth + 1)
-            yield first, last, line[:at] + " ", ";" * proof[last].endswith(";")
+            yield first, last, line[:at] + " ", " in" if proof[last].endswith(" in") else ";" * proof[last].endswith(";")
             yield from ((first, k - 1, line[:at] + " ", "") for k in range(first, last) if proof[k] == " " * (depth + 2) + "where")
         elif at:
             last = next((k for k in range(first, len(proof)) if re.search(r" in(?: \W| record \{)?$", proof[k])), first)
@@ -186,7 +186,7 @@ def admitted(top, crate, texts, made):
     with tempfile.TemporaryDirectory() as folder:
         for name in below:
             below += [it for it in uses[name][1] if it in uses and it not in below]
-            shutil.copytree(f"{top}/crates/{name}", f"{folder}/crates/{name}", ignore=shutil.ignore_patterns("out"))
+            shutil.copytree(f"{top}/crates/{name}", f"{folder}/crates/{name}", ignore=shutil.ignore_patterns("incremental"))
         write(f"{folder}/crates.txt", "".join(f"{name}: {' '.join(uses[name][1])}\n" for name in below))
         for path, text in texts.items():
             write(f"{folder}/crates/{crate}/proofs/{path}", text)
