@@ -2,6 +2,7 @@
 use Rattle.std.proofs.Common.{◌≡◌, ℕ, zero, suc, ◌+◌, ◌-◌, ◌<◌, ◌≤◌, Bool, true, false, nat_lt, if◌then◌else◌, Option, Some, None, List, []}
 use Rattle.std.proofs.Common.{◌∷◌, ◌++◌, length, take, drop, slice_get, refl, sym, ap, subst, ◌∙◌, arith}
 use Rattle.std.proofs.{lemmas.Bool.Decides.nat_tests, lemmas.List.length-drop, lemmas.List.take_rest}
+use Rattle.std.proofs.{lemmas.Option.slice_get-get_or, Common.get_or, Common.drop-drop}
 use Rattle.instructions.specs.Instructions.{instruction_of, word_count_of, following_words}
 use Rattle.instructions.specs.Lines.{word_for, line_of, line_at, line_length, lines_within, lines}
 use Rattle.instructions.specs.Alike.{AlikeWords, AlikeLine, AlikeLines, is_cut, AreWhole}
@@ -44,18 +45,7 @@ lines_some (w ∷ f) k h e =
     ∙ ap (λ l. line_of (instruction_of w) w f ∷ lines l) (sym all)
 
 pub get_inside : (xs : List ℕ) (k : ℕ) → k < length xs → (x : ℕ) × (slice_get xs k ≡ Some x)
-get_inside [] k h = absurd (omega arith)
-get_inside (x ∷ xs) zero h = (x, refl)
-get_inside (x ∷ xs) (suc k) h = get_inside xs k (omega arith)
-
-drop_nil : (n : ℕ) → drop {A = ℕ} n [] ≡ []
-drop_nil zero = refl
-drop_nil (suc n) = refl
-
-pub drop_twice : (k i : ℕ) (xs : List ℕ) → drop i (drop k xs) ≡ drop (k + i) xs
-drop_twice zero i xs = let e : i ≡ 0 + i = omega arith in ap (λ (n : ℕ). drop n xs) e
-drop_twice (suc k) i [] = drop_nil i ∙ sym (drop_nil (suc k + i))
-drop_twice (suc k) i (x ∷ xs) = let e : suc (k + i) ≡ suc k + i = omega arith in drop_twice k i xs ∙ ap (λ (n : ℕ). drop n (x ∷ xs)) e
+get_inside xs k h = (get_or xs k 0, slice_get-get_or xs k 0 h)
 
 pub get_from : (xs : List ℕ) (k i : ℕ) → slice_get (drop k xs) i ≡ slice_get xs (k + i)
 get_from xs zero i = let e : i ≡ 0 + i = omega arith in ap (λ (n : ℕ). slice_get xs n) e
@@ -87,7 +77,8 @@ words_alike P place true c f g inside more pairs =
     let y = get_inside g c (omega (arith, inside refl)) in
     alike_some P place (slice_get f c) (slice_get g c) x.0 y.0 x.1 y.1 (pairs x.0 y.0 x.1 y.1)
 
-has_both : (a b : Bool) (n : ℕ) → (if a then 1 else 0) + (if b then 1 else 0) ≤ n →
+-- where two words are wanted and there are as many, each is there
+pub has_both : (a b : Bool) (n : ℕ) → (if a then 1 else 0) + (if b then 1 else 0) ≤ n →
     (a ≡ true → 0 < n) × (b ≡ true → (if a then 1 else 0) < n)
 has_both true true n h = (λ e. omega arith, λ e. omega arith)
 has_both true false n h = (λ e. omega arith, λ e. absurd cc)
@@ -185,7 +176,7 @@ begin_alike P moves (suc n) (suc m) place (w ∷ f) (v ∷ g) more enough some p
     begin_alike P moves n m (place + k) (drop k (w ∷ f)) (drop k (v ∷ g)) c a b
     (pairs_from P place k (w ∷ f) (v ∷ g) pairs) (pairs_from (Same moves) place k (w ∷ f) (v ∷ g) still) whole.2 in
     let there : drop (length (drop k (w ∷ f))) (drop k (v ∷ g)) ≡ drop (length (w ∷ f)) (v ∷ g) =
-    drop_twice k (length (drop k (w ∷ f))) (v ∷ g) ∙ ap (λ i. drop i (v ∷ g)) sum in
+    drop-drop (length (drop k (w ∷ f))) k (v ∷ g) ∙ ap (λ i. drop i (v ∷ g)) sum in
     begin_step P place w v f g (drop (length (w ∷ f)) (v ∷ g)) (lines_within n (drop k (w ∷ f)))
     (lines_within m (drop (line_length (line_of (instruction_of v) v g)) (v ∷ g))) e whole.1 tails pairs
     (subst (λ i. BeginAlike P (place + k) (lines_within n (drop k (w ∷ f))) (lines_within m (drop i (v ∷ g)))

@@ -1,7 +1,7 @@
 -- What holds of each row of the table of calls: by its name it is found again.
 use Rattle.std.proofs.Common.{◌≡◌, ℕ, ◌≤◌, ◌<◌, ◌/◌, Bool, true, false, ◌&&◌, eqb, nat_lt, Option, Some, None, List, [], ◌∷◌, ◌++◌}
 use Rattle.std.proofs.Common.{slice_index, refl, subst, cond, arith}
-use Rattle.std.proofs.lemmas.Bool.Decides.{Decides-eqb, nat_tests}
+use Rattle.std.proofs.{lemmas.Bool.Decides.Decides-eqb, lemmas.Bool.Decides.nat_tests, lemmas.Bool.and_parts}
 use Rattle.std.specs.{Prelude.IfSome, List.find}
 use Rattle.instructions.specs.{declared.call_table.CallRow.CallRow, declared.unix.Decoder.Decoder, declared.call_table.TheConstants.CALLS}
 use Rattle.instructions.specs.{CallNames.call_name, Calls.system_calls, Rows.begins, Rows.row_of, UnixLines.call_word, UnixLines.call_of}
@@ -74,10 +74,6 @@ abbrev are_low : List CallRow → Bool
 are_low [] = true
 are_low (c ∷ calls) = nat_lt c.number 256 && are_low calls
 
-both : (a b : Bool) → (a && b) ≡ true → (a ≡ true) × (b ≡ true)
-both true b h = (refl, h)
-both false b h = absurd cc
-
 other_by : (w : ℕ) (c : CallRow) (rest : Option CallRow) (b : Bool) → eqb (call_word c) w ≡ b → (w / 256 ≡ 137 → ⊥) → c.number < 256 →
     rest ≡ None → cond b (Some c) rest ≡ None
 other_by w c rest true t other low none =
@@ -89,7 +85,7 @@ other_by w c rest false t other low none = none
 other_found : (w : ℕ) (calls : List CallRow) → are_low calls ≡ true → (w / 256 ≡ 137 → ⊥) → find (λ c. eqb (call_word c) w) calls ≡ None
 other_found w [] h other = refl
 other_found w (c ∷ calls) h other =
-    let parts = both (nat_lt c.number 256) (are_low calls) h in
+    let parts = and_parts (nat_lt c.number 256) (are_low calls) h in
     let low : c.number < 256 = grind (arith, nat_tests) in
     other_by w c (find (λ c. eqb (call_word c) w) calls) (eqb (call_word c) w) refl other low (other_found w calls parts.1 other)
 

@@ -1,7 +1,7 @@
 -- The rows of the table are in the order of their words, so the row of a word is found by halves.
 use Rattle.std.proofs.Common.{◌≡◌, ℕ, ◌+◌, ◌-◌, ◌*◌, ◌<◌, ◌≤◌, Bool, true, false, ◌&&◌, nat_le, nat_lt, if◌then◌else◌, Option, Some, None}
 use Rattle.std.proofs.Common.{List, [], ◌∷◌, ◌++◌, length, slice_index_or, refl, sym, ap, subst, ◌∙◌, cond, arith}
-use Rattle.std.proofs.lemmas.Bool.Decides.{nat_tests}
+use Rattle.std.proofs.{lemmas.Bool.Decides.nat_tests, lemmas.Bool.and_parts, lemmas.Bool.false_from_ne_true}
 use Rattle.std.specs.List.{find, filter}
 use Rattle.instructions.specs.{declared.field.Field.Field, declared.table.TheConstants.ROWS, declared.table.Row.Row, Fields.place}
 use Rattle.instructions.specs.{Fields.size, Table.table, Rows.part, Rows.begins, Rows.row_of, Laws.placed, Laws.in_order, Laws.SameTable}
@@ -47,32 +47,24 @@ words_within r w h =
     let two = part_most r.second w in
     (omega arith, omega arith)
 
-is_false : (b : Bool) → (b ≡ true → ⊥) → b ≡ false
-is_false true h = absurd (h refl)
-is_false false h = refl
-
-both : (a b : Bool) → (a && b) ≡ true → (a ≡ true) × (b ≡ true)
-both true b h = (refl, h)
-both false b h = absurd cc
-
 -- a row before or after a word is passed over
 passed : (w : ℕ) (r : Row) (rows : List Row) → (begins r w ≡ true → ⊥) → found w (r ∷ rows) ≡ found w rows
-passed w r rows h = ap (λ b. cond b (Some r) (found w rows)) (is_false (begins r w) h)
+passed w r rows h = ap (λ b. cond b (Some r) (found w rows)) (false_from_ne_true (begins r w) h)
 
 none_below : (low w : ℕ) (rows : List Row) → are_in_order low rows ≡ true → w < low → found w rows ≡ None
 none_below low w [] h small = refl
 none_below low w (r ∷ rows) h small =
-    let parts = both (nat_le low r.base) (are_in_order (last r + 1) rows) h in
+    let parts = and_parts (nat_le low r.base) (are_in_order (last r + 1) rows) h in
     let from : low ≤ r.base = grind (arith, nat_tests) in
     passed w r rows (λ is. let within = words_within r w is in omega arith)
     ∙ none_below (last r + 1) w rows parts.1 (omega arith)
 
 follows : (low : ℕ) (front : List Row) (row : Row) (back : List Row) → are_in_order low (front ++ row ∷ back) ≡ true → low ≤ row.base
 follows low [] row back h =
-    let parts = both (nat_le low row.base) (are_in_order (last row + 1) back) h in
+    let parts = and_parts (nat_le low row.base) (are_in_order (last row + 1) back) h in
     grind (arith, nat_tests)
 follows low (r ∷ front) row back h =
-    let parts = both (nat_le low r.base) (are_in_order (last r + 1) (front ++ row ∷ back)) h in
+    let parts = and_parts (nat_le low r.base) (are_in_order (last r + 1) (front ++ row ∷ back)) h in
     let from : low ≤ r.base = grind (arith, nat_tests) in
     let rest = follows (last r + 1) front row back parts.1 in
     omega arith
@@ -81,21 +73,21 @@ front_in_order : (low : ℕ) (front : List Row) (row : Row) (back : List Row) �
     are_in_order low (front ++ row ∷ back) ≡ true → are_in_order low front ≡ true
 front_in_order low [] row back h = refl
 front_in_order low (r ∷ front) row back h =
-    let parts = both (nat_le low r.base) (are_in_order (last r + 1) (front ++ row ∷ back)) h in
+    let parts = and_parts (nat_le low r.base) (are_in_order (last r + 1) (front ++ row ∷ back)) h in
     ap (λ b. b && are_in_order (last r + 1) front) parts.0 ∙ front_in_order (last r + 1) front row back parts.1
 
 back_in_order : (low : ℕ) (front : List Row) (row : Row) (back : List Row) → are_in_order low (front ++ row ∷ back) ≡ true →
     (lower : ℕ) × (are_in_order lower (row ∷ back) ≡ true)
 back_in_order low [] row back h = (low, h)
 back_in_order low (r ∷ front) row back h =
-    let parts = both (nat_le low r.base) (are_in_order (last r + 1) (front ++ row ∷ back)) h in
+    let parts = and_parts (nat_le low r.base) (are_in_order (last r + 1) (front ++ row ∷ back)) h in
     back_in_order (last r + 1) front row back parts.1
 
 later_found : (low w : ℕ) (front : List Row) (row : Row) (back : List Row) → are_in_order low (front ++ row ∷ back) ≡ true →
     row.base ≤ w → found w (front ++ row ∷ back) ≡ found w (row ∷ back)
 later_found low w [] row back h large = refl
 later_found low w (r ∷ front) row back h large =
-    let parts = both (nat_le low r.base) (are_in_order (last r + 1) (front ++ row ∷ back)) h in
+    let parts = and_parts (nat_le low r.base) (are_in_order (last r + 1) (front ++ row ∷ back)) h in
     let after = follows (last r + 1) front row back parts.1 in
     passed w r (front ++ row ∷ back) (λ is. let within = words_within r w is in omega arith)
     ∙ later_found (last r + 1) w front row back parts.1 large
@@ -103,11 +95,11 @@ later_found low w (r ∷ front) row back h large =
 earlier_found : (low w : ℕ) (front : List Row) (row : Row) (back : List Row) → are_in_order low (front ++ row ∷ back) ≡ true →
     w < row.base → found w (front ++ row ∷ back) ≡ found w front
 earlier_found low w [] row back h small =
-    let parts = both (nat_le low row.base) (are_in_order (last row + 1) back) h in
+    let parts = and_parts (nat_le low row.base) (are_in_order (last row + 1) back) h in
     passed w row back (λ is. let within = words_within row w is in omega arith)
     ∙ none_below (last row + 1) w back parts.1 (omega arith)
 earlier_found low w (r ∷ front) row back h small =
-    let parts = both (nat_le low r.base) (are_in_order (last r + 1) (front ++ row ∷ back)) h in
+    let parts = and_parts (nat_le low r.base) (are_in_order (last r + 1) (front ++ row ∷ back)) h in
     ap (λ o. cond (begins r w) (Some r) o) (earlier_found (last r + 1) w front row back parts.1 small)
 
 -- what is left of the rows is in order, and has the row of the word if the table does
@@ -187,9 +179,9 @@ order_found w (row ∷ rows) one =
 none_counted : (low w : ℕ) (rows : List Row) → are_in_order low rows ≡ true → w < low → length (rows_with w rows) ≡ 0
 none_counted low w [] h small = refl
 none_counted low w (r ∷ rows) h small =
-    let parts = both (nat_le low r.base) (are_in_order (last r + 1) rows) h in
+    let parts = and_parts (nat_le low r.base) (are_in_order (last r + 1) rows) h in
     let from : low ≤ r.base = grind (arith, nat_tests) in
-    let not_this : begins r w ≡ false = is_false (begins r w) (λ is. let within = words_within r w is in omega arith) in
+    let not_this : begins r w ≡ false = false_from_ne_true (begins r w) (λ is. let within = words_within r w is in omega arith) in
     ap (λ b. length (cond b (r ∷ rows_with w rows) (rows_with w rows))) not_this ∙ none_counted (last r + 1) w rows parts.1 (omega arith)
 
 one_by : (w : ℕ) (r : Row) (rows : List Row) (b : Bool) → begins r w ≡ b → (b ≡ true → length (rows_with w rows) ≡ 0) →
@@ -200,7 +192,7 @@ one_by w r rows false is none one = one
 one_counted : (low w : ℕ) (rows : List Row) → are_in_order low rows ≡ true → length (rows_with w rows) ≤ 1
 one_counted low w [] h = omega arith
 one_counted low w (r ∷ rows) h =
-    let parts = both (nat_le low r.base) (are_in_order (last r + 1) rows) h in
+    let parts = and_parts (nat_le low r.base) (are_in_order (last r + 1) rows) h in
     one_by w r rows (begins r w) refl
     (λ is. let within = words_within r w is in none_counted (last r + 1) w rows parts.1 (omega arith))
     (one_counted (last r + 1) w rows parts.1)

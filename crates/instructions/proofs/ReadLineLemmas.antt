@@ -17,6 +17,7 @@ use Rattle.instructions.proofs.FieldReadLemmas.{Word, field_read, field_back, fi
 use Rattle.instructions.proofs.TableLemmas.{Layout, layout_of, layout, FitsBy, Sound, row_sound}
 use Rattle.instructions.proofs.{PlainTexts.operand_text, PlainTexts.operand_after, SplitLemmas.until, SplitLemmas.past, SplitLemmas.free}
 use Rattle.instructions.proofs.{SplitLemmas.Stops, SplitLemmas.until_past, ReadLemmas.Reading, ReadLemmas.tail}
+use Rattle.instructions.proofs.AlikeLemmas.{has_both}
 use Rattle.instructions.specs.declared.field.Field.TheVariants as fields
 use Rattle.instructions.specs.declared.operand.Operand.TheVariants as operands
 
@@ -201,18 +202,6 @@ pub word_at : (b : Bool) (words : List ℕ) (k : ℕ) → AreWords words → (b 
 word_at true words k h l = slice_word words k h (l refl)
 word_at false words k h l = record { is = refl; fits = omega arith }
 
-pub has_first_word : (a b : Bool) (n : ℕ) → (if a then 1 else 0) + (if b then 1 else 0) ≤ n → a ≡ true → 0 < n
-has_first_word true b n h e = has_one b h where
-  has_one : (b : Bool) → 1 + (if b then 1 else 0) ≤ n → 0 < n
-  has_one true h = omega arith
-  has_one false h = omega arith
-has_first_word false b n h e = absurd cc
-
-pub has_second_word : (a b : Bool) (n : ℕ) → (if a then 1 else 0) + (if b then 1 else 0) ≤ n → b ≡ true → (if a then 1 else 0) < n
-has_second_word true true n h e = omega arith
-has_second_word false true n h e = omega arith
-has_second_word a false n h e = absurd cc
-
 cut_by : (cut : Bool) (r : Row) (w : ℕ) (following : List ℕ) (address : ℕ) → w < 0o200000 → AreWords following →
     Sound r → begins r w ≡ true → nat_lt (length following) (following_words (instruction r w)) ≡ cut →
     let i : Instruction = instruction r w in
@@ -225,10 +214,9 @@ cut_by false r w following address h ws s g t =
     let enough : following_words i ≤ length following = grind (arith, nat_tests) in
     let a : Option ℕ = word_for i.first 0 following in
     let b : Option ℕ = word_for i.second (word_count_of i.first) following in
-    let p = word_at (takes_word i.first) following 0 ws
-    (has_first_word (takes_word i.first) (takes_word i.second) (length following) enough) in
-    let q = word_at (takes_word i.second) following (word_count_of i.first) ws
-    (has_second_word (takes_word i.first) (takes_word i.second) (length following) enough) in
+    let has = has_both (takes_word i.first) (takes_word i.second) (length following) enough in
+    let p = word_at (takes_word i.first) following 0 ws has.0 in
+    let q = word_at (takes_word i.second) following (word_count_of i.first) ws has.1 in
     whole_back r w a b address s p q ∙ ap (λ n. n ∷ (word_list a ++ word_list b)) (row_sum r w g ∙ sym (instruction_starts r w g))
 
 missing_by : (missing : Bool) (r : Row) (w : ℕ) (following : List ℕ) (address : ℕ) → w < 0o200000 → AreWords following →

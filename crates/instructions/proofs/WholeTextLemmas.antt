@@ -11,10 +11,10 @@ use Rattle.instructions.specs.{Lines.word_for, Lines.line_of, Lines.line_length,
 use Rattle.instructions.specs.{Texts.is_ldf, Texts.name, Texts.line_text, Laws.AreWords, Laws.lines_text, Laws.UnambiguousTextLaw}
 use Rattle.texts.specs.Numbers.{six_digits}
 use Rattle.instructions.proofs.SplitLemmas.{past, free, free_append, until_past, until, digits_free, clean_free}
-use Rattle.instructions.proofs.ReadLineLemmas.{word_at, has_first_word, has_second_word, words_from, unambiguous}
+use Rattle.instructions.proofs.ReadLineLemmas.{word_at, words_from, unambiguous}
 use Rattle.instructions.proofs.{PlainTexts.operand_text, PlainTexts.operand_after, FieldLemmas.in_size, FieldReadLemmas.field_clean}
 use Rattle.instructions.proofs.{TableLemmas.Sound, TableLemmas.row_sound, LineLemmas.identity, LineLemmas.length_from, LineLemmas.line_fits}
-use Rattle.instructions.proofs.{AlikeLemmas.lines_first}
+use Rattle.instructions.proofs.{AlikeLemmas.has_both, AlikeLemmas.lines_first}
 
 -- no line has a newline
 plain_free : (w : ℕ) → free 10 (six_digits w) ≡ true
@@ -62,9 +62,9 @@ free_by false r w f address h s t =
     let enough : following_words i ≤ length f = grind (arith, nat_tests) in
     let a : Option ℕ = word_for i.first 0 f in
     let b : Option ℕ = word_for i.second (word_count_of i.first) f in
-    let p = word_at (takes_word i.first) f 0 h (has_first_word (takes_word i.first) (takes_word i.second) (length f) enough) in
-    let q = word_at (takes_word i.second) f (word_count_of i.first) h
-    (has_second_word (takes_word i.first) (takes_word i.second) (length f) enough) in
+    let has = has_both (takes_word i.first) (takes_word i.second) (length f) enough in
+    let p = word_at (takes_word i.first) f 0 h has.0 in
+    let q = word_at (takes_word i.second) f (word_count_of i.first) h has.1 in
     decoded_free r w a b address s p.fits q.fits
 
 missing_free : (missing : Bool) (r : Row) (w : ℕ) (f : List ℕ) (address : ℕ) → AreWords f → Sound r →
