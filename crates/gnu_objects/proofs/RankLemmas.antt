@@ -1,6 +1,6 @@
 -- How many symbols stay before each.
 use Rattle.std.proofs.Common.{◌≡◌, ℕ, zero, suc, ◌+◌, ◌*◌, ◌/◌, ◌%◌, ◌≤◌, ◌<◌, Bool, true, false, List, []}
-use Rattle.std.proofs.Common.{◌∷◌, ◌++◌, take, length, min, get_or, refl, sym, ap, ◌∙◌, arith, rules}
+use Rattle.std.proofs.Common.{◌∷◌, ◌++◌, take, length, length-take, min, get_or, refl, sym, ap, ◌∙◌, arith, rules}
 use Rattle.std.proofs.lemmas.List.FromFn.{get_or-map-range_with_len, length-map-range_with_len, map-range_with_len_more}
 use Rattle.std.proofs.{lemmas.Bool.cases_lt, lemmas.List.take_all}
 use Rattle.aout_core.specs.declared.reloc.Reloc.{Reloc}
@@ -13,13 +13,8 @@ count_le [] = omega arith
 count_le (true ∷ flags) = omega (arith, count_le flags)
 count_le (false ∷ flags) = omega (arith, count_le flags)
 
-length_take : (flags : List Bool) (n : ℕ) → length (take n flags) ≤ n
-length_take flags zero = omega arith
-length_take [] (suc n) = omega arith
-length_take (f ∷ flags) (suc n) = omega (arith, length_take flags n)
-
 pub count_small : (flags : List Bool) (n : ℕ) → count (take n flags) ≤ n
-count_small flags n = omega (arith, count_le (take n flags), length_take flags n)
+count_small flags n = omega (arith, count_le (take n flags), length-take n flags)
 
 pub one_if_small : (b : Bool) → one_if b ≤ 1
 one_if_small b = search rules

@@ -1,12 +1,10 @@
 -- What the words of a converted object refer to.
-use Rattle.std.proofs.Common.{◌≡◌, ℕ, zero, suc, ◌+◌, ◌*◌, ◌/◌, ◌%◌, ◌<◌, ◌≤◌, Bool, true, false, eqb-true, List}
-use Rattle.std.proofs.Common.{[], ◌∷◌, ◌++◌, map, take, length, Option, Some, None, option_map, slice_get, refl, sym, ap, ◌∙◌, arith}
-use Rattle.std.proofs.Common.{rules}
-use Rattle.std.proofs.{lemmas.Bool.cases_lt, lemmas.List.length-map, lemmas.Option.slice_get-map, lemmas.Option.slice_get_past}
+use Rattle.std.proofs.Common.{◌≡◌, ℕ, zero, suc, ◌+◌, ◌*◌, ◌/◌, ◌%◌, ◌<◌, Bool, true, false, eqb-true, List, [], ◌∷◌, ◌++◌, map, take}
+use Rattle.std.proofs.Common.{length, Option, Some, None, option_map, slice_get, refl, sym, ap, ◌∙◌, arith, rules}
+use Rattle.std.proofs.{lemmas.Bool.cases_lt, lemmas.List.length-map, lemmas.List.take_all, lemmas.Option.slice_get-map, lemmas.Option.slice_get_past}
 use Rattle.aout_core.specs.WellFormed.{kind_numbered, kind_of, symbol_number, word_fault, first_of, first_bad_word}
-use Rattle.aout_core.specs.{declared.object.ObjectFault.ObjectFault}
-use Rattle.aout_core.specs.{declared.reloc.Reloc.Reloc, declared.reloc.Kind.TheVariants.External, declared.symbol.Symbol.Symbol}
-use Rattle.aout_core.specs.{Contents.Contents}
+use Rattle.aout_core.specs.{declared.object.ObjectFault.ObjectFault, declared.reloc.Reloc.Reloc, declared.reloc.Kind.TheVariants.External}
+use Rattle.aout_core.specs.{declared.symbol.Symbol.Symbol, Contents.Contents}
 use Rattle.gnu_objects.specs.GnuRefusals.{refused_first, dropped_refusal, word_refusal, first_dropped_word}
 use Rattle.gnu_objects.specs.Laws.{GnuFile, RefersAlike, IsSameReference, AreSameReferences}
 use Rattle.gnu_objects.specs.{declared.refusal.Refusal.Refusal, declared.symbols.GnuSymbol.GnuSymbol, Staying.refers, Staying.kept}
@@ -63,12 +61,6 @@ found [] k lt = absurd (omega arith)
 found (x ∷ xs) zero lt = (x, refl)
 found (x ∷ xs) (suc k) lt = found xs k (omega arith)
 
-take_past : {A : Type 0} (xs : List A) (k : ℕ) → length xs ≤ k → take k xs ≡ xs
-take_past [] zero le = refl
-take_past [] (suc k) le = refl
-take_past (x ∷ xs) zero le = absurd (omega arith)
-take_past (x ∷ xs) (suc k) le = ap (λ l. x ∷ l) (take_past xs k (omega arith))
-
 wanted : (symbols : List Symbol) (i : ℕ) (r : Reloc) → kind_of r ≡ Some External →
     slice_get symbols (symbol_number r) ≡ None → word_fault symbols i r ≡ None → ⊥
 wanted symbols i r kind missing e = search rules
@@ -107,7 +99,7 @@ refers_alike g c flags i j w beside table stays kind good = search (
   option_map,
   kept_at,
   referred,
-  take_past,
+  take_all,
   length-map,
   length-kept,
   wanted,
