@@ -35,7 +35,7 @@ decoded_passed bytes c h =
     by_tests false true em true es false el h =
         record { is = cc; magic = em; sizes = es; long = ltb-false (length bytes) (file_length (header_in bytes)) el }
 
-length-words_in : (bytes : List ℕ) → length bytes % 2 ≡ 0 → 2 * length (words_in bytes) ≡ length bytes
+pub length-words_in : (bytes : List ℕ) → length bytes % 2 ≡ 0 → 2 * length (words_in bytes) ≡ length bytes
 length-words_in [] h = refl
 length-words_in (a ∷ []) h = absurd (omega arith)
 length-words_in (a ∷ (b ∷ rest)) h = let more : length rest % 2 ≡ 0 = omega arith in omega (arith, length-words_in rest more)

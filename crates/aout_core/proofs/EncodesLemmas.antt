@@ -18,7 +18,8 @@ use Rattle.aout_core.proofs.AlikeLemmas.{alike_self, alike_same}
 use Rattle.aout_core.proofs.EncodingLemmas.{decode-encoding, nul_free_head, word_back, with_relocation-add, length-all_word_bytes}
 use Rattle.aout_core.proofs.EncodingLemmas.{length-reloc_encoding, length-header_encoding, length-padded, length-symbol_encoding}
 use Rattle.aout_core.proofs.EncodingLemmas.{length-symbols_encoding}
-use Rattle.aout_core.proofs.DecodingLemmas.{Passed, decoded_passed, decoded_fits}
+use Rattle.aout_core.proofs.{DecodingLemmas.Passed, DecodingLemmas.decoded_passed, DecodingLemmas.decoded_fits, DecodingLemmas.length-words_in}
+use Rattle.aout_core.proofs.NameLemmas.{length-before_nul-le, before_nul-twice}
 
 bytes_take : (n : ℕ) (bytes : List ℕ) → AreBytes bytes → AreBytes (take n bytes)
 bytes_take zero bytes h = tt
@@ -326,11 +327,6 @@ header_encoded bytes h long =
     let len : length (take 16 bytes) ≡ 16 = omega (arith, length-take 16 bytes) in
     let count : length (words_in (take 16 bytes)) ≡ 8 = omega (arith, length-words_in (take 16 bytes) (omega arith)) in
     ap all_word_bytes (eight_back (words_in (take 16 bytes)) count) ∙ words_encoded (take 16 bytes) (omega arith) (bytes_take 16 bytes h)
-  where
-    length-words_in : (bytes : List ℕ) → length bytes % 2 ≡ 0 → 2 * length (words_in bytes) ≡ length bytes
-    length-words_in [] h = refl
-    length-words_in (a ∷ []) h = absurd (omega arith)
-    length-words_in (a ∷ (b ∷ rest)) h = let more : length rest % 2 ≡ 0 = omega arith in omega (arith, length-words_in rest more)
 
 -- what stands before the table is encoded as it was read
 fore_read : (bytes : List ℕ) → AreBytes bytes → (let c = contents_in (header_in bytes) bytes in
@@ -533,23 +529,6 @@ bytes_before_nul (b ∷ bs) h = by_test (eqb b 0) (bytes_before_nul bs h.1)
     by_test true k = tt
     by_test false k = (h.0, k)
 
-short_name : (bytes : List ℕ) → length (before_nul bytes) ≤ length bytes
-short_name [] = omega arith
-short_name (b ∷ bs) = by_test (eqb b 0) (short_name bs)
-  where
-    by_test : (t : Bool) → length (before_nul bs) ≤ length bs → length (cond t [] (b ∷ before_nul bs)) ≤ length (b ∷ bs)
-    by_test true h = omega arith
-    by_test false h = omega arith
-
-free_name : (bytes : List ℕ) → before_nul (before_nul bytes) ≡ before_nul bytes
-free_name [] = refl
-free_name (b ∷ bs) = by_test (eqb b 0) refl (free_name bs)
-  where
-    by_test : (t : Bool) → eqb b 0 ≡ t → before_nul (before_nul bs) ≡ before_nul bs →
-        before_nul (cond t [] (b ∷ before_nul bs)) ≡ cond t [] (b ∷ before_nul bs)
-    by_test true e h = refl
-    by_test false e h = rw (e, h) refl
-
 symbols_below : (n : ℕ) (bytes : List ℕ) → AreBytes bytes → AllByRecursion IsSymbol (symbols_in n bytes)
 symbols_below zero bytes h = tt
 symbols_below (suc n) bytes h =
@@ -557,8 +536,8 @@ symbols_below (suc n) bytes h =
     let words = words_below (part 8 4 x) (bytes_take 4 (drop 8 x) (bytes_drop 8 x (bytes_take 12 bytes h))) in (
       record {
         name = record {
-          short = omega (arith, short_name (take 8 x), length-take 8 x);
-          no_nul = free_name (take 8 x);
+          short = omega (arith, length-before_nul-le (take 8 x), length-take 8 x);
+          no_nul = before_nul-twice (take 8 x);
           bytes = bytes_before_nul (take 8 x) (bytes_take 8 x (bytes_take 12 bytes h));
         };
         type_bits = word_at (words_in (part 8 4 x)) 0 words;

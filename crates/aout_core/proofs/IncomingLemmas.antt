@@ -1,7 +1,7 @@
 -- What was read in blocks, and what was taken of it.
 use Rattle.std.proofs.Common.{◌≡◌, ℕ, zero, suc, ◌+◌, ◌-◌, ◌*◌, ◌∷◌, ◌<◌, ◌≤◌, min, List, [], ◌++◌, length, take, drop, Option, Some, None}
 use Rattle.std.proofs.Common.{sym, ◌∙◌, ap, subst, arith, append_assoc, append-nil, length-append, length-drop, take_at, drop_at, take_all}
-use Rattle.std.proofs.Common.{take-append-drop, suc-add, zero-add}
+use Rattle.std.proofs.Common.{take-append-drop, suc-add, zero-add, mul-suc}
 use Rattle.std.proofs.{lemmas.List.drop_all, lemmas.List.take-append-le, lemmas.List.drop-append-le, KnownBytes.Consumes-trans}
 use Rattle.std.specs.{Io.KnownBytes.Consumes, Io.KnownBytes.prepend_known, Prelude.Err}
 use Rattle.aout_core.specs.declared.file.ReadFault.TheVariants.{ShortHeader, BadMagic, OddSize, Memory, Truncated, Device}
@@ -127,7 +127,7 @@ row_in-more item_in width zero [] back whole one =
     ap (λ k. row_in item_in width k back) (zero-add 1) ∙ ap (λ l. item_in l ∷ []) (take_all width back (omega arith))
 row_in-more item_in width zero (a ∷ front) back whole one = absurd (omega arith)
 row_in-more item_in width (suc n) front back whole one =
-    let next : width * suc n ≡ width * n + width = mul-suc width n in
+    let next = mul-suc width n in
     let one_more = ap (λ k. row_in item_in width k (front ++ back)) (suc-add n 1) in
     let within : width ≤ length front = omega arith in
     let later = row_in-more item_in width n (drop width front) back (omega (arith, length-drop width front)) one in
@@ -135,9 +135,6 @@ row_in-more item_in width (suc n) front back whole one =
     ∙ ap (λ l. item_in l ∷ row_in item_in width (n + 1) (drop width (front ++ back))) (take-append-le width front back within)
     ∙ ap (λ l. item_in (take width front) ∷ row_in item_in width (n + 1) l) (drop-append-le width front back within)
     ∙ ap (λ l. item_in (take width front) ∷ l) later
-  where
-    mul-suc : (x n : ℕ) → x * suc n ≡ x * n + x
-    mul-suc x n = omega arith
 
 -- an item after those that were taken
 pub row_taken : {A : Type 0} (item_in : List ℕ → A) (width count : ℕ) (w v u : Awaited) (a b d : Option (List ℕ))
@@ -145,7 +142,7 @@ pub row_taken : {A : Type 0} (item_in : List ℕ → A) (width count : ℕ) (w v
     TakesRow item_in width count w a v b items more → TakesItem item_in width v b u d item → all ≡ more ++ item ∷ [] →
     TakesRow item_in width (count + 1) w a u d items all
 row_taken item_in width count w v u a b d items more all item row one pushed =
-    let next : width * (count + 1) ≡ width * count + width = mul-add-one width count in
+    let next : width * (count + 1) ≡ width * count + width = omega arith in
     record {
       bytes = row.bytes ++ one.bytes;
       size = length-append row.bytes one.bytes ∙ ap (λ n. n + length one.bytes) row.size ∙ ap (λ n. width * count + n) one.size ∙ sym next;
@@ -154,9 +151,6 @@ row_taken item_in width count w v u a b d items more all item row one pushed =
           ∙ ap (λ x. items ++ (row_in item_in width count row.bytes ++ x ∷ [])) one.encoded
           ∙ ap (λ l. items ++ l) (sym (row_in-more item_in width count row.bytes one.bytes row.size one.size));
     }
-  where
-    mul-add-one : (x n : ℕ) → x * (n + 1) ≡ x * n + x
-    mul-add-one x n = omega arith
 
 untaken : (a b : Option (List ℕ)) (bytes : List ℕ) → Consumes (prepend_known [] a) b bytes → Consumes a b bytes
 untaken None b bytes t = tt

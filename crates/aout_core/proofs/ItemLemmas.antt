@@ -1,7 +1,7 @@
 -- Items in a row, several of which are taken from a block or put into one.
 use Rattle.std.proofs.Common.{◌≡◌, ℕ, zero, suc, ◌+◌, ◌*◌, ◌∷◌, ◌<◌, ◌≤◌, List, [], ◌++◌, length, take, drop, Option, sym, ◌∙◌, ap, subst}
 use Rattle.std.proofs.Common.{arith, append_assoc, append-nil, length-append, length-take-le, length-drop, take-append-drop, suc-add}
-use Rattle.std.proofs.Common.{zero-add, add-zero}
+use Rattle.std.proofs.Common.{zero-add, add-zero, mul-suc}
 use Rattle.std.proofs.lemmas.List.{take-append-le, drop-append-le}
 use Rattle.std.proofs.{lemmas.Grind.flat_map-append, KnownBytes.Consumes-nil, Math.Nat.mul-le-mul_left}
 use Rattle.std.specs.{List.flat_map, Io.KnownBytes.prepend_known}
@@ -16,16 +16,13 @@ row_in-append : {A : Type 0} (item_in : List ℕ → A) (width m n : ℕ) (front
 row_in-append item_in width zero n [] back whole = ap (λ k. row_in item_in width k back) (zero-add n)
 row_in-append item_in width zero n (a ∷ front) back whole = absurd (omega arith)
 row_in-append item_in width (suc m) n front back whole =
-    let next : width * suc m ≡ width * m + width = mul-suc width m in
+    let next = mul-suc width m in
     let within : width ≤ length front = omega arith in
     let later = row_in-append item_in width m n (drop width front) back (omega (arith, length-drop width front)) in
     ap (λ k. row_in item_in width k (front ++ back)) (suc-add m n)
     ∙ ap (λ l. item_in l ∷ row_in item_in width (m + n) (drop width (front ++ back))) (take-append-le width front back within)
     ∙ ap (λ l. item_in (take width front) ∷ row_in item_in width (m + n) l) (drop-append-le width front back within)
     ∙ ap (λ l. item_in (take width front) ∷ l) later
-  where
-    mul-suc : (x n : ℕ) → x * suc n ≡ x * n + x
-    mul-suc x n = omega arith
 
 -- a row needs no more bytes than its own
 pub row_in-front : {A : Type 0} (item_in : List ℕ → A) (width n : ℕ) (bytes : List ℕ) → width * n ≤ length bytes →
@@ -111,10 +108,7 @@ one_missing item_in width m count w u a b items more row fewer within =
     let left = row.takes.left in
     let size = row.size in
     let up : width * (m + 1) ≤ width * count = mul-le-mul_left width (omega arith) in
-    let next : width * (m + 1) ≡ width * m + width = mul-one-more width m in omega arith
-  where
-    mul-one-more : (x n : ℕ) → x * (n + 1) ≡ x * n + x
-    mul-one-more x n = omega arith
+    omega arith
 
 -- a part of a list of texts, and what stands after it
 parts_encoded : {A : Type 0} (encoding : A → List ℕ) (rest few after : List A) (done all : List ℕ) → rest ≡ few ++ after →
@@ -148,8 +142,3 @@ few_broke encoding a b d waiting all rest few after split put broke =
     broke_before a d all (put.done ++ flat_map encoding few) (flat_map encoding after)
     (parts_encoded encoding rest few after put.done all split put.split)
     (broke_more a b d waiting put.done (flat_map encoding few) put.sent broke)
-
-pub all_put : {A : Type 0} (encoding : A → List ℕ) (a b : Option (List ℕ)) (waiting all : List ℕ) (rest : List A) → length rest ≡ 0 →
-    IsPutBut encoding a b waiting all rest → AppendsBut a b waiting all
-all_put encoding a b waiting all [] none put = subst (AppendsBut a b waiting) (sym (put.split ∙ append-nil put.done)) put.sent
-all_put encoding a b waiting all (x ∷ xs) none put = absurd (omega arith)

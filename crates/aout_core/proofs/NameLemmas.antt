@@ -55,7 +55,7 @@ before_nul-twice (b ∷ xs) = by (b == 0) refl (before_nul-twice xs)
     by : (c : Bool) → (b == 0) ≡ c → before_nul (before_nul xs) ≡ before_nul xs →
         before_nul (if c then [] else b ∷ before_nul xs) ≡ (if c then [] else b ∷ before_nul xs)
     by true e h = refl
-    by false e h = ap (λ c. if c then [] else b ∷ before_nul (before_nul xs)) e ∙ ap (λ l. b ∷ l) h
+    by false e h = rw (e, h) refl
 
 pub ruleset by_place = (position_or_len-nul, take-before_nul, length-before_nul-le)
 

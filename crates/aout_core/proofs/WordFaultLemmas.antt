@@ -1,19 +1,8 @@
--- Words that need no symbol, and the first bad word of two lists, one after the other.
-use Rattle.std.proofs.Common.{◌≡◌, ℕ, zero, suc, ◌+◌, ◌/◌, ◌%◌, ◌<◌, List, [], ◌∷◌, ◌++◌, length, Option, Some, None, refl, ◌∙◌, ap, arith}
-use Rattle.aout_core.specs.WellFormed.{first_of, kind_numbered, kind_fault, word_fault, first_bad_word, first_object_fault}
+-- The first bad word of two lists, one after the other.
+use Rattle.std.proofs.Common.{◌≡◌, ℕ, ◌+◌, List, [], ◌∷◌, ◌++◌, length, Option, Some, None, refl, ◌∙◌, ap, arith}
+use Rattle.aout_core.specs.WellFormed.{first_of, word_fault, first_bad_word, first_object_fault}
 use Rattle.aout_core.specs.{declared.reloc.Reloc.Reloc, declared.symbol.Symbol.Symbol, declared.object.ObjectFault.ObjectFault}
 use Rattle.aout_core.specs.{Contents.Contents}
-
-no_kind_fault : (symbols : List Symbol) (i k number : ℕ) → k < 4 → None ≡ kind_fault symbols i (kind_numbered k) number
-no_kind_fault symbols i zero number h = refl
-no_kind_fault symbols i (suc zero) number h = refl
-no_kind_fault symbols i (suc (suc zero)) number h = refl
-no_kind_fault symbols i (suc (suc (suc zero))) number h = refl
-no_kind_fault symbols i (suc (suc (suc (suc k)))) number h = absurd (omega arith)
-
--- a word without bit 3
-pub no_symbol_needed : (symbols : List Symbol) (i : ℕ) (r : Reloc) → r.0 / 8 % 2 ≡ 0 → None ≡ word_fault symbols i r
-no_symbol_needed symbols i r h = no_kind_fault symbols i (r.0 / 2 % 8) (r.0 / 16) (omega arith)
 
 first_of-assoc : (a b c : Option ObjectFault) → first_of a (first_of b c) ≡ first_of (first_of a b) c
 first_of-assoc None b c = refl
