@@ -1,6 +1,6 @@
 -- Linking preserves instructions.
 use Rattle.std.proofs.Common.{rules, ◌≡◌, ℕ, zero, suc, ◌+◌, ◌*◌, ◌/◌, ◌%◌, ◌<◌, ◌≤◌, Bool, true, false, eqb, if◌then◌else◌, List, [], ◌∷◌}
-use Rattle.std.proofs.Common.{◌++◌, length, drop, Some, refl, sym, ◌∙◌, ap, subst, append_assoc, arith}
+use Rattle.std.proofs.Common.{◌++◌, length, drop, drop-drop, Some, refl, sym, ◌∙◌, ap, subst, append_assoc, arith}
 use Rattle.std.proofs.lemmas.Option.{slice_get_within}
 use Rattle.std.proofs.{lemmas.List.length-drop, lemmas.List.Sums.sum_by-append, lemmas.Bool.eqb-true}
 use Rattle.std.specs.{Prelude.slice_get, Prelude.not, List.AllByRecursion}
@@ -13,7 +13,7 @@ use Rattle.link_out.specs.Results.{Outcome}
 use Rattle.link_laws.specs.relation.Relocated.{IsRelocated}
 use Rattle.link_laws.specs.relation.LinkedFrom.{IsLinkedFrom}
 use Rattle.instructions.specs.{Lines.lines, Relocated.is_relocated}
-use Rattle.instructions.proofs.AlikeLemmas.{Pairs, Same, get_from, drop_twice, BeginAlike, begin_alike}
+use Rattle.instructions.proofs.AlikeLemmas.{Pairs, Same, get_from, BeginAlike, begin_alike}
 use Rattle.laws.specs.Instructions.{HasWholeText, IsLinkedWord, AreLinesOf, InstructionsAreKept, TextsAreKept}
 use Rattle.laws.proofs.LoadedLemmas.{whole_words}
 
@@ -112,7 +112,7 @@ module _ (forced : List (List ℕ)) (os : List Contents) (o : Choices) (x : Outc
       let next : total TextSeg before / 2 + length k.text_words ≡ total TextSeg (before ++ k ∷ []) / 2 = omega (arith, later.0.fits.text) in
       let there : drop (length k.text_words) (drop (total TextSeg before / 2) x.file.text_words)
       ≡ drop (total TextSeg (before ++ k ∷ []) / 2) x.file.text_words =
-      drop_twice (total TextSeg before / 2) (length k.text_words) x.file.text_words ∙ ap (λ n. drop n x.file.text_words) next in
+      drop-drop (length k.text_words) (total TextSeg before / 2) x.file.text_words ∙ ap (λ n. drop n x.file.text_words) next in
       let more = texts_from (before ++ k ∷ []) after (e ∙ sym (append_assoc before (k ∷ []) after))
       (all_append before k first later.0) later.1 whole.1 in (
         b.front,

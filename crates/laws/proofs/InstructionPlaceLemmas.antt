@@ -1,13 +1,13 @@
 -- An instruction stands in a linked file wherever it begins in an object.
 use Rattle.std.proofs.Common.{rules}
-use Rattle.std.proofs.Common.{◌≡◌, ℕ, ◌+◌, ◌/◌, ◌≤◌, Bool, false, List, [], ◌∷◌, ◌++◌, length, drop, refl, sym, ◌∙◌, ap, subst, arith}
+use Rattle.std.proofs.Common.{◌≡◌, ℕ, ◌+◌, ◌/◌, ◌≤◌, Bool, false, List, [], ◌∷◌, ◌++◌, length, drop, drop-drop, refl, sym, ◌∙◌, ap, subst, arith}
 use Rattle.std.proofs.lemmas.List.{length-drop}
 use Rattle.std.specs.Prelude.{slice_get}
 use Rattle.aout_core.specs.{declared.symbol.Segment.TheVariants.TextSeg, Contents.Contents}
 use Rattle.link_session.specs.{Starts.total, Sessions.IsObject}
 use Rattle.link_session.proofs.ListLemmas.{all_split}
 use Rattle.instructions.specs.{Instructions.instruction_of, Lines.line_of, Relocated.is_relocated, Alike.AlikeLine, Alike.is_cut}
-use Rattle.instructions.proofs.AlikeLemmas.{Pairs, Same, drop_twice, pairs_from, line_alike}
+use Rattle.instructions.proofs.AlikeLemmas.{Pairs, Same, pairs_from, line_alike}
 use Rattle.laws.specs.Instructions.{IsLinkedWord, InstructionsAreThere}
 use Rattle.laws.proofs.InstructionLemmas.{linked_pairs, linked_same, text_within}
 
@@ -46,4 +46,4 @@ instructions_there forced before k after o x all small l i w f here still whole 
     let long : length (w ∷ f) ≤ length (drop i vs) =
     omega (arith, here_long, space, length-drop i k.text_words, length-drop i vs, length-drop n x.file.text_words) in
     let s = line_in_by P moves i w f (drop i vs) long pairs same still whole in
-    record { more = s.more; there = sym (drop_twice n i x.file.text_words) ∙ s.there; alike = s.alike }
+    record { more = s.more; there = sym (drop-drop i n x.file.text_words) ∙ s.there; alike = s.alike }
