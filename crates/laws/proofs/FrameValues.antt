@@ -229,7 +229,7 @@ module _ (forced : List (List ℕ)) (before : List Contents) (k l : Contents) (a
       by_test true e =
           let short = ltb-true place (length (local_rows p os)) e in
           let same : slice_get (local_rows p os ++ external_rows p) place ≡ slice_get (local_rows q ps ++ external_rows q) place = search
-            (rules, slice_get_front, beside_same, all_locals_differ, all_rows_counted) in
+          (rules, slice_get_front, beside_same, all_locals_differ, all_rows_counted) in
           subst (λ (s : Option Symbol). SymbolsStay k l (slice_get (local_rows p os ++ external_rows p) place) s) same
           (stays_self k l (slice_get (local_rows p os ++ external_rows p) place))
       by_test false e =
