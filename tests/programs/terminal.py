@@ -114,6 +114,8 @@ SESSION = [
     ("link program", "linked program 0\n"),
     ("withdraw", "withdrew twice.o\n"),
     ("add added", "added: cannot open\n"),
+    # an answer as long as that of an addition
+    ("add \udcffabcd", "bad command\n"),
     ("list", "main.o\n"),
     ("withdraw", "withdrew main.o\n"),
     ("withdraw", "nothing to withdraw\n"),
@@ -129,6 +131,7 @@ HINTS = [
     ("HELP", "Commands are in small letters: help"),
     (" add x", "A command begins its line: add x"),
     ("link", "link needs a path: link PATH"),
+    ("link ", "link needs a path: link PATH"),
     ("Link ", "link needs a path: link PATH"),
     ("add\tx", "add has one blank after it: add PATH"),
     ("withdraw now", "withdraw has nothing after it"),
@@ -181,7 +184,7 @@ class Terminal:
         os.close(slave)
 
     def type(self, line):
-        os.write(self.master, line.encode() + b"\n")
+        os.write(self.master, line.encode("utf-8", "surrogateescape") + b"\n")
 
     def end_input(self):
         os.write(self.master, b"\4")
@@ -390,9 +393,9 @@ def check_mixed():
     script = "".join(line + "\n" for line, _ in SESSION) + "quit\n"
     answers = "".join("bad command\n" if line.strip() in OWN else answer for line, answer in SESSION[:-len(HINTS)])
     answers += "bad command\n" * (len(HINTS) + 1)
-    same("session: through pipes", through_pipes(["session"], script.encode()), ("", answers, 1))
+    same("session: through pipes", through_pipes(["session"], script.encode("utf-8", "surrogateescape")), ("", answers, 1))
     terminal = Terminal(["session"], (1, 2))
-    terminal.process.stdin.write(script.encode())
+    terminal.process.stdin.write(script.encode("utf-8", "surrogateescape"))
     terminal.process.stdin.close()
     terminal.process.stdin = None
     shown, _, _, status = terminal.ended()
