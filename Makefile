@@ -1,7 +1,7 @@
 # v7: see README.md. The command `rt` of the Rattle kit has to be on the PATH, but for what needs no kit.
 #
 #: make                       proves and builds the five programs into build/                              kit          20 minutes
-#: make quick                 compiles them without proof into build/quick, and shows a session            kit          2 minutes
+#: make quick                 compiles them and libv7 without proof into build/quick, shows a session       kit, cc      3 minutes
 #: make lib wheel             proves and builds libv7, and makes its wheel of Python                       kit          20 minutes
 #: make dist                  makes the packages of a release in dist/                                     kit          25 minutes
 #: make page                  makes the page of the lesson, build/lesson.html; `lesson` prints its steps   kit          10 minutes
@@ -16,7 +16,7 @@
 #: make check-wrong-bodies    has the prover refuse those of changed crates, or of NAMES=CRATE              kit          to 2 hours
 #: make planted               plants BUGS=NAME, or all, and sees that tests find them                      kit          25 minutes
 #: make demo                  proves v7, and shows a session and a link with it                            kit          10 minutes
-#: make recheck               proves one claim again, and shows how a broken line is refused               kit          2 minutes
+#: make recheck               proves two claims again, and shows how broken lines are refused             kit          6 minutes
 #: make bench                 counts instructions, times and memory                                        valgrind     5 minutes
 #: make help                  shows this. `python3 -m tests list` names each test of a tier, `python3 -m tests NAME` runs it
 PREFIX ?= /usr/local
@@ -35,7 +35,7 @@ endif
 .NOTPARALLEL:
 .SECONDEXPANSION:
 .PHONY: all quick lib wheel dist lesson page install install-lib uninstall clean help which check-text test gate check check-all \
-	check-wrong-bodies planted demo recheck bench
+	check-wrong-bodies planted demo recheck bench build/quick/libv7_c.a
 
 PROGRAMS := $(addprefix build/,v7 v7-from-gnu v7-object v7-explain v7-lesson)
 all: $(PROGRAMS)
@@ -67,28 +67,35 @@ KIT = $(dir $(shell rt doc))
 
 lib: build/libv7.a build/libv7.so
 
+# where it is: proved, and as `make quick` leaves it
+PLACES := build build/quick
 build/libv7.a: crates/v7_c/out/libv7_c.a
-	mkdir -p build
-	rm -f build/libv7.a
-	$(LD) -r -o build/libv7.o --whole-archive crates/v7_c/out/libv7_c.a --no-whole-archive $(KIT)c/liblibc_c.a
-	$(OBJCOPY) --wildcard --keep-global-symbol='v7_*' build/libv7.o
-	$(AR) rcsD build/libv7.a build/libv7.o
-	rm build/libv7.o
+build/quick/libv7.a: build/quick/libv7_c.a
+$(PLACES:=/libv7.a):
+	mkdir -p $(@D)
+	rm -f $@
+	$(LD) -r -o $(@D)/libv7.o --whole-archive $< --no-whole-archive $(KIT)c/liblibc_c.a
+	$(OBJCOPY) --wildcard --keep-global-symbol='v7_*' $(@D)/libv7.o
+	$(AR) rcsD $@ $(@D)/libv7.o
+	rm $(@D)/libv7.o
 
-build/$(SOFILE): build/libv7.a packaging/libv7.map
-	$(CC) $(CFLAGS) $(LDFLAGS) -shared -o build/$(SOFILE) -Wl,-soname,$(SONAME) -Wl,--version-script=packaging/libv7.map -Wl,-z,defs \
-		-Wl,--whole-archive build/libv7.a -Wl,--no-whole-archive
+$(PLACES:=/$(SOFILE)): %/$(SOFILE): %/libv7.a packaging/libv7.map
+	$(CC) $(CFLAGS) $(LDFLAGS) -shared -o $@ -Wl,-soname,$(SONAME) -Wl,--version-script=packaging/libv7.map -Wl,-z,defs \
+		-Wl,--whole-archive $< -Wl,--no-whole-archive
 
-build/libv7.so: build/$(SOFILE)
-	ln -sf $(SOFILE) build/$(SONAME)
-	ln -sf $(SONAME) build/libv7.so
+# no symbolic links: the gate refuses those wherever they stand
+$(PLACES:=/libv7.so): %/libv7.so: %/$(SOFILE)
+	ln -f $< $(@D)/$(SONAME)
+	ln -f $< $@
 
-# the libraries, the headers, what pkg-config reads, the manual page, and the documents that the header cites; no program is needed
+# the libraries, the headers, what pkg-config reads, the manual page, and the documents that the header cites; no program is needed.
+# FROM=build/quick installs what is not proved
 STAGE := build/stage
-install-lib: lib
+FROM ?= build
+install-lib: $(FROM)/libv7.so
 	rm -rf $(STAGE)
 	mkdir -p $(STAGE)$(LIBDIR)/pkgconfig $(STAGE)$(INCLUDEDIR) $(STAGE)$(PREFIX)/share/man/man3
-	cp build/libv7.a build/$(SOFILE) $(STAGE)$(LIBDIR)
+	cp $(FROM)/libv7.a $(FROM)/$(SOFILE) $(STAGE)$(LIBDIR)
 	ln -sf $(SOFILE) $(STAGE)$(LIBDIR)/$(SONAME)
 	ln -sf $(SONAME) $(STAGE)$(LIBDIR)/libv7.so
 	cp include/v7.h include/v7.hpp $(STAGE)$(INCLUDEDIR)
@@ -107,10 +114,14 @@ wheel: lib
 dist:
 	python3 packaging/dist.py
 
-quick:
-	@python3 -m tools.compiling build/quick
+# all as a release has it, but unproved. What has not changed is not compiled again
+build/quick/libv7_c.a:
+	@python3 -m tools.sketch $(@D)
+
+quick: build/quick/libv7.so
 	@V7_BUILD=build/quick python3 -m tests.programs.demo
-	@echo 'Nothing of this is proved: make proves it. next: PATH=$$PWD/build/quick:$$PATH, docs/TUTORIAL.md'
+	@echo 'build/quick has the programs, libv7.so and libv7.a. Nothing of this is proved: make and make lib prove it.'
+	@echo 'next: PATH=$$PWD/build/quick:$$PATH, docs/TUTORIAL.md'
 
 demo: build/v7
 	@python3 -m tests.programs.demo
@@ -139,7 +150,7 @@ help:
 	@sed -n 's/^#: \{0,1\}//p' Makefile
 
 which:
-	@python3 -m tests which $(or $(CHANGED),$$({ git diff --name-only $(or $(SINCE),HEAD); git ls-files -o --exclude-standard; } | sort -u))
+	@SINCE=$(SINCE) python3 -m tests which $(CHANGED)
 
 check-text:
 	@python3 -m tests text
@@ -153,9 +164,9 @@ gate:
 	python3 -m tests.costs.gate_times rt ci
 
 # the cheapest first, so that a fault shows early. The gate leaves the programs that the tests of `check` run. Of crates that have changed,
-# as many wrong bodies are tried as half an hour allows
+# as many wrong bodies are tried as a quarter of an hour allows
 check:
-	@MINUTES=30 python3 -m tests parts 'make quick' 'make test' 'make gate' 'make check-wrong-bodies' \
+	@MINUTES=15 python3 -m tests parts 'make quick' 'make test' 'make gate' 'make check-wrong-bodies' \
 		'make all lib build/library_uses' 'python3 -m tests check' $(MORE)
 
 # all wrong bodies, in place of those of crates that have changed
@@ -168,7 +179,7 @@ check-wrong-bodies:
 	python3 -m tests.wrong_bodies.wrong_bodies $(or $(filter-out all,$(NAMES)),$(if $(NAMES),,-c $(if $(MINUTES),-m $(MINUTES))))
 	$(if $(filter-out all,$(NAMES)),,python3 -m tests.wrong_bodies.wrong_bodies --try)
 
-# the bugs of docs/internals/PLANTED.md, each alone, as many side by side as there are processors
+# the bugs of tests/cases/PLANTED.md, each alone, as many side by side as there are processors
 planted:
 	python3 -m tests.cases.planted $(BUGS)
 
@@ -188,7 +199,7 @@ install: $(PROGRAMS)
 	rm -rf $(STAGE)
 
 uninstall:
-	python3 packaging/installed.py remove '$(DESTDIR)' $(PREFIX)
+	python3 packaging/installed.py remove $(PREFIX)
 
 clean:
 	rm -rf build dist

@@ -15,7 +15,7 @@ A line has labels, each with a colon, an instruction or one of the directives be
 
 An expression X is a name, a number, or a name with a number added or subtracted. Numbers are octal, or decimal with a point at their
 end; 'c is a character. 1f and 1b are the next and the last label 1. Operands are r0, (r0), (r0)+, -(r0), X(r0), X, $X, and these after *
-or @. A name that begins with L or ~ is not put into the symbol table. jbr, jeq and the like are branches, or longer where that is too
+or @. A name that begins with L or ~ is not put into the symbol table. That has eight bytes of a name, so two names that are equal in these are refused. jbr, jeq and the like are branches, or longer where that is too
 far."""
 import re
 import struct
@@ -143,7 +143,7 @@ class Assembly:
 
     def __init__(self, source):
         self.statements = list(statements(source))
-        # names in the order in which they are mentioned; where each is; and jumps that are too far for a branch
+        # names in the order in which they are mentioned, each with its first mention; where each is; and jumps that are too far for a branch
         self.mentioned, self.places, self.globals, self.commons, self.far = {}, {}, set(), {}, set()
         self.sizes = {TEXT: 0, DATA: 0, BSS: 0}
         self.count_labels()
@@ -192,24 +192,24 @@ class Assembly:
             if label.text in self.places:
                 raise label.mistake(f"{label.text} is defined twice")
             self.places[label.text] = (part, at)
-            self.mentioned.setdefault(label.text)
+            self.mentioned.setdefault(label.text, label)
         elif name == "=" and one.operands[0].text != ".":
             self.places[one.operands[0].text] = (ABSOLUTE, self.number(one.operands[1]))
-            self.mentioned.setdefault(one.operands[0].text)
+            self.mentioned.setdefault(one.operands[0].text, one.operands[0])
         elif name == ".globl":
             for operand in one.operands:
-                self.mentioned.setdefault(operand.text)
+                self.mentioned.setdefault(operand.text, operand)
                 self.globals.add(operand.text)
         elif name == ".comm":
             self.need(one, 2)
-            self.mentioned.setdefault(one.operands[0].text)
+            self.mentioned.setdefault(one.operands[0].text, one.operands[0])
             self.commons[one.operands[0].text] = self.number(one.operands[1])
         elif name in JUMPS:
             jumps.append((one, at))
         for operand in one.operands if name in OPERANDS or name == ".word" else []:
             found = re.search(rf"(?<![\w~.'])(?:{NAME})", operand.text)
             if found and found[0] not in REGISTERS and not found[0][0].isdigit():
-                self.mentioned.setdefault(found[0])
+                self.mentioned.setdefault(found[0], operand)
 
     def need(self, one, count):
         if len(one.operands) != count:
@@ -373,8 +373,13 @@ class Assembly:
         return {TEXT: 0, DATA: self.sizes[TEXT], BSS: self.sizes[TEXT] + self.sizes[DATA]}[part]
 
     def symbols(self):
-        """The symbol table, in the order in which the names are mentioned: name, type and value."""
+        """The symbol table, in the order in which the names are mentioned: name, type and value. It has eight bytes of each name."""
+        cut = {}
         for name in self.mentioned:
+            is_local = name in self.places and name not in self.globals
+            other = name if is_local and name.startswith(("L", "~", *"0123456789")) else cut.setdefault(name.encode()[:8], name)
+            if other != name:
+                raise self.mentioned[name].mistake(f"{name} and {other} are equal in eight bytes")
             if name in self.places:
                 kind, at = self.places[name]
                 if name in self.globals or not name.startswith(("L", "~", *"0123456789")):

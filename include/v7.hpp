@@ -70,11 +70,13 @@ struct Parts {
 
 inline v7_word word(std::uint16_t value, std::uint16_t reloc = V7_NUMBER) { return {value, reloc}; }
 
-// A name of more than 8 bytes is cut, as the linker does.
+// Throws std::length_error if the name has more than 8 bytes.
 inline v7_symbol symbol(const std::string &name, std::uint16_t type, std::uint16_t value = 0)
 {
     v7_symbol made = {{0}, type, value};
-    std::memcpy(made.name, name.data(), name.size() < 8 ? name.size() : 8);
+    if (name.size() > sizeof made.name)
+        throw std::length_error("a name has at most 8 bytes: " + name);
+    std::memcpy(made.name, name.data(), name.size());
     return made;
 }
 

@@ -319,7 +319,7 @@ def library_files(root):
     shutil.copytree(f"{doc}/v7/licences", f"{doc}/libv7-0/licences")
     to = f"{doc}/libv7-dev"
     examples = [*(f"examples/{folder}" for folder in ("c", "cpp", "rust")), *sorted(glob.glob("examples/*.o"))]
-    installed.documents(to, [*installed.LIBRARY_DOCUMENTS, *examples], False)
+    installed.documents(to, [*installed.LIBRARY_DOCUMENTS, *examples], True)
     module = f"{root}/usr/lib/python3/dist-packages/v7"
     write(f"{module}/__init__.py", read_bytes("packaging/python/v7.py"))
     write(f"{module}/py.typed", "")

@@ -4,8 +4,8 @@ into its place. The packages of a release have the same, by packaging/dist.py.
 
 usage: packaging/installed.py put BUILD FOLDER          what the programs of the folder BUILD come with, below FOLDER
        packaging/installed.py library FOLDER            the documents of libv7, below FOLDER
-       packaging/installed.py copy STAGE DEST PREFIX    copies what is below STAGE/PREFIX to DEST/PREFIX, and notes it there
-       packaging/installed.py remove DEST PREFIX        takes away what was noted
+       packaging/installed.py copy STAGE DEST PREFIX    copies what is below STAGE/PREFIX to DEST/PREFIX; without a DEST it notes that there
+       packaging/installed.py remove PREFIX             takes away what was noted
 
 A link of a document leads to what is installed too, or else is plain text. For HTML it takes cmark-gfm and mandoc.
 """
@@ -125,10 +125,10 @@ def page_of(text, title, up):
             f'<link rel="stylesheet" href="{up}style.css"></head>\n<body>\n{body}</body>\n</html>\n')
 
 
-def manual_page(path):
-    """A page of the manual as HTML, without links to pages of others."""
-    made = subprocess.run(["mandoc", "-T", "html", "-O", "man=%N.%S.html,style=../style.css", path], stdout=subprocess.PIPE, check=True, text=True)
-    kept = lambda found: found[0] if os.path.exists(f"{TOP}/man/{found[1][:-len('.html')]}") else found[2]
+def manual_page(path, shipped):
+    """A page of the manual as HTML, without links to pages that are not shipped."""
+    made = subprocess.run(["mandoc", "-T", "html", "-O", "man=%N.%S.html,style=../style.css", f"{TOP}/{path}"], stdout=subprocess.PIPE, check=True, text=True)
+    kept = lambda found: found[0] if f"man/{found[1][:-len('.html')]}" in shipped else found[2]
     return re.sub(r'<a class="Xr" href="([^"]*)">(.*?)</a>', kept, made.stdout)
 
 
@@ -160,7 +160,8 @@ def documents(to, names, has_html, made=()):
     """Documents and examples below a folder. README.md there is that of a release. `made` are the files that are there besides."""
     shipped = {path: path for path in files_in(names)}
     if has_html:
-        shipped.update((path, f"{path}.html") for path in files_in(["man"]))
+        # the page of libv7 comes with libv7 alone
+        shipped.update((path, f"{path}.html") for path in files_in(["man"]) if path.endswith(".3") != ("docs" in names))
     shipped.update((path, path) for path in made)
     if "docs" in names:
         shipped.update({README: "README.md", "README.md": "README.md"})
@@ -168,7 +169,7 @@ def documents(to, names, has_html, made=()):
         if path in ("README.md", *made):
             continue
         if path.startswith("man/"):
-            write(f"{to}/{place}", manual_page(f"{TOP}/{path}"))
+            write(f"{to}/{place}", manual_page(path, shipped))
         elif not path.endswith(".md"):
             write(f"{to}/{place}", read_bytes(f"{TOP}/{path}"))
         else:
@@ -211,7 +212,8 @@ def put(build, to, has_html=None, made=()):
 # --- into its place
 
 def copy(stage, dest, prefix):
-    """Copies with modes of its own, whatever the mask is, and notes each file and each folder that was not there."""
+    """Copies with modes of its own, whatever the mask is, and notes each file and each folder that was not there. A package, which is made
+    in a folder `dest`, has no such note."""
     root = os.path.abspath(dest + prefix)
     noted = [*read(f"{root}/{NOTED}").split("\n")[:-1]] if os.path.exists(f"{root}/{NOTED}") else []
 
@@ -233,14 +235,16 @@ def copy(stage, dest, prefix):
             if not os.path.islink(place):
                 os.chmod(place, 0o755 if os.path.basename(at) == "bin" else 0o644)
             noted.append(os.path.relpath(place, root))
+    if dest:
+        return
     make(os.path.dirname(f"{root}/{NOTED}"))
     write(f"{root}/{NOTED}", "".join(f"{path}\n" for path in dict.fromkeys(noted)))
     os.chmod(f"{root}/{NOTED}", 0o644)
 
 
-def remove(dest, prefix):
+def remove(prefix):
     """Takes away the files that were noted, and the folders that were made for them and are empty now."""
-    root = os.path.abspath(dest + prefix)
+    root = os.path.abspath(prefix)
     if not os.path.exists(f"{root}/{NOTED}"):
         sys.exit(f"{root}/{NOTED} is not there: nothing was installed")
     noted = read(f"{root}/{NOTED}").split("\n")[:-1]
@@ -253,7 +257,7 @@ def remove(dest, prefix):
 
 
 def main(words):
-    kinds = {"put": put, "library": lambda to: documents(to, LIBRARY_DOCUMENTS, False), "copy": copy, "remove": remove}
+    kinds = {"put": put, "library": lambda to: documents(to, LIBRARY_DOCUMENTS, has_tools()), "copy": copy, "remove": remove}
     if len(words) < 2 or words[0] not in kinds:
         sys.exit(__doc__)
     kinds[words[0]](*words[1:])

@@ -64,9 +64,8 @@ function allReferences(state) {
     const layout = isLinked(state) ? view.layout : -1;
     return state.list.flatMap((number, place) => PARTS.flatMap((part, which) => [...DATA.objects[number].references[part]].map(([index, reference]) => {
         const id = wordKey(part, state.fronts[place][which] + 2 * index);
-        const own = DATA.objects[number].groupTargets[reference.group];
-        const meant = placeOf(state, state.referenceStarts[place] + reference.number, layout);
-        return { place, part, index, id, to: idOfPlace(meant), number: meant % WORD, name: own.kind < 0 ? own.name : "" };
+        const to = placeOf(state, state.referenceStarts[place] + reference.number, layout);
+        return { place, part, index, id, to, name: DATA.objects[number].groups[reference.group].name };
     })));
 }
 
@@ -169,7 +168,7 @@ function sizes() {
 let drawn = { arrows: [], chains: [], left: 0, references: [] };
 // the size of the image that was drawn over
 let drawnSize = "";
-const sizeText = ({ width, height }) => `${width} ${height}`;
+const areaText = ({ width, height }) => `${width} ${height}`;
 
 // chooses what is drawn, and says what is not
 function chooseDrawn(state) {
@@ -188,13 +187,13 @@ function draw() {
     const lines = drawn.arrows.flatMap(({ rows, key, lane }) => rows.map((row) => arrow(row, key, lane, box, size)));
     const chains = drawn.chains.map((chain) => chainLine(chain, box, size));
     byId("drawing").replaceChildren(...lines, ...chains);
-    drawnSize = sizeText(frame);
+    drawnSize = areaText(frame);
 }
 
 // draws again when the layout changes: by size, zoom, fonts, and on paper
 function watchLayout() {
     new ResizeObserver(() => {
-        if (drawnSize !== sizeText(byId("image").getBoundingClientRect())) draw();
+        if (drawnSize !== areaText(byId("image").getBoundingClientRect())) draw();
     }).observe(byId("image"));
     document.fonts.ready.then(draw);
     for (const name of ["resize", "beforeprint", "afterprint"]) window.addEventListener(name, draw);

@@ -71,7 +71,7 @@ function foldRow(context, place, part) {
 
 // a segment's part of the image, with its title: in a link from one address to another
 function groupElement(name, bytes, range, rows = []) {
-    const sizes = [...(bytes === null ? [] : [`${bytes} bytes`]), ...(range ? [`${shown(range[0])} to ${shown(range[1])}`] : [])];
+    const sizes = [...(bytes === null ? [] : [bytesText(bytes)]), ...(range ? [`${shown(range[0])} to ${shown(range[1])}`] : [])];
     const title = make("h3", "", name, ...sizes.flatMap((text) => [" ", make("span", "size", text)]));
     title.setAttribute("role", "presentation");
     const element = withAttributes(document.querySelector(`#image > #${name}`) ?? make("div", "segment"), { id: name, role: "group", "aria-label": title.textContent });
@@ -94,47 +94,49 @@ function objectRows(context, place, part) {
 }
 
 // ---- places that are no words
-// the names at places that are no words, by the ids of these: each with where it is, and its labels
+// the labels at places that are no words, by the ids of these
 function namedSpots(state) {
     const named = new Map();
     for (const one of namesOf(state)) {
         const id = placeOfName(state, one);
-        const number = isLinked(state) ? symbolOf(state, one.i, view.layout).value : one.number;
-        if (id && !isWordKey(id)) named.set(id, { number, labels: [...(named.get(id)?.labels ?? []), ["span", "label", `${one.name}:`]] });
+        if (id && !isWordKey(id)) named.set(id, [...(named.get(id) ?? []), ["span", "label", `${one.name}:`]]);
     }
     return named;
 }
 
-// the places that are no words, by their ids: those that words refer to, and the ends of segments that have names
-function spotsOf(state, named) {
-    const ends = [...named].filter(([id]) => id.endsWith("-end")).map(([id, { number }]) => [id, number]);
-    return new Map([...ends, ...allReferences(state).filter(({ to }) => to && !isWordKey(to)).map(({ to, number }) => [to, number])]);
+// the ids of the places that are no words: those that words refer to, and the ends of segments that have names
+const spotsOf = (state, named) => new Set([...[...named.keys()].filter((id) => id.endsWith("-end")), ...allReferences(state).map(({ to }) => to).filter((to) => to && !isWordKey(to))]);
+
+// where a place is that is no word: its offset, or in a link its address
+function spotNumber({ state, bases }, id) {
+    const [kind, what, beyond] = id.split("-");
+    if (what !== "end") return Number(beyond ?? what) + (bases && kind === "bss" && !beyond ? bases[3] : 0);
+    return bases ? bases[{ text: 0, data: 2, bss: 4 }[kind]] : sizeOf(state, kind);
 }
 
 // whether a place is before its segment
-const isBefore = (id, number) => id.includes("-beyond-") && number >= WORD / 2;
+const isBefore = (id) => id.includes("-beyond-") && Number(id.split("-")[2]) >= WORD / 2;
 
 // the row of a place that is no word: in bss or in commons, the end of a segment, or a place before it, after it or outside of all
 function spotRow(context, id, className = "word spot") {
-    const [kind, what, beyond] = id.split("-");
-    const number = context.spots.get(id) ?? Number(beyond ?? what);
-    const base = context.bases && /^bss-\d/.test(id) ? context.bases[3] : 0;
-    const before = isBefore(id, number) ? small(WORD - number) : "";
-    const labels = (context.named.get(id)?.labels ?? []).flatMap((label) => [label, " "]);
-    const said = before ? `${before} bytes before ${kind}` : { end: `the end of ${kind}`, beyond: `after ${kind}` }[what] ?? (kind === "outside" ? "outside the program" : `in ${kind === "common" ? "commons" : kind}`);
-    const row = rowOf(id, className, id, [["span", "offset", before ? `\u2212${before}`.padStart(6, "\u2007") : column(base + number)], ["span", "meaning", ...labels, said]]);
+    const [kind, what] = id.split("-");
+    const number = spotNumber(context, id);
+    const before = isBefore(id) ? small(WORD - number) : "";
+    const labels = (context.named.get(id) ?? []).flatMap((label) => [label, " "]);
+    const said = before ? `${bytesText(WORD - number)} before ${kind}` : { end: `the end of ${kind}`, beyond: `after ${kind}` }[what] ?? (kind === "outside" ? "outside the program" : `in ${kind === "common" ? "commons" : kind}`);
+    const row = rowOf(id, className, id, [["span", "offset", before ? `\u2212${before}`.padStart(6, "\u2007") : column(number)], ["span", "meaning", ...labels, said]]);
     return withAttributes(row, { "aria-label": row.textContent.replace(/\s+/g, " ").trim() });
 }
 
 // the rows of bss or of commons: their names, and what is referred to
 function roomRows(context, kind) {
-    const ids = [...new Set([...context.named.keys(), ...context.spots.keys()])].filter((id) => id.startsWith(`${kind}-`) && /^\w+-\d+$/.test(id));
+    const ids = [...new Set([...context.named.keys(), ...context.spots])].filter((id) => id.startsWith(`${kind}-`) && /^\w+-\d+$/.test(id));
     return ids.sort((a, b) => a.split("-")[1] - b.split("-")[1]).map((id) => spotRow(context, id));
 }
 
 // the rows before a segment, or those of its end and after it
 function edgeRows(context, segment, areBefore) {
-    return [...context.spots].filter(([id, number]) => /-(end|beyond)/.test(id) && id.startsWith(segment) && isBefore(id, number) === areBefore).map(([id]) => spotRow(context, id));
+    return [...context.spots].filter((id) => /-(end|beyond)/.test(id) && id.startsWith(segment) && isBefore(id) === areBefore).map((id) => spotRow(context, id));
 }
 
 // the rows of a segment with words
@@ -177,8 +179,8 @@ function wholeGroups(context) {
     }
     if (bases && bases[2] < bases[3]) groups.push(roomGroup(context, "commons", "common", bases.slice(2, 4)));
     if (full.sizes[2] > 0) groups.push(roomGroup(context, "bss", "bss", bases?.slice(3, 5)));
-    const outside = [...context.spots].filter(([id]) => id.startsWith("outside-"));
-    if (outside.length > 0) groups.push(groupElement("outside", null, null, outside.map(([id]) => spotRow(context, id))));
+    const outside = [...context.spots].filter((id) => id.startsWith("outside-"));
+    if (outside.length > 0) groups.push(groupElement("outside", null, null, outside.map((id) => spotRow(context, id))));
     return groups;
 }
 

@@ -133,7 +133,7 @@ function switchKeys() {
 // the buttons of the bar; one that is disabled does nothing
 function watchBar() {
     const acts = {
-        withdraw, back: () => history.back(), forth: () => history.forward(), keys: switchKeys, guides: () => closeGuide(true),
+        withdraw, keys: switchKeys, guides: () => closeGuide(true),
         decimal: () => show({ ...view, decimal: !view.decimal }), whole: switchWhole, flick, presenter: switchPresenter,
         maps: () => { areMapsShown = !areMapsShown; showMaps(stateNow()); draw(); },
     };

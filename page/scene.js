@@ -90,7 +90,7 @@ function choiceParts({ state }) {
 // the words that a question asks for, and others that wait
 function questionParts({ state }, wait, shown) {
     if (wait.kind === "value") return [{ title: "The word in question", groups: groupsOf(state, [wait.word].filter((key) => !shown.has(key))) }];
-    if (!["refers", "changes"].includes(wait.kind)) return [];
+    if (wait.kind !== "changes") return [];
     const waiting = allReferences(state).filter((one) => isWaiting(state, one) && !wait.answers.includes(one.id)).map(({ id }) => id);
     const count = Math.max(6, wait.answers.length);
     const some = waiting.filter((_, i) => waiting.length <= count || Math.floor((i * count) / waiting.length) !== Math.floor(((i - 1) * count) / waiting.length));
@@ -159,7 +159,7 @@ function showScene(context) {
 // ---- rows
 // the instruction of a word, or the name that it has in its object
 function saidOf(object, word) {
-    const instruction = word.part === "text" ? object.instructions.text[object.units.text[word.index]] : "";
+    const instruction = word.part === "text" ? instructionAt(object, object.units.text[word.index], movedBy(word)) : "";
     const string = word.part === "data" ? object.strings.get(word.index) : undefined;
     return instruction || (string === undefined ? (word.own.kind < 0 ? nameText(word.own) : "a word") : quoted(string));
 }
@@ -192,7 +192,7 @@ function lineRow(context, key, className, partsFor) {
     const isTold = change !== "" && (className === "place-line" || (change !== "new" && className !== "near"));
     const row = rowOf(key, `word line ${className}`, key, [["span", "badge", String(object.number + 1)], offset, ...partsFor(from, word, object, change)], isTold ? change : "");
     if (change && !isTold) row.classList.add(change.replace(" ", "-"));
-    return withAttributes(row, { "aria-label": `${label(object.number)}, ${row.textContent.replace(/^\d+/, "").replace(/\s+/g, " ").trim()}` });
+    return withAttributes(row, { "aria-label": `${label(object.number)}, ${row.textContent.replace(/^\d+/, "").replace(/\s+/g, " ").trim()}`, "aria-description": relocText(word.own) });
 }
 
 // a word with its instruction, and what it was and is

@@ -1,8 +1,6 @@
 // Steps, the address of the page, and showing it anew. Each step is an entry of the browser's history.
 "use strict";
 
-let [at, last] = [0, 0];
-
 function hashOf({ list, gone, layout, decimal, guide, done }) {
     const parts = [];
     if (list.length > 0) parts.push(`objects=${list.map((object) => object + 1).join()}`);
@@ -21,11 +19,14 @@ function viewOf(hash) {
     const gone = Number(words.get("withdrawn") ?? 0) - 1;
     const isThere = hasState(list);
     const guide = words.has("tour") ? 0 : GUIDES[Number(words.get("lesson"))] && words.has("lesson") ? Number(words.get("lesson")) : -1;
-    const done = guide === 0 ? Number(words.get("tour")) - 1 : Number(words.get("done") ?? 0);
+    const wanted = guide === 0 ? Number(words.get("tour")) - 1 : Number(words.get("done") ?? 0);
+    const done = guide < 0 ? 0 : Math.max(0, Math.min(wanted, GUIDES[guide].steps.length - 1)) || 0;
+    const decimal = words.get("numbers") === "decimal";
+    // a question is about the objects of its lesson
+    if (guide > 0 && GUIDES[guide].steps[done + 1]?.ask) return { ...guideView(guide, done), decimal };
     return {
         list: isThere ? list : [], gone: isThere && hasState([...list, gone]) ? gone : -1,
-        layout: LAYOUTS.indexOf(words.get("addresses")), decimal: words.get("numbers") === "decimal",
-        guide, done: guide < 0 ? 0 : Math.max(0, Math.min(done, GUIDES[guide].steps.length - 1)) || 0,
+        layout: LAYOUTS.indexOf(words.get("addresses")), decimal, guide, done,
     };
 }
 
@@ -39,8 +40,9 @@ function stepText() {
 }
 
 function showBar() {
-    const isOff = { withdraw: view.list.length === 0, back: at === 0, forth: at === last, flick: view.gone < 0 && view.list.length === 0 };
-    for (const [id, off] of Object.entries(isOff)) byId(id).setAttribute("aria-disabled", String(off));
+    const isOff = { withdraw: view.list.length === 0, flick: view.gone < 0 && view.list.length === 0 };
+    for (const [id, off] of Object.entries(isOff)) byId(id).setAttribute("aria-disabled", String(off || isAsked()));
+    byId("addresses").disabled = isAsked();
     byId("addresses").value = String(view.layout);
     byId("decimal").setAttribute("aria-pressed", String(isDecimal()));
     byId("flick").setAttribute("aria-pressed", String(view.gone >= 0));
@@ -50,6 +52,13 @@ function showBar() {
 
 // whether the segments of a word and of what it refers to have places beside each other: they are one, or a link has placed both
 const isDistance = (word) => SEGMENTS[word.kind] === word.part || view.layout >= 0;
+
+// the sum of a mark, in the direction of the step
+function markSum(mark, isBack) {
+    if (mark.bound === null || mark.bound === undefined) return "";
+    const [was, bound, now] = [mark.value, mark.bound, mark.now].map(shown);
+    return isBack ? `${now} \u2212 ${bound} = ${was}` : `${was} + ${bound} = ${now}`;
+}
 
 // why a word changed in the last step
 function markText(state, mark) {
@@ -100,6 +109,8 @@ function chosenText(state) {
     if (!word) return "";
     const where = `The word at ${word.part} ${shown(word.offset)}`;
     if (word.kind < 0) return `${where} waits for ${nameText(word)}, which no object has defined.`;
+    const branch = DATA.objects[state.list[word.place]].branches[word.index];
+    if (word.part === "text" && branch !== undefined) return `${where} branches to text ${shown((branch + movedBy(word)) % WORD)}: it holds the distance in its own text, which stays as it is.`;
     if (word.kind === 0 && !word.pc) return `${where} refers to nothing: it stays as it is.`;
     const name = word.own.kind < 0 ? `${nameText(word.own)}, ` : "";
     return `${where} refers to ${name}${targetText(word)}${placeText(word, sizeOf(state, SEGMENTS[word.kind]))}${!word.pc ? "" : isDistance(word) ? ", and holds the distance to it from the place after the word" : ". The distance comes with a link, which places the segments"}.`;
@@ -208,17 +219,15 @@ function say(sentences) {
 // ---- steps
 // makes a new step
 function step(newView) {
-    at += 1;
-    last = at;
     view = newView;
-    history.pushState({ at }, "", `#${hashOf(view)}`);
+    history.pushState(null, "", `#${hashOf(view)}`);
     showAll();
 }
 
 // shows the same step in another way
 function show(newView) {
     view = newView;
-    history.replaceState({ at }, "", `#${hashOf(view)}`);
+    history.replaceState(null, "", `#${hashOf(view)}`);
     showAll();
 }
 
@@ -244,19 +253,13 @@ function choose(key, isLed) {
     unfoldCard();
 }
 
-window.addEventListener("popstate", (event) => {
-    at = event.state?.at ?? at + 1;
-    if (!event.state) last = at;
-    history.replaceState({ at }, "", location.hash);
+window.addEventListener("popstate", () => {
     view = viewOf(location.hash.slice(1));
     showAll();
 });
 
 function begin() {
-    at = history.state?.at ?? 0;
-    last = at;
     view = viewOf(location.hash.slice(1));
-    history.replaceState({ at }, "", location.hash || "#");
     const [wide, widest] = ["80em", "84em"].map((width) => window.matchMedia(`(min-width: ${width})`));
     const fold = () => { byId("more").open = widest.matches; };
     widest.addEventListener("change", fold);

@@ -2,17 +2,19 @@
 
 usage: python3 -m tests NAME ..          tests, all of a folder (`oracles`), or all of a tier: `text`, `test`, `check` or `all`
        python3 -m tests list             all tests by tier, with their seconds, and the programs that they run
-       python3 -m tests which PATH ..    the tests and the crates that a change of these files concerns
+       python3 -m tests which [PATH ..]  the tests and the crates that a change of these files concerns; without a PATH of those that
+                                         have changed since the commit SINCE, or HEAD
        python3 -m tests needs TIER       Debian's packages that the tests of this tier and of those before need, and that are missing
+       python3 -m tests needs            all that each tier needs besides, missing or not
        python3 -m tests parts COMMAND ..     runs commands up to one that fails, and prints the minutes of each. One that has passed with
-                                         this commit is not run again. A failure of one that begins with - is printed, and ends nothing
+                                         this commit is not run again
 
 Each tier has what those before do not have. The tests of `test` run side by side with programs that are compiled here without any proof,
 and with the tests that are code, of each crate that has a function with `#[test]`. Those of `check` and `all` run with the programs of
 build/, or of the folder V7_BUILD.
 
 A test says of itself in a line of its head, `tier: check, 60 seconds; programs: ..; for: ..; needs: ..; words: ..`, what it takes on an
-idle machine, the programs that it runs, the paths for which it was made, what it needs beside Python and cc, and its arguments. Where
+idle machine, the programs that it runs, the paths for which it was made, what it needs beside Python and make, and its arguments. Where
 V7_CI is set, a tool that is missing is a fault.
 """
 import glob
@@ -36,10 +38,11 @@ from tools.prove import SECONDS_EACH, crates_under
 
 TIERS = ["text", "test", "check", "all"]
 HEAD = re.compile(r"^(?:# )?tier: (\w+), (\d+) seconds((?:; \w+: [^;\n]+)*)$", re.M)
-# what tests need, as commands or modules of Python, and Debian's packages that have it
+# what tests need beside Python and make, as commands or modules of Python, and Debian's packages that have it
 PACKAGES = {
-    "cc": "gcc", "c++": "g++", "pkg-config": "pkg-config", "valgrind": "valgrind", "mypy": "mypy", "venv": "python3-venv", "rustc": "rustc",
-    "cargo": "cargo", "groff": "groff", "man": "man-db", "mandoc": "mandoc", "zsh": "zsh", "chromium": "chromium",
+    "git": "git", "cc": "gcc libc6-dev", "c++": "g++", "pkg-config": "pkg-config", "valgrind": "valgrind", "mypy": "mypy",
+    "venv": "python3-venv", "rustc": "rustc", "cargo": "cargo", "groff": "groff", "man": "man-db", "mandoc": "mandoc", "codespell": "codespell", "zsh": "zsh",
+    "chromium": "chromium",
     "chromedriver": "chromium-driver", "selenium": "python3-selenium", "firefox-esr": "firefox-esr", "debootstrap": "debootstrap",
     "lintian": "lintian", "faketime": "faketime", "cmark-gfm": "cmark-gfm", "pdp11": "simh",
 }
@@ -83,12 +86,12 @@ def listed():
 # --- running
 
 def passes(*words, env=None):
-    """What a command printed that has to succeed: its last line, after those that say what was not done."""
+    """What a command printed that has to succeed: its last line, after those that say what was not done, or what is shown to the author."""
     done = ran(*words, env=env)
     if done.status:
         raise Failed(done.said())
     lines = done.said().rstrip().split("\n")
-    return "\n".join([*(it for it in lines[:-1] if re.match(r"skipped: |(.*: )?not (run|assembled|measured|formatted)\b", it)), lines[-1]])
+    return "\n".join([*(it for it in lines[:-1] if re.match(r"skipped: |shown: |(.*: )?not (run|assembled|measured|formatted)\b", it)), lines[-1]])
 
 
 def has_module(name):
@@ -97,10 +100,31 @@ def has_module(name):
     return any(ran(python, "-c", f"import {name}").status == 0 for python in pythons)
 
 
+def is_there(tool):
+    """Whether a tool is there, and with a compiler the headers of the C library: Debian has gcc without these."""
+    if tool in ("venv", "selenium"):
+        return has_module(tool)
+    return shutil.which(tool) and (tool != "cc" or ran("cc", "-E", "-", given=b"#include <stdlib.h>\n").status == 0)
+
+
+def needed(tests):
+    """What tests need."""
+    return sorted({it for test in tests for it in test.words("needs")})
+
+
 def missing(tests):
     """What tests need and is not there."""
-    needed = sorted({it for test in tests for it in test.words("needs")})
-    return [it for it in needed if not shutil.which(it) and (it not in ("venv", "selenium") or not has_module(it))]
+    return [it for it in needed(tests) if not is_there(it)]
+
+
+def tell_needs(tests, tier=""):
+    """Prints Debian's packages that a tier and those before it need, and that are missing; or all that each tier needs."""
+    for name in [] if tier else TIERS:
+        print(f"{name}: make python3 {' '.join(PACKAGES[it] for it in needed([test for test in tests if test.tier == name]))}".rstrip())
+    before = TIERS[:TIERS.index(tier) + 1] if tier else []
+    for it in missing([test for test in tests if test.tier in before]):
+        print(PACKAGES[it])
+    return 0
 
 
 def tools_there(tests):
@@ -108,7 +132,7 @@ def tools_there(tests):
     absent = missing(tests)
     for it in absent:
         without = ", ".join(test.title() for test in tests if it in test.words("needs"))
-        print(f"{it} is missing, of Debian's package {PACKAGES[it]}: not all of {without} is run", flush=True)
+        print(f"{it} is missing, Debian's {PACKAGES[it]}: not all of {without} is run", flush=True)
     if absent and os.environ.get("V7_CI"):
         sys.exit("all tools have to be there, as V7_CI is set")
 
@@ -136,7 +160,10 @@ def check_itself():
 
 
 def commit():
-    """The commit of which all files are; nothing if one has changed, but for the digests that a test of wrong bodies writes."""
+    """The commit of which all files are; nothing if one has changed, but for the digests that a test of wrong bodies writes, or without
+    git or its folder."""
+    if not shutil.which("git"):
+        return ""
     changed = ran("git", "status", "--porcelain", "--", ".", ":!tests/wrong_bodies/wrong-bodies.seen")
     return "" if changed.status or changed.out else ran("git", "rev-parse", "HEAD").out.decode().strip()
 
@@ -215,7 +242,7 @@ def run_unproved(tests):
     print("Programs are compiled, cases played, texts compared, and the tests of crates run: about 5 minutes on four idle processors.")
     print("All of this is compiled without proof, so it proves nothing: make gate proves it.", flush=True)
     play = [sys.executable, "-m", "tests.cases.cases"]
-    folder = os.path.join(TOP, "build", "quick")
+    folder = os.path.join(TOP, "build", "test")
     os.makedirs(folder, exist_ok=True)
     with ThreadPoolExecutor(min(SIDE_BY_SIDE, len(os.sched_getaffinity(0)))) as pool:
         # what is cheap comes first, and nothing that waits before what it waits for
@@ -241,7 +268,7 @@ def concern(path, test):
     """Why a change of a file concerns a test, or nothing: it was made for it, uses the script, or runs a program that has the crate."""
     if any(f"{path}/".startswith(f"{it.rstrip('/')}/") for it in [test.path, *test.words("for")]):
         return "made for it"
-    if path.startswith("tests/") and path.endswith(".py"):
+    if path.endswith(".py"):
         imports = " ".join(re.findall(r"^ *(?:from|import) .*", read(test.path), re.M))
         return "uses it" if re.search(rf"\b{os.path.basename(path)[:-3]}\b", imports) else ""
     own = programs_with(path.split("/")[1]) & {*test.words("programs")} if path.startswith("crates/") else set()
@@ -260,31 +287,39 @@ def tell_crate(name):
     print(f"its wrong bodies:\n  make check-wrong-bodies NAMES={name}")
 
 
-def tell(what, tests, before=""):
+def tell(what, tests, before="V7_BUILD=build/quick "):
     """A command that runs tests, and its minutes."""
     if tests:
         names = " ".join(dict.fromkeys(it.name for it in tests))
         print(f"{what}, {sum(it.seconds for it in tests) / 60:.1f} minutes:\n  {before}python3 -m tests {names}")
 
 
+def changed_since(commit):
+    """The files that have changed since a commit, and those that git does not know."""
+    if not shutil.which("git") or ran("git", "rev-parse", "--verify", commit).status:
+        sys.exit(f"git, its folder or {commit} is not there: make which CHANGED=PATH")
+    asked = [ran("git", "diff", "--name-only", commit), ran("git", "ls-files", "-o", "--exclude-standard")]
+    return sorted({path for it in asked for path in it.out.decode().splitlines()})
+
+
 def which(*paths):
     """Prints the tests and the crates that a change of these files concerns."""
+    paths = paths or changed_since(os.environ.get("SINCE") or "HEAD")
     for name in sorted({path.split("/")[1] for path in paths if path.startswith("crates/")} & crates_in(TOP).keys()):
         tell_crate(name)
     reasons = [(test, {concern(path, test) for path in paths} - {""}) for test in listed()]
     made = [test for test, why in reasons if why & {"made for it", "uses it"} and test.tier != "all"]
-    tell("tests of texts that were made for it, or use it", [it for it in made if it.tier == "text"])
-    others = [it for it in made if it.tier != "text"]
-    tell("other tests that were made for it, or use it, once make quick has compiled the programs in 2 minutes",
-         [it for it in others if "libv7.so" not in it.words("programs")], "V7_BUILD=build/quick ")
-    tell("and of libv7, once make all lib has proved it", [it for it in others if "libv7.so" in it.words("programs")])
+    tell("tests of texts that were made for it, or use it", [it for it in made if it.tier == "text"], "")
+    tell("other tests that were made for it, or use it, once make quick has compiled the programs and libv7 in 3 minutes",
+         [it for it in made if it.tier != "text"])
     cases = [path for path in paths if path.endswith(".case")]
     if cases:
         print(f"these cases alone:\n  V7_BUILD=build/quick python3 -m tests.cases.cases {' '.join(cases)}")
     print("all texts, all cases and tests of code, unproved, 5 minutes:\n  make test\nbefore it is merged, 90 minutes:\n  make check")
-    tell("of that, what runs a program with it", [test for test, why in reasons if why and test not in made and test.tier == "check"])
+    tell("of that, what runs a program with it, also with those of make quick", [test for test, why in reasons if why and test not in made and test.tier == "check"])
     for test in [test for test, why in reasons if why and test.tier == "all"]:
-        print(f"only make check-all runs this, {test.seconds / 60:.0f} minutes:\n  {' '.join([os.path.basename(test.command()[0]), *test.command()[1:]])}")
+        print(f"only make check-all runs this, {test.seconds / 60:.0f} minutes:\n  "
+              f"{'V7_BUILD=build/quick ' * bool(test.words('programs'))}{' '.join([os.path.basename(test.command()[0]), *test.command()[1:]])}")
     for path in paths:
         if not os.path.exists(path):
             print(f"{path} is not there")
@@ -305,10 +340,8 @@ def main(words):
     tests = listed()
     if words[:1] == ["which"]:
         return which(*(os.path.relpath(os.path.abspath(it), TOP) for it in words[1:]))
-    if words[:1] == ["needs"] and words[1:] and words[1] in TIERS:
-        before = TIERS[: TIERS.index(words[1]) + 1]
-        print(*sorted({PACKAGES[it] for it in missing([test for test in tests if test.tier in before])}), sep="\n")
-        return 0
+    if words[:1] == ["needs"] and (len(words) == 1 or words[1] in TIERS):
+        return tell_needs(tests, *words[1:])
     if words[:1] == ["parts"] and words[1:]:
         return run_parts(*words[1:])
     if words == ["list"]:

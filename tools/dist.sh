@@ -15,11 +15,11 @@
 # To run the packages, a folder with Debian's base is made by debootstrap, from the mirror of this machine; with a C compiler and
 # pkg-config, and without the kit, make and Python. Once the package for Debian is installed there, and once the tar is unpacked.
 # Both times the README of the release, the examples of the manual pages, the tutorial, the page for restorers, the cases, and the C
-# example with both libraries are run there; before that, the commands of README, and the C example with libv7-0 and libv7-dev
+# example with both libraries are run there; before that, how to get it by that README, and the C example with libv7-0 and libv7-dev
 # alone. What drives the cases, tests/cases/cases.py, runs outside. It skips those that watch a program, since the programs of a package are
 # linked statically. The module of python3-v7 and the wheel run outside too. Wanted: root, Debian's debootstrap and lintian.
 #
-# tier: all, 4200 seconds; words: all; for: packaging tools/dist.sh; needs: debootstrap lintian faketime cmark-gfm mandoc
+# tier: all, 4200 seconds; words: all; for: packaging tools/dist.sh; needs: git cc debootstrap lintian faketime cmark-gfm mandoc
 set -u
 cd "$(dirname "$0")/.."
 top=$PWD
@@ -119,16 +119,16 @@ inside() {
     chroot "$debian" env -i PATH="$programs:/usr/sbin:/usr/bin:/sbin:/bin" HOME=/root PKG_CONFIG_PATH="$config" LD_LIBRARY_PATH="$libraries" "$@"
 }
 
-# the commands of README, as printed
+# how the README of the release says to get it, as printed
 readme() {
-    awk '/^## How to get it/ { on = 1 } on && /^    / { found = 1; print substr($0, 5); next } found { exit }' README.md >"$work/readme.sh"
-    [ -s "$work/readme.sh" ] || fail "README.md has no commands"
+    awk '/^## How to get it/ { on = 1 } on && /^    / { found = 1; print substr($0, 5); next } found { exit }' packaging/README.md >"$work/readme.sh"
+    [ -s "$work/readme.sh" ] || fail "packaging/README.md has no commands"
     rm -rf "$debian/tmp/readme"
     mkdir "$debian/tmp/readme"
     cp "$dist"/* "$work/readme.sh" "$debian/tmp/readme"
-    inside sh -euc 'cd /tmp/readme && . ./readme.sh' >"$work/readme.txt" 2>&1 || fail "the commands of README.md fail"
-    tail -1 "$work/readme.txt" | grep -q '^14+2+0 = 16b = 020b$' || { fail "the commands of README.md print something else"; cat "$work/readme.txt"; }
-    echo "README.md: $(wc -l <"$work/readme.sh") lines were run"
+    inside sh -euc 'cd /tmp/readme && . ./readme.sh' >"$work/readme.txt" 2>&1 || fail "the commands of packaging/README.md fail"
+    tail -1 "$work/readme.txt" | grep -q '^14+2+0 = 16b = 020b$' || { fail "the commands of packaging/README.md print something else"; cat "$work/readme.txt"; }
+    echo "packaging/README.md: $(wc -l <"$work/readme.sh") lines were run"
 }
 
 # the README of the release: the paths that it names are there
@@ -153,9 +153,9 @@ web() {
     python3 -m tests.programs.completion "$work/completion" || fail "completion fails"
 }
 
-# the processors that both READMEs name: the programs have instructions of x86-64-v2, and none of a later level
+# the processors that the README names: the programs have instructions of x86-64-v2, and none of a later level
 processors() {
-    grep -q 'x86-64-v2' README.md && grep -q 'x86-64-v2' "$page" || fail "a README does not name the processors"
+    grep -q 'x86-64-v2' "$page" || fail "the README does not name the processors"
     find "$debian${share%/share}/lib" -path '*/v7/*.o' -exec objdump -d --no-show-raw-insn {} + >"$work/instructions.txt"
     grep -qw 'ptest' "$work/instructions.txt" || fail "no program needs x86-64-v2"
     later='v[a-z0-9]+|andn|bextr|bls(i|r|msk)|bzhi|lzcnt|movbe|mulx|pdep|pext|rorx|sarx|shlx|shrx'

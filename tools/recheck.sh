@@ -1,47 +1,60 @@
 #!/bin/sh
-# Proves one claim again: that a withdrawal takes an addition back. Then it breaks one line of the code, in a copy, and shows
-# how the prover refuses it. docs/TRUST.md shows what it prints.
+# Proves two claims again: that a withdrawal takes an addition back, and that a run of edits replies to each and links what they leave.
+# For each it then breaks one line of the code, in a copy, and shows how the prover refuses it. docs/TRUST.md shows what it prints.
 #
-# tier: check, 120 seconds; for: crates/link_session docs/TRUST.md
+# tier: check, 360 seconds; for: crates/link_session crates/link_out docs/TRUST.md
 set -u
 cd "$(dirname "$0")/.."
-edit=crates/link_session/must-fail/withdraw_leaves_names.edit
 room=$(mktemp -d)
 trap 'rm -rf "$room"' EXIT
 
-# the lines that say which functions are proved, and which are not
-verdicts() {
-    grep -E '^fn link_session::(session|undo|chain)::' | sort
-}
-
 mkdir -p "$room/crates"
-grep -E '^(aout_core|tool_options|link_session):' crates.txt >"$room/crates.txt"
+grep -E '^(aout_core|tool_options|link_session|link_out):' crates.txt >"$room/crates.txt"
 cp HANDLES "$room"
-cp -R crates/aout_core crates/tool_options crates/link_session "$room/crates"
+cp -R crates/aout_core crates/tool_options crates/link_session crates/link_out "$room/crates"
 rm -rf "$room"/crates/*/must-fail "$room"/crates/*/out
 
-echo 'With the code as it is:'
-(cd "$room/crates/link_session" && rt check --only session::Session::withdraw) >"$room/right" 2>&1
-right=$?
-verdicts <"$room/right"
-[ $right -eq 0 ] || { tail -20 "$room/right"; exit 1; }
+# CRATE MODULES FUNCTION EDIT: proves the function; then again with the line changed that the edit changes
+recheck() {
+    crate=$1
+    modules=$2
+    edit=crates/$crate/must-fail/$4.edit
+    file=$(sed -n 's/^file: //p' "$edit")
+    old=$(sed -n 's/^old: //p' "$edit")
+    new=$(sed -n 's/^new: //p' "$edit")
 
-old=$(sed -n 's/^old: //p' $edit)
-new=$(sed -n 's/^new: //p' $edit)
-file=$(sed -n 's/^file: //p' $edit)
-OLD=$old NEW=$new awk '$0 == ENVIRON["OLD"] { $0 = ENVIRON["NEW"]; changed++ } { print } END { exit changed != 1 }' \
-    "crates/link_session/$file" >"$room/broken" || { echo "$edit does not fit the code"; exit 1; }
-cp "$room/broken" "$room/crates/link_session/$file"
-(cd "$room/crates/link_session" && rt check --only session::Session::withdraw) >"$room/wrong" 2>&1 && { echo 'not refused'; exit 1; }
-{
-    echo "With one line of crates/link_session/$file broken:"
-    printf '%s\n' "$old" | sed 's/^ */- /'
-    printf '%s\n' "$new" | sed 's/^ */+ /'
-    sed -n 's/^\.\/\(proofs[^:]*\):.* error: \(.*\)no proof of .*$/\1: error: \2no proof/p' "$room/wrong"
-    verdicts <"$room/wrong" | grep -v ': proved$'
-} | tee "$room/shown"
-sed 's/^/    /' "$room/shown" >"$room/block"
-grep -cFx -f "$room/block" docs/TRUST.md | grep -qFx "$(wc -l <"$room/block")" || {
-    echo 'docs/TRUST.md shows something else'
-    exit 1
+    echo 'With the code as it is:'
+    prove "$3" right || { tail -20 "$room/right"; exit 1; }
+    verdicts right
+
+    OLD=$old NEW=$new awk '$0 == ENVIRON["OLD"] { $0 = ENVIRON["NEW"]; changed++ } { print } END { exit changed != 1 }' \
+        "crates/$crate/$file" >"$room/broken" || { echo "$edit does not fit the code"; exit 1; }
+    cp "$room/broken" "$room/crates/$crate/$file"
+    prove "$3" wrong && { echo 'not refused'; exit 1; }
+    {
+        echo "With one line of crates/$crate/$file broken:"
+        printf '%s\n' "$old" | sed 's/^ */- /'
+        printf '%s\n' "$new" | sed 's/^ */+ /'
+        sed -n 's/^\.\/\(proofs[^:]*\):.* error: \(.*\)no proof of .*$/\1: error: \2no proof/p' "$room/wrong"
+        verdicts wrong | grep -v ': proved$'
+    } | tee "$room/shown"
+    cp "crates/$crate/$file" "$room/crates/$crate/$file"
+    sed 's/^/    /' "$room/shown" >"$room/block"
+    grep -cFx -f "$room/block" docs/TRUST.md | grep -qFx "$(wc -l <"$room/block")" || {
+        echo 'docs/TRUST.md shows something else'
+        exit 1
+    }
 }
+
+# FUNCTION NAME: proves it, with what the prover says in a file
+prove() {
+    (cd "$room/crates/$crate" && rt check --only "$1") >"$room/$2" 2>&1
+}
+
+# NAME: the lines that say which functions are proved, and which are not
+verdicts() {
+    grep -E "^fn $crate::($modules)::" "$room/$1" | sort
+}
+
+recheck link_session 'session|undo|chain' session::Session::withdraw withdraw_leaves_names
+recheck link_out runner runner::run run_drops_refusals

@@ -31,6 +31,7 @@ import ctypes
 import functools
 import json
 import os
+import struct
 from typing import Any, Dict, Iterable, List, NamedTuple, NoReturn, Optional, Sequence, Tuple
 
 _BESIDE = os.path.join(os.path.dirname(os.path.abspath(__file__)), "libv7.so.0")
@@ -41,6 +42,8 @@ _LIBRARY = ctypes.CDLL(_PATH)
 # calls on a session that is kept: no other thread of Python runs during one
 _KEEPING = ctypes.PyDLL(_PATH)
 _NO_ROOM = 60
+# a number that stands for no object
+_NO_OBJECT = ctypes.c_size_t(-1).value
 _REPORT, _FINDINGS, _PLACES, _MAP = 1, 2, 4, 8
 
 # options of a link
@@ -317,7 +320,9 @@ def _wrong(what: str, wanted: str, value: Any) -> TypeError:
 
 
 def _bytes(what: str, data: bytes) -> bytes:
-    """A copy."""
+    """The same bytes, or a copy if they can change."""
+    if type(data) is bytes:
+        return data
     try:
         return memoryview(data).tobytes()
     except TypeError:
@@ -349,9 +354,22 @@ def _slice(data: bytes) -> List[Any]:
     return [ctypes.c_char_p(data), ctypes.c_size_t(len(data))]
 
 
+@functools.lru_cache(None)
+def _format(kind: Any) -> str:
+    """How `struct` reads a record."""
+    form = "".join("8s" if field is _NAME else field._type_ for _, field in kind._fields_)
+    return f"{form}{ctypes.sizeof(kind) - struct.calcsize(form)}x"
+
+
+def _written(kind: Any, room: Any, count: int) -> Any:
+    """What a call has written into a room: bytes, or the fields of each record."""
+    data = ctypes.string_at(room, count * ctypes.sizeof(kind))
+    return data if kind is ctypes.c_char else [*struct.iter_unpack(_format(kind), data)]
+
+
 def _made(call: Any, answer: Any, rooms: Sequence[Tuple[str, Any]], sized: Any = None, is_byte: bool = False) -> Tuple[int, List[Any]]:
     """Makes a call with a room and its size for each pair of a field, which has the size, and a type; again, if the sizes that it answered
-    are larger. Returns the status and what is in the rooms. The place of a fault may be a byte."""
+    are larger. Returns the status and what is written. The place of a fault may be a byte."""
     sized = answer if sized is None else sized
     for _ in range(2):
         sizes = [getattr(sized, field) for field, _ in rooms]
@@ -361,7 +379,7 @@ def _made(call: Any, answer: Any, rooms: Sequence[Tuple[str, Any]], sized: Any =
             break
     if answer.fault:
         raise Fault(answer, is_byte)
-    return status, [buffer[: getattr(sized, field)] for buffer, (field, _) in zip(buffers, rooms)]
+    return status, [_written(kind, buffer, getattr(sized, field)) for buffer, (field, kind) in zip(buffers, rooms)]
 
 
 def _given(name: str, *words: Any, guess: int = 0, is_byte: bool = False, library: Any = _LIBRARY) -> bytes:
@@ -496,7 +514,7 @@ def remarks(data: bytes) -> List[Remark]:
     answer, words = _Answer(), _slice(data)
     rooms = [("size", ctypes.c_char), ("report_size", _Remark)]
     texts, found = _made(lambda *room: _LIBRARY.v7_remarks(*words, *room, ctypes.byref(answer)), answer, rooms)[1]
-    return [Remark(row.kind, row.place, texts[row.text : row.text + row.text_size].decode("latin-1"), row.part, row.word) for row in found]
+    return [Remark(kind, place, texts[at : at + size].decode("latin-1"), part, word) for place, at, size, kind, part, word in found]
 
 
 def _padded(what: str, name: str) -> bytes:
@@ -514,10 +532,10 @@ def _forced(names: Iterable[str]) -> bytes:
     return b"".join(_padded(f"forced[{number}]", name) for number, name in enumerate(_items("forced", names)))
 
 
-def _asked(objects: Iterable[bytes], options: int, entry: str, forced: Iterable[str], wants: int) -> Any:
-    """What a link is asked for. It keeps what it points to."""
-    parts, named, names = _list(objects), _latin("entry", entry), _forced(forced)
-    slices = (_Slice * max(len(parts), 1))(*(_Slice(data, len(data)) for data in parts))
+def _asked(parts: List[bytes], options: int, entry: str, forced: Iterable[str], wants: int) -> Any:
+    """What a link of these objects is asked for. It keeps what it points to."""
+    named, names = _latin("entry", entry), _forced(forced)
+    slices = (_Slice * max(len(parts), 1))(*((data, len(data)) for data in parts))
     number = _fitting("options", options, 32)
     return _Request(ctypes.sizeof(_Request), number, wants, _Slice(named, len(named)), _Slice(names, len(names)), slices, len(parts))
 
@@ -535,31 +553,28 @@ def _lent(call: Any, answer: Any, rooms: Dict[str, Any]) -> Tuple[int, List[Any]
     return _made(lend, answer, [(f"{stem}_{'size' if kind is ctypes.c_char else 'count'}", kind) for stem, kind in zip(stems, rooms.values())])
 
 
-def _value(value: Any) -> Any:
-    """A name as a str, no object as None, and another value as it is."""
-    if isinstance(value, _NAME):
-        return bytes(value).rstrip(b"\0").decode("latin-1")
-    return None if value == ctypes.c_size_t(-1).value else value
+def _name(data: bytes) -> str:
+    return data.rstrip(b"\0").decode("latin-1")
 
 
-def _record(kind: Any, *rows: Any) -> Any:
-    """The tuple of these fields of records."""
-    return kind(*(_value(getattr(row, name)) for name in kind._fields for row in rows if hasattr(row, name)))
+def _object(number: int) -> Optional[int]:
+    return None if number == _NO_OBJECT else number
 
 
 class _Run:
     """A link: what it gives."""
 
     def __init__(self, objects: Iterable[bytes], options: int, entry: str, forced: Iterable[str], wants: int, call: Any = None, size: int = 0) -> None:
-        """Links objects, or by another call what has so many bytes: once, if there is no more to report than symbols."""
-        request, call, most = _asked(objects, options, entry, forced, wants), call or _LIBRARY.v7_run, _LIBRARY.v7_most
+        """Links objects, or by another call what has so many bytes: once, if it reports at most 2,000 names."""
+        parts, call, most = _list(objects), call or _LIBRARY.v7_run, _LIBRARY.v7_most
+        request, size = _asked(parts, options, entry, forced, wants), size + sum(map(len, parts))
         most.restype = ctypes.c_size_t
-        size += sum(request.objects[number].size for number in range(request.object_count))
         size = most(ctypes.c_size_t(size), ctypes.c_size_t(request.forced.size))
-        counts = [size // 12 * (wants // kind % 2) for kind in (_REPORT, _FINDINGS, _PLACES, _MAP)]
-        result = _Result(ctypes.sizeof(_Result), file_size=size, report_size=27 * counts[0] + 11, finding_count=counts[1], place_count=counts[2])
-        # a use has at least four bytes of an object, and what else a map has twelve
-        result.object_count, result.name_count, result.use_count, result.limit_count = (counts[3] * times for times in (1, 1, 3, 1))
+        # of a file each symbol has twelve bytes, a word with what it refers to four, and a line of the report at most 27
+        symbols, few = size // 12, min(size // 12, 2000)
+        lines, findings, places, mapped = (wants // kind % 2 for kind in (_REPORT, _FINDINGS, _PLACES, _MAP))
+        result = _Result(ctypes.sizeof(_Result), file_size=size, report_size=(27 * few + 11) * lines, finding_count=few * findings, place_count=few * places)
+        result.object_count, result.name_count, result.use_count, result.limit_count = (symbols * mapped * times for times in (1, 1, 3, 1))
         rooms = {"file": ctypes.c_char, "report": ctypes.c_char, "findings": _Finding, "places": _FindingPlace, **_RECORDS}
         self.status, (self.file, report, self.findings, self.places, *self.records) = _lent(lambda to: call(ctypes.byref(request), to), result, rooms)
         self.report, self.head = report.decode("latin-1"), result.head
@@ -568,18 +583,25 @@ class _Run:
         return Program(self.status, self.file, self.report)
 
     def found(self) -> Found:
-        multiples, reserved, entries, undefined = ([_value(row.name) for row in self.findings if row.kind == kind] for kind in range(1, 5))
+        multiples, reserved, entries, undefined = ([_name(name) for name, of in self.findings if of == kind] for kind in range(1, 5))
         return Found(self.status, self.file, Findings(multiples, reserved, entries[0] if entries else None, undefined))
 
     def placed(self) -> List[Finding]:
-        return [_record(Finding, *rows) for rows in zip(self.findings, self.places)]
+        return [Finding(_name(name), kind, _object(first), _object(further)) for (name, kind), (first, further) in zip(self.findings, self.places)]
 
     def mapped(self) -> Map:
-        objects, names, uses, limits = ([_record(kind, row) for row in rows] for kind, rows in zip((MapObject, MapName, MapUse, MapLimit), self.records))
-        uses = [use if row.is_labelled else use._replace(label=None) for use, row in zip(uses, self.records[2])]
+        objects, limits = [*map(MapObject._make, self.records[0])], [MapLimit(kind, used, most) for used, most, kind in self.records[3]]
+        names = [
+            MapName(_name(name), _object(first), _object(further), _object(user), state, of, value)
+            for name, first, further, user, state, of, value in self.records[1]
+        ]
+        uses = [
+            MapUse(None if of == _NO_OBJECT else of, name, kind, address, offset, line, _name(label) if is_labelled else None, beyond)
+            for address, of, name, label, kind, offset, line, beyond, is_labelled in self.records[2]
+        ]
         head, program = self.head, None if self.head.fault else self.program()
         segments = head.text_end, head.data_start, head.data_end, head.bss_start, head.bss_end
-        named = _value(head.entry_name) if head.state & 2 else None
+        named = _name(bytes(head.entry_name)) if head.state & 2 else None
         return Map(self.status, head.fault, head.place, segments, head.magic, head.entry_point, named, objects, names, uses, limits, program)
 
 
@@ -669,8 +691,7 @@ def _parts(call: Any, *words: Any) -> Parts:
     counts, answer = _Counts(), _Answer()
     rooms = [("text", _Word), ("data", _Word), ("symbols", _Symbol)]
     text, data, rows = _made(lambda *room: call(*words, *room, ctypes.byref(counts), ctypes.byref(answer)), answer, rooms, counts)[1]
-    pairs = [[(word.value, word.reloc) for word in segment] for segment in (text, data)]
-    return Parts(pairs[0], pairs[1], counts.bss, [(_value(row.name), row.type, row.value) for row in rows])
+    return Parts(text, data, counts.bss, [(_name(name), kind, value) for name, kind, value in rows])
 
 
 def take_apart(data: bytes) -> Parts:
@@ -692,7 +713,7 @@ def read(data: bytes) -> Tuple[Header, Parts]:
     """
     header = _Header()
     parts = _parts(_LIBRARY.v7_read, *_slice(data), ctypes.byref(header))
-    return _record(Header, header), parts
+    return Header(*(getattr(header, name) for name in Header._fields)), parts
 
 
 class Session:

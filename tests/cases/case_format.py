@@ -130,6 +130,11 @@ def some_bytes(word):
     return bytes.fromhex(word.decode("ascii"))
 
 
+def number_on(word):
+    number(word.removesuffix(b".."))
+    return word
+
+
 REQUESTS = (b"open", b"read", b"create", b"write")
 
 
@@ -139,7 +144,7 @@ def request(word):
     return word
 
 
-KINDS = {"FILE": path, "FROM": path, "N": number, "BYTE": number, "HH": some_bytes, "NAME": bytes, "PREFIX": bytes, "REQUEST": request, "EDIT": bytes}
+KINDS = {"FILE": path, "FROM": path, "N": number, "N..": number_on, "BYTE": number, "HH": some_bytes, "NAME": bytes, "PREFIX": bytes, "REQUEST": request, "EDIT": bytes}
 FORMS = {
     "use": ["FILE .."],
     "object": ["FILE"],
@@ -153,7 +158,7 @@ FORMS = {
     "same": ["FILE FROM"],
     "unchanged": ["FILE .."],
     "absent": ["FILE .."],
-    "refuse": ["REQUEST FILE", "write more FILE", "memory N"],
+    "refuse": ["REQUEST FILE", "write more FILE", "memory N", "memory N.."],
     "fail": ["read FILE after N", "write FILE after N"],
     "state": ["", "EDIT .."],
     "status": ["N"],

@@ -170,7 +170,7 @@ def watched(step, plans, directory, given):
     except NotWatched as why:
         raise Mistake(step.line, str(why)) from None
     for line, plan in plans.items():
-        if is_memory(plan[1]) and plan[1] not in watch.refused:
+        if is_memory(plan[1]) and not watch.is_reached(plan[1]):
             raise Mistake(line, "the command makes fewer requests for memory")
     return came, requests
 

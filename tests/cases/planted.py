@@ -1,4 +1,4 @@
-"""Plants the bugs of docs/internals/PLANTED.md, each alone, and plays the cases with it. As many are tried side by side as there are
+"""Plants the bugs of tests/cases/PLANTED.md, each alone, and plays the cases with it. As many are tried side by side as there are
 processors.
 
 usage: python3 -m tests.cases.planted [BUG ..]    tries the bugs of all rows, or these; an error if a case that the row names does not fail,
@@ -10,9 +10,9 @@ A bug CRATE/NAME is an edit of the crate that the prover refuses, as tests/wrong
 tests/cases/planted/, with the path from the top. The rows of tests/programs/largest.py and tests/libv7/largest_library.py count as
 cases, and so do tests/page/page_data.py and tests/programs/terminal.py. The bug is made in a copy of the sources, and programs are compiled there with no proof: those that use its
 crate, one after another, as long as a case that the row names does not fail. The other programs are those without a bug, in
-build/quick. libv7 counts as a program.
+build/test. libv7 counts as a program.
 
-tier: text, 1 seconds; words: -c; for: docs/internals/PLANTED.md tests/cases/planted
+tier: text, 1 seconds; words: -c; for: tests/cases/PLANTED.md tests/cases/planted
 """
 import glob
 import os
@@ -32,7 +32,7 @@ from tools.compiling import CRATES, below, compile_program, uses_of
 from tools.sketch import compile_library
 
 CASES = os.path.join(TOP, "tests", "cases", "data")
-PAGE = "docs/internals/PLANTED.md"
+PAGE = "tests/cases/PLANTED.md"
 ROW = re.compile(r"^\| `([\w/*]+)` \| .* \| (.*) \|$")
 # the rows of tests/programs/largest.py, each with the program that it runs as a case has it. A listing is read back by v7-object
 READS_BACK = {"v7-explain": "$ v7-object\n"}
@@ -50,7 +50,7 @@ PRINTED = re.compile(r"^(?:programs|libv7): [01] of 1 answers .*\n\Z|^\d+ things
 # what is compiled, and the crate of each
 COMPILED = {**CRATES, "libv7": "v7_c"}
 # the programs without a bug
-GOOD = os.path.join(TOP, "build", "quick")
+GOOD = os.path.join(TOP, "build", "test")
 # for a command of a case, on a machine with other work too
 SECONDS = "300"
 # a compilation takes a processor and a gigabyte

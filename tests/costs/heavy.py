@@ -4,7 +4,7 @@ object more that is added to a session and withdrawn, in a session without objec
 says how.
 
 There are 200 objects with 65,000 bytes of text. Each defines 20 names, and 12,869 words refer to names of other objects,
-taken by a sequence of numbers that is the same each time. With -i the objects have 65,000 bytes of data more.
+taken by a sequence of numbers that is the same each time. With -i each object has its text again as its data, relocated in the same way.
 """
 import glob
 import sys
@@ -38,23 +38,21 @@ def write_object(index, others, has_data):
     first = index * NAMES
     places = {first + name: name for name in range(NAMES)}
     symbols = [(name, 0o42, 2 * place) for name, place in places.items()]
-    words, relocs = [], []
+    text = []
     for _ in range(share(REFERENCES, index)):
         name = (first + NAMES + next(others)) % (OBJECTS * NAMES)
         if name not in places:
             places[name] = len(symbols)
             symbols.append((name, 0o40, 0))
-        words.append(0)
-        relocs.append(0o10 + 0o20 * places[name])
-    for word in range(len(words), share(WORDS, index)):
-        words.append(2 * (word % 100) if word % 3 == 0 else word)
-        relocs.append(2 if word % 3 == 0 else 0)
-    write_parts(f"{index:03d}.o", words, [7] * (share(WORDS, index) if has_data else 0), relocs, symbols)
+        text.append((0, 0o10 + 0o20 * places[name]))
+    for word in range(len(text), share(WORDS, index)):
+        text.append((2 * (word % 100), 2) if word % 3 == 0 else (word, 0))
+    write_parts(f"{index:03d}.o", text, text if has_data else [], symbols)
 
 
-def write_parts(path, words, data, relocs, symbols):
-    """Writes an object, whose words of data are numbers."""
-    write(path, pack(zip(words, relocs), [(word, 0) for word in data], symbols=[(b"n%05d" % name, kind, value) for name, kind, value in symbols]))
+def write_parts(path, text, data, symbols):
+    """Writes an object, by its words with their relocation words."""
+    write(path, pack(text, data, symbols=[(b"n%05d" % name, kind, value) for name, kind, value in symbols]))
 
 
 def measure(v7, options, has_data):
@@ -91,8 +89,9 @@ def main():
         print(f"plain: {measure(v7, [], False)}")
         print(f"with -i, and {2 * WORDS} bytes of data more: {measure(v7, ['-i'], True)}")
         objects, first = sorted(glob.glob("*.o")), OBJECTS * NAMES
-        write_parts("waiting", [0] * 162, [], [0o10 + 0o20 * (word % 25) for word in range(100)] + [0] * 62, [(first + name, 0o40, 0) for name in range(25)])
-        write_parts("defining", [], [], [], [(first, 0o41, 7)])
+        waiting = [(0, 0o10 + 0o20 * (word % 25)) for word in range(100)] + [(0, 0)] * 62
+        write_parts("waiting", waiting, [], [(first + name, 0o40, 0) for name in range(25)])
+        write_parts("defining", [], [], [(first, 0o41, 7)])
         for path, what in ("waiting", "162 words, 100 of which wait for 25 names"), ("defining", "one name"):
             counts = [edited(v7, path, session) for session in ([], objects)]
             print(f"an object of {what}, added and withdrawn: {counts[0]} instructions, and {counts[1]} after these objects")

@@ -17,13 +17,13 @@ from tests.lib.programs import program
 # a word and its relocation word as they are read
 READ = 2 + 2
 # its cell, the link of its chain, and the word that is written
-LINKED = 8 + 6 + 2
+LINKED = 8 + 4 + 2
 # a symbol as it is read
 SYMBOL = 12
 # what is kept of a name while it is linked, at most: its symbol, and its place among the externals while its object is added. Then
 # its entry with name, state and hash, its place in the table of hashes, its head, a mark, its place among the multiply
 # defined, what becomes of it, and its name in the report
-NAME = 102
+NAME = 100
 # so many names fill a table of hashes, which has room for 7 eighths of a power of two
 FEW, MANY = 1792, 3584
 # what a link of nothing asks for beside a list of sizes of nothing, at most

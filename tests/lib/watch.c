@@ -1,9 +1,11 @@
 /* Loaded before a program by LD_PRELOAD: lists the files that the program opens, reads, creates and writes, and refuses what is
  * planned, requests for memory too. tests/lib/watching.py compiles it, and reads the list; docs/CASES.md has the requests.
  *
- * WATCH_LIST is the path of the list: a line `watched`, and a line for each request, but for memory only if it is refused. WATCH_PLAN has three lines for each plan: `refuse`, the request, and a
- * line that is not looked at; or `read` or `write`, the name of a file, and after how many bytes that fails. Names are as the program
- * gives them; those of its streams are stdin, stdout and stderr.
+ * WATCH_LIST is the path of the list: a line `watched`, and a line for each request, but for memory only if it is refused, or, as
+ * `granted` and its number, if it is the last that is not. WATCH_PLAN has three lines for each plan: `refuse`, the request, and a line
+ * that is not looked at; or `refuse`, `memory`, and the number of the request for memory from which on all are refused; or `read` or
+ * `write`, the name of a file, and after how many bytes that fails. Names are as the program gives them; those of its streams are stdin,
+ * stdout and stderr.
  */
 #define _GNU_SOURCE
 #include <dlfcn.h>
@@ -106,19 +108,30 @@ static const void *base_of(const void *place)
     return dladdr(place, &found) ? found.dli_fbase : NULL;
 }
 
+/* the number that digits begin with */
+static size_t number_at(const char *digits)
+{
+    size_t number = 0;
+    for (; *digits >= '0' && *digits <= '9'; digits++)
+        number = 10 * number + (*digits - '0');
+    return number;
+}
+
 /* counts a request for memory, by the code at a place: whether it is refused */
 static int asks_memory(const void *place)
 {
     char request[32];
     if (library ? base_of(place) != library : list < 0)
         return 0;
-    int size = snprintf(request, sizeof request, "memory %zu", ++requests);
-    if (!planned("refuse", request))
-        return 0;
-    request[size] = '\n';
-    say(request, size + 1);
-    errno = ENOMEM;
-    return 1;
+    snprintf(request, sizeof request, "memory %zu", ++requests);
+    const char *digits = planned("refuse", "memory");
+    size_t first = digits ? number_at(digits) : 0;
+    int is_refused = planned("refuse", request) || (first && requests >= first);
+    if (is_refused || requests + 1 == first)
+        say(request, snprintf(request, sizeof request, "%s %zu\n", is_refused ? "memory" : "granted", requests));
+    if (is_refused)
+        errno = ENOMEM;
+    return is_refused;
 }
 
 /* From here on another plan counts, for the requests for memory by the library that a place is in: how many it made before. */
@@ -154,11 +167,9 @@ void *realloc(void *old, size_t size)
 static size_t allowed(const char *word, const char *name, size_t moved, size_t count)
 {
     const char *digits = planned(word, name);
-    size_t limit = 0;
     if (!digits)
         return count;
-    for (; *digits >= '0' && *digits <= '9'; digits++)
-        limit = 10 * limit + (*digits - '0');
+    size_t limit = number_at(digits);
     size_t left = limit > moved ? limit - moved : 0;
     return left < count ? left : count;
 }

@@ -41,25 +41,38 @@ class Watch:
 
     def __init__(self, plans):
         """Each plan is `refuse` and a request, or `read` or `write`, a file, and after how many bytes that fails. The request for memory
-        of number 7 is `memory 7`."""
+        of number 7 is `memory 7`, and `memory 7..` has all after it too."""
         self.library = compiled()
         self.list = os.path.join(os.path.dirname(self.library), f"list{os.getpid()}")
-        self.plans, self.refused = plans, []
+        self.plans, self.refused, self.granted = [self.lines_of(*plan) for plan in plans], [], []
+
+    @staticmethod
+    def lines_of(word, name, count=b""):
+        """The three lines of a plan."""
+        return (word, b"memory", name[7:-2]) if is_memory(name) and name.endswith(b"..") else (word, name, count)
+
+    def is_reached(self, request):
+        """Whether a run came to this request for memory, or to the one before it, if all after it are refused too."""
+        if request.endswith(b".."):
+            number = int(request[7:-2])
+            return number < 2 or b"granted %d" % (number - 1) in self.granted
+        return request in self.refused
 
     def environment(self):
-        lines = [word for plan in self.plans for word in (*plan, b"")[:3]]
+        lines = [word for plan in self.plans for word in plan]
         return {"LD_PRELOAD": self.library, "WATCH_LIST": self.list, "WATCH_PLAN": b"".join(word + b"\n" for word in lines)}
 
     def requests(self):
         """The requests in order. Equal reads or writes that follow each other are one, and reads of standard input are left out. Those
-        for memory that were refused are then in `refused`."""
+        for memory that were refused are then in `refused`, and the last before all are, in `granted`."""
         if not os.path.exists(self.list):
             raise NotWatched("tests/lib/watch.c is not loaded")
         with open(self.list, "rb") as file:
             lines = file.read().split(b"\n")[1:-1]
         os.remove(self.list)
         self.refused = [*filter(is_memory, lines)]
-        lines = [line for line in lines if line not in self.refused]
+        self.granted = [line for line in lines if line.startswith(b"granted ")]
+        lines = [line for line in lines if line not in self.refused + self.granted]
         found = []
         for line in lines[1:] if lines[:1] == [FIRST] else lines:
             is_again = found[-1:] == [line] and line.startswith((b"read ", b"write "))

@@ -10,15 +10,15 @@
 # usage: CC=cc CXX=c++ CALLS=20000 CASES='500 1000 500' tests/libv7/library.sh        with so many random calls, and links, sessions and maps for
 #                                                                              the comparison with tests/oracles/model.py
 #
-# tier: check, 300 seconds; programs: v7 v7-explain v7-object v7-from-gnu libv7.so; for: crates/v7_c crates/library_calls include packaging docs/LIBRARY.md man/v7.3; needs: cc c++ pkg-config valgrind mypy venv rustc cargo
+# tier: check, 300 seconds; programs: v7 v7-explain v7-object v7-from-gnu libv7.so; for: crates/v7_c crates/library_calls include packaging docs/LIBRARY.md man/v7.3 tests/libv7 examples/c examples/cpp examples/python examples/rust; needs: cc c++ pkg-config valgrind mypy venv rustc cargo
 set -u
 cd "$(dirname "$0")/../.."
 top=$PWD
-build=${V7_BUILD:-$top/build}
+build=$(realpath "${V7_BUILD:-build}")
 : "${CC:=cc}" "${CXX:=c++}"
 room=$(mktemp -d)
 trap 'rm -rf "$room"' EXIT
-make -s install-lib PREFIX="$room/installed" LIBDIR="$room/installed/lib" INCLUDEDIR="$room/installed/include" DESTDIR= || exit 1
+make -s install-lib FROM="$(realpath --relative-to=. "$build")" PREFIX="$room/installed" LIBDIR="$room/installed/lib" INCLUDEDIR="$room/installed/include" DESTDIR= || exit 1
 cd "$room"
 cp "$top"/examples/*.o .
 $build/v7 ld -s -o bad.o main.o >/dev/null

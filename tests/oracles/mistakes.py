@@ -156,8 +156,8 @@ def objects_of(*patterns):
 
 
 def assembled():
-    """The texts of the page, by GNU's assembler."""
-    for source in sorted(glob.glob(os.path.join(TOP, "tests/page/data/*.s"))):
+    """The texts of a program in C, by GNU's assembler."""
+    for source in sorted(glob.glob(os.path.join(TOP, "examples/total/*.s"))):
         same(source, ran(ASSEMBLER, "-o", "gnu.o", source).status, 0)
         same(source, ran(program("v7-from-gnu"), "gnu.o", "ours.o").status, 0)
         yield file_in(read_bytes("ours.o"))

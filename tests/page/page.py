@@ -1,11 +1,11 @@
 """Opens the page of the lesson in Chromium, from the disk, and compares what it shows, in every state, with what `v7-lesson`
 prints for the same objects, and the addresses with what `v7 ld` and `v7 nm` say. Then it looks at the layout in many sizes,
-takes the tour and the lessons by keys alone, and measures the stage with the sixteen compiled objects of tests/page/data and with the
+takes the tour and the lessons by keys alone, compares what is said with a model (tests/page/page_model.py), and measures the stage with the sixteen compiled objects of tests/page/data and with the
 examples: layout and stage in Firefox too, if it is installed. The pictures of docs/pictures are compared with the page. Faults are
 planted (tests/page/page_planted.py), and have to be found.
 
 usage: python3 -m tests.page.page [-j JOBS] [-s SEED] [PART..]     all parts or these, so many side by side; eight objects are made from the seed
-       the parts: firefox, layout, stage, planted, states, use
+       the parts: firefox, layout, stage, planted, states, model, use
 tier: all, 1500 seconds; words: -j 4; programs: v7 v7-lesson v7-explain; for: crates/v7_lesson page examples/lessons.txt docs/pictures; needs: chromium chromedriver selenium firefox-esr
 """
 import argparse
@@ -28,6 +28,7 @@ from tests.page import page_pictures
 from tests.page.page_browser import Chromium, Firefox, Keys, firefox
 from tests.page.page_data import LAYOUTS, Tools, faults, made_objects, object_of, program_files, program_in_c, same, sixteen_objects, tables_and_bss, words_of
 from tests.page.page_layout import look_everywhere, look_in_firefox
+from tests.page.page_model import said_everywhere
 from tests.page.page_planted import plant_all
 from tests.page.page_stage import SIZES, WHOLE, response, response_with_all, stage
 from tests.page.page_use import use_all
@@ -46,8 +47,7 @@ return {
         target: part(row, "target") || (part(row, "instruction") || part(row, "string") || row.classList.contains("inside") ? "a number" : "") })),
     bss: text(document.querySelector("#bss .size")),
     names: all(".name:not(.cut)", (row) => [text(row.querySelector("b")), part(row, "state"), part(row, "address")]),
-    marks: all(".overwrote .was", text), sums: all(".overwrote .sum", text),
-    done: all(".undone .was", text), undone: all(".undone .sum", text),
+    marks: all(".overwrote .was", text), done: all(".undone .was", text),
     table: one("table"), report: one("report"), step: one("status"), refused: document.querySelector("#note.refused") ? one("note") : "", note: one("note"),
     hash: location.hash, focus: document.activeElement.id };
 """
@@ -70,14 +70,13 @@ class Page(Chromium):
 
 
 def lines_on(shown):
-    """What the page shows, as the lines that `v7-lesson` has: these have no place for a word that waits."""
-    places = ["" if word["target"].startswith("waits for ") else word["place"].replace("\u2212", "-") for word in shown["words"]]
-    lines = [words_of(f"{word['segment']} {word['offset']} {word['value']} {word['pc']} {word['target']} {place}")
-             + (f" / {word['instruction']}" if word["instruction"] else "") for word, place in zip(shown["words"], places)]
+    """What the page shows, as the lines that `v7-lesson` has."""
+    lines = [words_of(f"{word['segment']} {word['offset']} {word['value']} {word['pc']} {word['target']} {word['place']}")
+             + (f" / {word['instruction']}" if word["instruction"] else "") for word in shown["words"]]
     lines += [f"bss {shown['bss']}"] if shown["bss"] else []
     lines += [f"name {name}: {known}" for name, known, _ in shown["names"]]
     lines += [words_of(f"mark {mark}") for mark in shown["marks"]]
-    return lines if shown["words"] or shown["names"] else ["nothing"]
+    return [line.replace("\u2212", "-") for line in lines] if shown["words"] or shown["names"] else ["nothing"]
 
 
 def sum_of(text):
@@ -87,19 +86,9 @@ def sum_of(text):
     return second, (first + second - sum(minus)) % 65536 == final, final
 
 
-def compare_sums(shown, what):
-    """A binding adds the name's place to the word; putting it back subtracts the place."""
-    for text in shown["sums"]:
-        same(f"{what}: {text}", ("+" in text, sum_of(text)[1]), (True, True))
-    for text in shown["undone"]:
-        now, place, was = (int(number, 8) for number in re.findall(r"[0-7]{6}", text))
-        same(f"{what}: {text}", ("\u2212" in text, was), (True, (now - place) % 65536))
-
-
 def compare_state(tools, page, what, step, files):
     shown = page.read()
     same(what, lines_on(shown), tools.step(step, files))
-    compare_sums(shown, what)
     return shown
 
 
@@ -166,7 +155,7 @@ def walk(tools, page, files, chosen):
             what = f"withdraw {' '.join(os.path.basename(file) for file in longer)}"
             shown = compare_state(tools, page, what, len(longer) + 1, longer)
             wanted = [line.removeprefix("mark ") for line in tools.step(len(longer), longer) if line.startswith("mark ")]
-            same(f"{what}: put back", [words_of(line) for line in shown["done"]], wanted)
+            same(f"{what}: put back", [words_of(line.replace("\u2212", "-")) for line in shown["done"]], wanted)
             compare_tags(shown, what, shown["done"], "put back")
 
 
@@ -193,7 +182,7 @@ def every_state(tools, page, files):
 
 
 def clicks(tools, page, files):
-    """The lesson by clicks: two objects, both taken back, steps back and forth, and an address that is kept."""
+    """The lesson by clicks: two objects, one taken back, and an address that is kept."""
     page.open("")
     page.click("add1")
     compare_state(tools, page, "click add1", 1, files[:1])
@@ -202,13 +191,9 @@ def clicks(tools, page, files):
     same("what is marked", [word["tag"] for word in added["words"]], ["", "", "", "bound", "", "new", "new"])
     page.click("withdraw")
     compare_state(tools, page, "click withdraw", 3, files[:2])
-    page.click("back")
+    page.back()
     page.wait("return location.hash === '#objects=1,2'")
-    page.click("back")
-    page.wait("return location.hash === '#objects=1'")
-    page.click("forth")
-    page.wait("return location.hash === '#objects=1,2'")
-    same("step forth", lines_on(page.read()), lines_on(added))
+    same("step back", lines_on(page.read()), lines_on(added))
     page.pick("addresses", "-n (n)")
     kept = page.read()
     same("address", kept["hash"], "#objects=1,2&addresses=-n")
@@ -227,11 +212,8 @@ def by_keyboard(tools, page, files):
             break
     page.type(Keys.ENTER)
     compare_state(tools, page, "Enter", 1, files[1:2])
-    page.type("1", Keys.ARROW_LEFT)
-    page.wait("return location.hash === '#objects=2'")
-    page.type(Keys.ARROW_RIGHT)
-    page.wait("return location.hash === '#objects=2,1'")
-    compare_state(tools, page, "1, and arrows", 2, [files[1], files[0]])
+    page.type("1")
+    compare_state(tools, page, "1, by its key", 2, [files[1], files[0]])
 
 
 def large(tools, files):
@@ -379,6 +361,14 @@ def uses(tools, given):
     page.quit()
 
 
+def model(tools, given):
+    """What the page says is what a model of the session says."""
+    page = Page(given.default)
+    course, tables = given.with_lessons(given.program, "course.html"), given.with_lessons(given.tables, "tables.html")
+    said_everywhere(tools, page, [(given.default, given.files), (course, given.program), (tables, given.tables), (given.compiled_page, given.compiled)], same)
+    page.quit()
+
+
 def states(tools, given):
     """Each state of five objects, and of some larger ones."""
     files = given.files
@@ -399,7 +389,7 @@ def states(tools, given):
 
 
 # the parts, the longest first
-PARTS = {"firefox": in_firefox, "layout": layouts, "stage": stages, "planted": planted, "states": states, "use": uses}
+PARTS = {"firefox": in_firefox, "layout": layouts, "stage": stages, "planted": planted, "states": states, "model": model, "use": uses}
 
 
 def run_part(name, seed):

@@ -1,9 +1,9 @@
 """Compares the data of a page, which no browser has to show, with the programs. In each state these are its words, names and marks, as
 `v7-lesson` prints them, and its links, as `v7 ld` writes and `v7 nm` prints them. Then come the places that words mean, what it has of
-each object, with the object and the listing beside it, and the answers of its lessons. Wrong files of questions have to be refused.
+each object, and the answers of its lessons. Wrong files of questions have to be refused.
 
 usage: python3 -m tests.page.page_data [QUESTIONS FILE...]     five FILEs
-tier: check, 60 seconds; programs: v7 v7-lesson v7-explain; for: crates/v7_lesson page examples/lessons.txt
+tier: check, 60 seconds; programs: v7 v7-lesson v7-explain; for: crates/v7_lesson page examples/lessons.txt tests/page
 """
 import os
 import re
@@ -17,16 +17,12 @@ from tests.lib.files import TOP, read, read_bytes, write
 from tests.lib.objects import pack, unpack
 from tests.lib.programs import asked, program, ran
 from tests.page.page_lessons import bad_questions, lesson_answers, questions_of_all_kinds, remarks, states_in
-from tests.page.page_objects import FILES as COMPILED, PLACE, object_like_c, object_of_compiled
+from tests.page.page_objects import FILES as COMPILED, PLACE, asm, object_like_c
 
 LAYOUTS = {"plain": [], "-n": ["-n"], "-i": ["-i"], "-r": ["-r"]}
 WORD = 0o200000
 PARTS = ("text", "data")
 SEGMENTS = ("a number", "text", "data", "bss")
-KINDS = ("undefined", "common", "text", "data", "bss", "number")
-# how many numbers of a state a name, a group of words, a local symbol and a word have
-NAME, GROUP, LOCAL, PLACES = 2 + 2 * 4, 3 + 2 * 4, 4, 1 + 4
-PLACE_KINDS = ("same", "nowhere", "text", "data", "bss", "text-end", "data-end", "bss-end", "text-beyond", "data-beyond", "bss-beyond", "common", "outside")
 
 # the questions and the objects of the class example
 GIVEN = [f"{TOP}/examples/{name}" for name in ("lessons.txt", "main.o", "twice.o", "k.o", "l.o", "double.o")]
@@ -117,19 +113,19 @@ class Tools:
 
 
 # ---- what a page holds
-def pairs(flat, count=2):
-    return [flat[at:at + count] for at in range(0, len(flat), count)]
+def about_link(values, count, layout):
+    """The values about a link, so many for each: those after the last that differs from a plain link are left out."""
+    start = count * layout if count * layout < len(values) else 0
+    return values[start:start + count]
 
 
-def target_of(number, names):
-    """What a word refers to: the number of a segment, or -1 and a name; and whether relative to the pc."""
-    half = number // 2
-    return (half, "", number % 2 == 1) if half < 4 else (-1, names[half - 4], number % 2 == 1)
+def size_said(size):
+    return f"0{size:o} ({size}.) bytes"
 
 
-def own_target(target):
-    """The same of a word of an object, where a name is written out."""
-    return (-1, target[1:], target[0] == "p") if isinstance(target, str) else target_of(target, [])
+def addend_said(meant):
+    """A place beside a name."""
+    return "" if meant == 0 else f" - {WORD - meant:o}" if meant >= WORD // 2 else f" + {meant:o}"
 
 
 class State:
@@ -141,10 +137,10 @@ class State:
         self.names = [*(before.names if before else []), *record["newNames"]]
         for key in ("names", "groups", "locals", "places"):
             changed, added = record[key]
-            numbers = [*(getattr(before, f"{key}_now") if before else []), *added]
-            for at, number in pairs(changed):
-                numbers[at] = number
-            setattr(self, f"{key}_now", numbers)
+            records = [*(getattr(before, f"{key}_now") if before else []), *added]
+            for at, *one in changed:
+                records[at] = one
+            setattr(self, f"{key}_now", records)
         self.words = self.words_in_order()
 
     def words_in_order(self):
@@ -153,44 +149,47 @@ class State:
         for number, front in zip(self.list, self.fronts):
             one, place = self.objects[number], 0
             for which, part in enumerate(PARTS):
-                references = {index: (group, meant) for index, group, meant in pairs(one[f"{part}References"], 3)}
+                references = {index: (group, meant) for index, group, meant in one[f"{part}References"]}
                 for index, value in enumerate(one[part]):
-                    word = {"object": number, "index": index, "given": value, "value": value, "meant": value, "target": (0, "", False)}
+                    word = {"object": number, "index": index, "given": value, "value": value, "meant": value, "referent": 0, "pc": False}
                     if index in references:
                         group, meant = references[index]
-                        numbers = self.groups_now[group_start + GROUP * group:][:GROUP]
-                        places = self.places_now[reference_start + PLACES * place:][:PLACES]
-                        word = {**word, "value": (value + numbers[0]) % WORD, "meant": (meant + numbers[1]) % WORD, "target": target_of(numbers[2], self.names),
-                                "sums": pairs(numbers[3:]), "places": places}
+                        more, moved, referent, *sums = self.groups_now[group_start + group]
+                        word = {**word, "value": (value + more) % WORD, "meant": (meant + moved) % WORD, "referent": referent, "pc": one["groups"][group][1] % 2 == 1,
+                                "sums": [about_link(sums, 2, layout) for layout in range(4)], "places": self.places_now[reference_start + place]}
                         place += 1
                     found[part, front[which] + 2 * index] = word
-            group_start += GROUP * (len(one["groups"]) // 2)
-            reference_start += PLACES * place
+            group_start += len(one["groups"])
+            reference_start += place
         return {key: found[key] for key in sorted(found, key=lambda key: (PARTS.index(key[0]), key[1]))}
 
     def size(self, segment):
         sizes = self.record["sizes"]
         return sizes[2] if segment == 3 else 2 * sizes[segment - 1] if segment else 0
 
-    def symbol(self, index, layout):
-        """The value and the letter of a name in a link."""
-        value, letter = self.names_now[NAME * index + 2 + 2 * layout:][:2]
-        return value, chr(letter)
-
     def lines(self):
         """The state as `v7-lesson` prints it."""
         lines = [self.line(*key, word) for key, word in self.words.items()]
-        lines += [f"bss {self.size(3)} bytes"] if self.size(3) else []
-        lines += [f"name {name}: {known_as(*self.names_now[NAME * i:NAME * i + 2])}" for i, name in enumerate(self.names)]
+        lines += [f"bss {size_said(self.size(3))}"] if self.size(3) else []
+        lines += [f"name {name}: {known_as(*record[:2])}" for name, record in zip(self.names, self.names_now)]
         lines += [f"name {name}: multiply defined" for name in self.record["multiples"]]
         lines += [mark_line(mark) for mark in self.record["marks"]]
         return lines or ["nothing"]
 
     def line(self, part, offset, word):
-        kind, name, pc = word["target"]
-        said = f"waits for {name}" if kind < 0 else SEGMENTS[kind] + self.place_text(kind, word["meant"], pc)
-        instruction = self.objects[word["object"]]["instructions"]["text"].get(str(word["index"])) if part == "text" else None
-        return words_of(f"{part} {offset:06o} {word['value']:06o} {'pc' if pc else ''} {said}") + (f" / {instruction}" if instruction else "")
+        referent = word["referent"]
+        said = f"waits for {referent}{addend_said(word['meant'])}" if isinstance(referent, str) else SEGMENTS[referent] + self.place_text(referent, word["meant"], word["pc"])
+        instruction = self.instruction(word["object"], word["index"], offset) if part == "text" else None
+        return words_of(f"{part} {offset:06o} {word['value']:06o} {'pc' if word['pc'] else ''} {said}") + (f" / {instruction}" if instruction else "")
+
+    def instruction(self, number, index, offset):
+        """An instruction of an object; a branch has its place in the image, and that in the object."""
+        one = self.objects[number]
+        text, target = one["instructions"].get(str(index)), one["branches"].get(str(index))
+        if target is None or offset == 2 * index:
+            return text
+        own = f"{target:o}"
+        return f"{text.removesuffix(own)}{(target + offset - 2 * index) % WORD:o}, in {os.path.basename(one['path'])} {own}"
 
     def place_text(self, kind, meant, pc):
         if kind == 0:
@@ -200,23 +199,22 @@ class State:
     def table(self, layout):
         """The symbol table of a link, as `nm -p` prints it."""
         owned = [line for number in self.list for line in self.objects[number]["symbols"] if line[7] == line[7].lower()]
-        lines = [f"{self.locals_now[LOCAL * i + layout]:06o} {line[7:]}" for i, line in enumerate(owned)]
-        for i, name in enumerate(self.names):
-            value, letter = self.symbol(i, layout)
+        lines = [f"{about_link(values, 1, layout)[0]:06o} {line[7:]}" for line, values in zip(owned, self.locals_now)]
+        for name, record in zip(self.names, self.names_now):
+            value, letter = about_link(record[2:], 2, layout)
             lines.append(f"{'      ' if letter == 'U' else f'{value:06o}'} {letter} {name}")
         return "".join(f"{line}\n" for line in lines)
 
 
 def known_as(kind, number):
-    name = KINDS[kind]
-    return name if name == "undefined" else f"a common of {number} bytes" if name == "common" else f"{'the number' if name == 'number' else name} {number:06o}"
+    return kind if kind == "undefined" else f"a common of {size_said(number)}" if kind == "common" else f"{'the number' if kind == 'number' else kind} {number:06o}"
 
 
 def mark_line(mark):
     if mark[0] == "name":
         return f"mark {mark[1]} was {known_as(*mark[2:4])}"
-    kind, name, pc = own_target(mark[3])
-    return words_of(f"mark {mark[0]} {mark[1]:06o} was {mark[2]:06o} {'pc' if pc else ''} {f'waits for {name}' if kind < 0 else SEGMENTS[kind]}")
+    part, offset, value, pc, referent, meant, *_ = mark
+    return words_of(f"mark {part} {offset:06o} was {value:06o} {'pc' if pc else ''} waits for {referent}{addend_said(meant)}")
 
 
 def states_of(data):
@@ -234,7 +232,7 @@ def sizes_of(lines):
     """The sizes of the merged segments in bytes, from the lines of `v7-lesson`."""
     words = {part: [line for line in lines if line.startswith(part + " ")] for part in PARTS}
     bss = [line for line in lines if line.startswith("bss ")]
-    return {"text": 2 * len(words["text"]), "data": 2 * len(words["data"]), "bss": int(bss[0].split()[1]) if bss else 0}
+    return {"text": 2 * len(words["text"]), "data": 2 * len(words["data"]), "bss": int(bss[0].split()[1], 8) if bss else 0}
 
 
 def place_in_image(line, sizes):
@@ -247,7 +245,7 @@ def place_in_image(line, sizes):
         return ("outside", meant) if found[4] and segment == "a number" else ("nowhere", 0)
     if meant < sizes[segment]:
         return segment, meant if segment == "bss" else meant - meant % 2
-    return f"{segment}-end" if meant == sizes[segment] else f"{segment}-beyond", meant
+    return (f"{segment}-end", 0) if meant == sizes[segment] else (f"{segment}-beyond", meant)
 
 
 def place_in_link(linked, base, own, meant):
@@ -257,7 +255,7 @@ def place_in_link(linked, base, own, meant):
               "bss": (base + data + linked["commons"], base + data + bss)}
     start, end = {"": (0, 0), **bounds, "bss": (base + data, base + data + bss)}[own]
     if start < meant == end:
-        return f"{own}-end", meant
+        return f"{own}-end", 0
     is_text = own in ("", "text")
     for part, (start, end) in bounds.items():
         if (magic != 0o411 or is_text == (part == "text")) and start <= meant < end:
@@ -277,7 +275,7 @@ def compare_link(state, layout, name, linked, what):
     bases = record["bases"]
     same(f"{what}: where segments begin and end", [*bases[:3], bases[4]], [header[1], base, base + header[2], base + header[2] + header[3]])
     linked["commons"] = bases[3] - bases[2]
-    laid = sum(state.names_now[NAME * i + 1] + state.names_now[NAME * i + 1] % 2 for i in range(len(state.names)) if state.names_now[NAME * i] == 1)
+    laid = sum(size + size % 2 for kind, size, *_ in state.names_now if kind == "common")
     same(f"{what}: bytes of commons", linked["commons"], 0 if name == "-r" else laid)
     letters = {line[9:]: line[7] for line in linked["table"].splitlines() if line[7].isupper()}
     for (part, offset), word in state.words.items():
@@ -286,8 +284,8 @@ def compare_link(state, layout, name, linked, what):
         same(f"{what}: {part} {offset:o}", (word["given"] + plus - minus) % WORD, final)
         if "places" not in word:
             continue
-        kind, of, pc = word["target"]
-        own = SEGMENTS[kind] if kind > 0 else {"T": "text", "D": "data", "B": "bss"}.get(letters.get(of)) if kind < 0 else "" if pc else None
+        referent, pc = word["referent"], word["pc"]
+        own = {"T": "text", "D": "data", "B": "bss"}.get(letters.get(referent)) if isinstance(referent, str) else SEGMENTS[referent] if referent else "" if pc else None
         meant = (final + offset + (base if part == "data" else 0) + 2) % WORD if pc else final
         wanted = ("nowhere", 0) if own is None else place_in_link(linked, base, own, meant)
         same(f"{what}: {part} {offset:o} means", place_said(word["places"], layout), wanted)
@@ -296,9 +294,10 @@ def compare_link(state, layout, name, linked, what):
 
 def place_said(places, layout):
     """The place that the page has for a word, in the image, or in a link."""
-    number = places[0] if layout < 0 or not places[1 + layout] else places[1 + layout]
-    kind = PLACE_KINDS[1:][number // WORD] if number < WORD else PLACE_KINDS[number // WORD + 1]
-    return kind, 0 if kind == "nowhere" else number % WORD
+    in_image, *in_links = places
+    row = (about_link(in_links, 1, layout)[0] if layout >= 0 and in_links else None) or in_image
+    kind, _, number = row.rpartition("-")
+    return ("nowhere", 0) if not row else (row, 0) if number == "end" else (kind, int(number))
 
 
 def compare_states(tools, files, data, what):
@@ -324,20 +323,6 @@ def compare_states(tools, files, data, what):
 
 
 # ---- objects
-def lines_of_listing(path, start, part, words):
-    """The source that a listing has beside the words of a segment, by their indices."""
-    found, here = {}, ""
-    for line in open(path, encoding="utf-8").read().splitlines() if os.path.exists(path) else []:
-        if line.strip() in (*PARTS, "symbols"):
-            here = line.strip()
-        fields = line.split(None, 3)
-        if here == part and len(fields) == 4 and all(re.fullmatch("[0-7]+", field) for field in fields[:2]):
-            index = (int(fields[0], 8) - start) // 2
-            if 0 <= index < len(words) and words[index] == int(fields[1], 8):
-                found[str(index)] = fields[3].strip()
-    return found
-
-
 def texts_of(words, relocs):
     """The texts of data, as the page has them: the index after each, how many words it has, and its bytes."""
     is_byte = lambda byte: byte in (0, 9, 10) or 32 <= byte < 127
@@ -347,30 +332,39 @@ def texts_of(words, relocs):
             length += 1
             continue
         if length >= 2:
-            found += [index, length, struct.pack(f"<{length}H", *words[index - length:index]).decode("latin-1")]
+            found.append([index, length, struct.pack(f"<{length}H", *words[index - length:index]).decode("latin-1")])
         length = 0
     return found
 
 
 def compare_objects(tools, files, data):
-    """What the page has of each object is what its file and the listing beside it have."""
+    """What the page has of each object is what its file has."""
     for path, one in zip(files, data["objects"]):
         file = unpack(read_bytes(path))
         same(f"{path}: words", (one["text"], one["data"], one["bss"]), ([*file.text], [*file.data], file.header[3]))
         same(f"{path}: symbols", one["symbols"], tools.nm(path).splitlines())
         same(f"{path}: texts", one["texts"], texts_of(file.data, file.relocation[len(file.text):]))
-        listing = re.sub(r"\.o$", ".lst", path)
-        wanted = {part: lines_of_listing(listing, start, part, held) for part, start, held in (("text", 0, file.text), ("data", file.header[1], file.data))}
-        same(f"{path}: source", one.get("source"), wanted if os.path.exists(listing) else None)
+        for which, part in enumerate(PARTS):
+            relocs = file.relocation[:len(file.text)] if part == "text" else file.relocation[len(file.text):]
+            shown = {index: one["groups"][group][1] for index, group, _ in one[f"{part}References"]}
+            same(f"{path}: relocation words of {part}", shown, {index: reloc for index, reloc in enumerate(relocs) if reloc & 0o17})
+            references = shown.keys() if part == "text" else ()
+        same(f"{path}: branches", {int(index): target for index, target in one["branches"].items()}, branches_in(file, one["instructions"], references))
 
 
-def listing_of_another(tools, files):
-    """A listing that has another word than its object has no source beside that word."""
-    path = write(f"{tools.room}/other.lst", read(f"{files[0][:-2]}.lst").replace("016700", "016701"))
-    given = [write(f"{tools.room}/other.o", read_bytes(files[0]))]
-    data, _ = states_in(tools.page_of(given, "other.html"))
-    compare_objects(tools, given, data)
-    same(f"{path}: source", sorted(data["objects"][0]["source"]["text"]), ["1", "2", "3", "4"])
+def branch_of(word, address):
+    """The address to which a word branches, if it does."""
+    if word & 0o177000 == 0o077000:
+        return (address + 2 - 2 * (word & 0o77)) % WORD
+    if 0o400 <= word < 0o4000 or 0o100000 <= word < 0o104000:
+        return (address + 2 + 2 * (word & 0o377) - (0o1000 if word & 0o200 else 0)) % WORD
+    return None
+
+
+def branches_in(file, instructions, references):
+    """For each word that begins a branch to a number where it leads: a name is in place of the number, where one is known."""
+    found = {int(index): branch_of(file.text[int(index)], 2 * int(index)) for index in instructions if int(index) not in references}
+    return {index: target for index, target in found.items() if target is not None and re.search(r"[ ,][0-7]+$", instructions[str(index)])}
 
 
 # ---- files that are refused, and counts
@@ -412,15 +406,6 @@ def full(tools, files):
     refused = [(state["list"], state["object"], state["refused"]) for state in data["states"] if "refused" in state]
     same("refused", refused, [([0], [1], "text full"), ([1], [0], "text full")])
     return path
-
-
-def name_of_nine_letters(tools):
-    """The name of a common is an answer, and no longer name that begins by its eight letters."""
-    given = write(f"{tools.room}/eight.o", object_of([(0, 0)], [("_letters", 0o40, 2)]))
-    for name in ("_letters", "_letterss"):
-        path = write(f"{tools.room}/eight.txt", f"lesson One\nadd eight.o\nask commons Which?\nname {name}\n")
-        wanted = "" if len(name) == 8 else f"v7-lesson: {path}: line 4: {name} is no answer\n"
-        same(f"the answer {name}", tools.asked_of(path, given)[::2], (2 if wanted else 0, wanted))
 
 
 def counts(tools, files):
@@ -472,35 +457,41 @@ def same_objects(folder):
     """The objects of a folder are what the assembler makes of the compiler's files beside them."""
     names = [name[:-2] for name in sorted(os.listdir(folder)) if name.endswith(".s")]
     for name in names:
-        same(f"{folder}/{name}.o", read_bytes(f"{folder}/{name}.o") == object_of_compiled(folder, name), True)
+        same(f"{folder}/{name}.o", read_bytes(f"{folder}/{name}.o") == asm.assembled(read(f"{folder}/{name}.s")), True)
     same(f"objects of {folder}", len(names) > 0, True)
 
 
 def sixteen_objects():
     """The paths of the sixteen objects of tests/page/data."""
-    same_objects(PLACE)
     return [os.path.join(PLACE, f"{name}.o") for name in COMPILED]
+
+
+def long_names(tools):
+    """The assembler of the examples refuses two names that are equal in eight bytes."""
+    for names, wanted in ((("_longname1", "_longname2"), (1, "names.s:3:1: _longname2 and _longname1 are equal in eight bytes\n")), (("_long1", "_long2"), (0, ""))):
+        write(f"{tools.room}/names.s", f"\t.globl {names[0]}\n{names[0]}: rts pc\n{names[1]}: rts pc\n")
+        status, _, error = ran(sys.executable, f"{TOP}/examples/asm.py", "names.s", cwd=tools.room).texts("utf-8")
+        same(f"asm.py with {names}", (status, error), wanted)
 
 
 def check_data(tools, questions, files):
     """All that needs no browser."""
+    long_names(tools)
     scripts(tools.page)
     refusals(tools, files)
     largest_page(tools, files)
     full(tools, files)
     bad_questions(tools, files, same)
     questions_of_all_kinds(tools, files, same)
-    name_of_nine_letters(tools)
     counts(tools, files)
-    listing_of_another(tools, files)
     given, many = program_in_c(files), sixteen_objects()
     for one in (given, tables_and_bss(files)):
         same_objects(os.path.dirname(one[0]))
     again = tools.bytes_of_link(["-r"], tables_and_bss(files)[:2])
     same("pair.o is the output of ld -r", read_bytes(tables_and_bss(files)[4]) == again, True)
     of_c, of_tables = (os.path.join(os.path.dirname(one[0]), "lessons.txt") for one in (given, tables_and_bss(files)))
-    for what, held, of, least in (("the class example", files, questions, (9, 12)), ("a program in C", given, of_c, (2, 6)),
-                                  ("tables and bss", tables_and_bss(files), of_tables, (3, 15)),
+    for what, held, of, least in (("the class example", files, questions, (10, 12)), ("a program in C", given, of_c, (2, 5)),
+                                  ("tables and bss", tables_and_bss(files), of_tables, (3, 10)),
                                   ("a program", program_files(files), "", ()), ("sixteen objects", many, "", ())):
         path = tools.page_of(held, "data.html", of)
         data, size = states_in(path)

@@ -151,7 +151,7 @@ THERE = "return location.hash.replace('#', '') === arguments[0] && hashOf(view) 
 
 # gives each word of text an instruction, as long as they come; how many of them are shown
 INSTRUCTIONS = """
-for (const object of DATA.objects) object.instructions = { text: object.text.map((_, index) => index % 3 === 1 ? "" : "movb *-177776(r5),*_longname+177776(r4)") };
+for (const object of DATA.objects) object.instructions = object.text.map((_, index) => index % 3 === 1 ? "" : "movb *-177776(r5),*_longname+177776(r4)");
 document.querySelectorAll(".given").forEach((words, i) => { words.open = true; showListing(words, DATA.objects[i]); });
 showAll();
 return document.querySelectorAll(".instruction").length;

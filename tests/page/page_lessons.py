@@ -29,28 +29,17 @@ QUESTIONS = [
     (CHOICE + "wrong One\nwrong Two", 5, "the question of line 3 has no reason for its wrong answer"),
     (CHOICE + "because so", 4, "the question of line 3 has no right answer"),
     ("lesson One\nask Which?", 2, "the question has no right answer"),
-    (CHOICE + "name _twice", 4, "the question of line 3 has no right answer"),
     ("lesson One\nword text 0", 2, "an answer to no question"),
     ("lesson One\nright One", 2, "an answer to no question"),
     ("lesson One\nask", 2, "ask is followed by a text"),
     ("# One\nlesson One\nshow main.o", 3, "show begins no line of a lesson"),
-    # questions about what is known now
-    (ONE + "ask undefined Which?\nname _count", 4, "_count is no answer"),
-    (ONE + "ask undefined Which?\nname _nothing", 4, "_nothing is no answer"),
-    (ONE + "ask commons Which?\nname _countxyz", 4, "_countxyz is no answer"),
-    (ONE + "ask reported Which?\nname _count", 4, "_count is no answer"),
-    (ONE + "ask reported Which?\nsay So.\nname _twice", 5, "an answer to no question"),
-    (ONE + "ask undefined Which?\nadd twice.o\nname _twice", 5, "an answer to no question"),
-    (TWO + "ask undefined Which?", 4, "the question has no answer"),
-    (ONE + "ask defines _twice Which?", 3, "no object defines the name"),
-    (ONE + "ask refers _count 0 Which?\nword text 6", 4, "text 6 is no answer"),
-    (ONE + "ask refers _count 0 Which?\nword text 12", 4, "there is no word text 12"),
-    (ONE + "ask refers _count 0 Which?\nword text 3", 4, "there is no word text 3"),
-    (ONE + "ask refers _count 0 Which?\nword data 0", 4, "there is no word data 0"),
-    (ONE + "ask refers _count 0 Which?\nword bss 0", 4, "there is no word bss 0"),
-    (ONE + "ask refers _count 2 Which?", 3, "the question has no answer"),
-    (ONE + "ask refers _count Which?", 3, "refers is followed by a name, a number and a text"),
     # questions about the next step
+    (ONE + "ask changes Which?\nword text 12\nadd twice.o", 4, "there is no word text 12"),
+    (ONE + "ask changes Which?\nword text 3\nadd twice.o", 4, "there is no word text 3"),
+    (ONE + "ask changes Which?\nword bss 0\nadd twice.o", 4, "there is no word bss 0"),
+    (ONE + "ask value text 6 What?\nword text 6\nadd twice.o", 4, "an answer to no question"),
+    (ONE + "ask undefined Which?\nname _twice", 4, "the question of line 3 has no right answer"),
+    (ONE + "name _twice", 3, "name begins no line of a lesson"),
     (ONE + "ask changes Which?\nword text 4\nadd twice.o", 5, "the word at 4 does not change"),
     (TWO + "ask changes Which?\nword text 2\nwithdraw", 6, "the word at 2 does not change"),
     (ONE + "ask value text 6 What?\nnumber 4\nadd twice.o", 5, "the number is 2"),
@@ -79,6 +68,8 @@ QUESTIONS = [
     (ONE + "say It is {-r _count}.", 3, "-r _count in braces refers to nothing"),
     (ONE + "say It is {-n text 12}.", 3, "-n text 12 in braces refers to nothing"),
     (ONE + "say It is {was text 6}.", 3, "was text 6 in braces refers to nothing"),
+    (ONE + "say It is {size text = 10}.", 3, "size text in braces is 12"),
+    (ONE + "say It is {reloc text 12}.", 3, "reloc text 12 in braces refers to nothing"),
     (ONE + "say It is {size commons}.", 3, "size commons in braces refers to nothing"),
     (ONE + "say It is {}.", 3, " in braces refers to nothing"),
     (ONE + "say It is {text 6 = 4}.", 3, "text 6 in braces is 177770"),
@@ -104,31 +95,30 @@ add main.o
 say <!-- </script> -->
 lesson Two
 add main.o
-say PDP-11, r0 and "15" are no numbers; {text 2 = 177774} {after text 2 = 4} {before text 2 = 0} {size text = 10} {_count = 2} {plain _count = 12} {-n data = 20000} are.
-ask commons Which?
-name _count
+say PDP-11, r0 and "15" are no numbers; {text 2 = 177774} {after text 2 = 4} {before text 2 = 0} {reloc text 2 = 51} {reloc text 0 = 0} {size text = 12} {_count = 2} {plain _count = 12} {-n data = 20000} are.
 add twice.o
 say It was {was text 6 = 177770}, and is {at text 6 = 6} {text 6 = 2} {_twice = 12} {-n text 2 = 17774}.
 """
 # the numbers of its texts, in their order, but for sizes: these are texts
-NUMBERS = [0o177774, 4, 0, 0o12, 0o20000, 0o177770, 6, 2, 0o12, 0o17774]
+NUMBERS = [0o177774, 4, 0, 0o51, 0, 0o12, 0o20000, 0o177770, 6, 2, 0o12, 0o17774]
 
 
 def questions_of_all_kinds(tools, files, same):
     """A withdrawn object can come again, a lesson begins with no object, and a text is data, whatever it has."""
     data, _ = states_in(tools.page_of(files, "accepted.html", write(f"{tools.room}/accepted.txt", ACCEPTED)))
     same("a text that could end the script", [line[1] for line in data["lessons"] if "script" in str(line)], ["</script><b>", "<!-- </script> -->"])
+    same("sizes in texts", [part for line in data["lessons"] for part in line if "(" in str(part)], ["012 (10.)", "02 (2.)"])
     same("the numbers of texts", [part for line in data["lessons"] if line[0] == "say" for part in line if isinstance(part, int)], NUMBERS)
 
 
 def changed_by(states, here, word, rest):
     """The words that a step changes, and the list after it."""
     longer = [*here, rest[0]] if word == "add" else here
-    marks = [[mark[0], mark[1]] for mark in states[tuple(longer)]["marks"] if mark[0] != "name"]
+    marks = [f"{mark[0]}-{mark[1]}" for mark in states[tuple(longer)]["marks"] if mark[0] != "name"]
     return marks, longer if word == "add" else here[:-1]
 
 
-def lesson_answers(tools, path, files, layouts, same, lessons=9, answers=12):
+def lesson_answers(tools, path, files, layouts, same, lessons=10, answers=12):
     """The answers of the lessons are what the programs say of the objects; there are so many lessons, and answers at least."""
     data, _ = states_in(path)
     states = {tuple(state["list"]): state for state in data["states"] if "marks" in state}
@@ -136,9 +126,6 @@ def lesson_answers(tools, path, files, layouts, same, lessons=9, answers=12):
     for word, *rest in data["lessons"]:
         if word == "lesson":
             here = []
-        elif word in KNOWN:
-            same(f"the answer to {word} {rest}", known_said(tools, word, rest, here, files), rest)
-            compared_here += 1
         elif word in ("changes", "value", "where"):
             asked = [word, *rest]
         elif word in ("add", "withdraw", "link", "image"):
@@ -148,34 +135,6 @@ def lesson_answers(tools, path, files, layouts, same, lessons=9, answers=12):
                 compared_here += 1
             here, asked = after, None
     same("lessons", (sum(line[0] == "lesson" for line in data["lessons"]), compared_here >= answers), (lessons, True))
-
-
-KNOWN = ("undefined", "commons", "reported", "refers", "defines")
-
-
-def known_said(tools, word, rest, here, files):
-    """The answer to a question about what is known now, as the programs give it: names, words, or the number of an object."""
-    there = [files[number] for number in here]
-    lines = tools.step(len(there), there)
-    known = dict(line[5:].split(": ", 1) for line in lines if line.startswith("name "))
-    if word in ("undefined", "commons"):
-        return [name for name, state in known.items() if state.startswith("a common" if word == "commons" else word)]
-    if word == "reported":
-        report = tools.link([], there)["report"]
-        return re.findall(r"^(\S+): Multiply defined$", report, re.M) + re.findall(r"^(\S+)$", report.partition("Undefined:\n")[2], re.M)
-    if word == "defines":
-        tables = [[line[7:] for line in tools.nm(path).splitlines()] for path in there]
-        return [rest[0], next(number for number, table in zip(here, tables) if any(f"{letter} {rest[0]}" in table for letter in "TDBA"))]
-    segment, _, number = known[rest[0]].partition(" ")
-    is_bound = segment in ("text", "data", "bss")
-    found = []
-    for line in lines:
-        one = re.match(r"(text|data) ([0-7]{6}) ([0-7]{6}) (pc )?(waits for )?(\S+)", line)
-        if one and (bool(one[5]), one[6]) == (not is_bound, segment if is_bound else rest[0]):
-            offset, value = int(one[2], 8), int(one[3], 8)
-            if ((value + offset + 2) % 65536 if one[4] else value) == rest[1] + (int(number, 8) if is_bound else 0):
-                found += [one[1], offset]
-    return [*rest[:2], *found]
 
 
 def remarks(tools, path, files, same):
@@ -197,15 +156,16 @@ def answer_said(tools, asked, files, word, rest, marks, layouts):
     """A question with the answer that the programs give."""
     kind, *about = asked
     if kind == "changes":
-        return ["changes", *(part for mark in marks for part in mark)]
+        return ["changes", *marks]
     if word == "link":
         linked = tools.link(list(layouts.values())[rest[0]], files)
         lines = [line for line in linked["table"].splitlines() if line[9:] == about[0] and line[7] not in "UC"]
         number = int(lines[0][:6], 8) if lines else None
         if kind == "value":
-            number = linked["segments"][about[0]][about[1] // 2]
+            part, offset = about[0].split("-")
+            number = linked["segments"][part][int(offset) // 2]
     else:
         lines = [line.split() for line in tools.step(len(files), files)]
-        found = [line for line in lines if line[:2] == [about[0], f"{about[1]:06o}"]] if kind == "value" else []
+        found = [line for line in lines if kind == "value" and f"{line[0]}-{int(line[1], 8) if line[1].isdigit() else 0}" == about[0]]
         number = int(found[0][2], 8) if found else None
-    return ["where", about[0], number] if kind == "where" else ["value", about[0], about[1], number, asked[4]]
+    return ["where", about[0], number] if kind == "where" else ["value", about[0], number, asked[3]]

@@ -1,23 +1,12 @@
-#!/usr/bin/env python3
-"""The objects that the page is measured with.
-
-tests/page/data has a program in C of sixteen files: a calculator for a PDP-11 without any library. examples/total has a smaller one.
-Debian's Portable C Compiler (the source package pcc, 1.2.0~DEVEL+20220331, configured with --target=pdp11-unknown-bsd) made the files
-*.s of them; its parts `cpp` and `ccom` are all that is needed, and build in a minute. examples/asm.py makes the objects of
-these.
-
-usage: python3 -m tests.page.page_objects            writes the objects beside their sources
-       python3 -m tests.page.page_objects CPP CCOM   compiles the sources first
-
-Besides, `object_like_c` makes objects of any size, of which about a third of the words refer to something: no compiler made those.
+"""The objects that the page is measured with. tests/page/data has a program in C of sixteen files: a calculator for a PDP-11 without any
+library, as Debian's Portable C Compiler (the source package pcc, 1.2.0~DEVEL+20220331, configured with --target=pdp11-unknown-bsd) and
+examples/asm.py made it. Besides, `object_like_c` makes objects of any size, of which about a third of the words refer to something: no
+compiler made those.
 """
 import os
 import random
-import sys
 
-from tests.lib.files import read, write
 from tests.lib.objects import pack
-from tests.lib.programs import asked
 
 TEXT, DATA, BSS, EXTERNAL, PC = 0o2, 0o4, 0o6, 0o10, 0o1
 FUNCTIONS = 4
@@ -26,7 +15,6 @@ HERE = os.path.dirname(os.path.abspath(__file__))
 import asm  # noqa: E402, as it is in examples
 
 PLACE = os.path.join(HERE, "data")
-FOLDERS = [PLACE, *(os.path.join(HERE, "..", "..", "examples", name) for name in ("total", "menu"))]
 # the files of the program, in the order in which they are linked: a file comes before those that it calls
 FILES = ["main", "command", "line", "token", "number", "parse", "apply", "stack", "name", "mem", "list", "sort", "error", "text", "print", "start"]
 
@@ -125,26 +113,3 @@ class Maker:
 def object_like_c(number, size, count, seed=0):
     """The object of this number, of so many words, in a program of so many objects that are made from a seed."""
     return Maker(number, size, count, seed).make()
-
-
-def compile_all(folder, cpp, ccom):
-    """Compiles the sources of a folder."""
-    for source in sorted(name for name in os.listdir(folder) if name.endswith(".c")):
-        write(f"{folder}/{source[:-2]}.s", asked(ccom, input=asked(cpp, source, cwd=folder)))
-
-
-def object_of_compiled(folder, name):
-    """The object that the assembler makes of a file of the compiler."""
-    return asm.assembled(read(f"{folder}/{name}.s"))
-
-
-def main(words):
-    for folder in FOLDERS:
-        if words:
-            compile_all(folder, *map(os.path.abspath, words))
-        for name in [name[:-2] for name in os.listdir(folder) if name.endswith(".s")]:
-            write(f"{folder}/{name}.o", object_of_compiled(folder, name))
-
-
-if __name__ == "__main__":
-    main(sys.argv[1:])

@@ -12,7 +12,7 @@ from tests.lib.files import read_bytes
 from tests.page.page_browser import Chromium
 
 PICTURES = "docs/pictures"
-STATES = {"first": "", "bound": "objects=1,2", "addresses": "objects=1,2,3,4&addresses=-n"}
+STATES = {"first": "", "bound": "objects=1,2"}
 # how many of a thousand pixels may differ: other versions of a browser smooth letters in another way
 LIMIT = 15
 

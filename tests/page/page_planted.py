@@ -4,7 +4,7 @@ import re
 import tempfile
 
 from tests.lib.files import read, write
-from tests.page import page_pictures
+from tests.page import page_model, page_pictures
 from tests.page.page_layout import look
 from tests.page.page_lessons import lesson_answers
 from tests.page.page_stage import STEP, VIEW, choices, compare_ends, compare_given, first, moved, owners
@@ -12,8 +12,8 @@ from tests.page.page_use import beside, distances, maps, numbers, old_browser, p
 
 # scripts that plant a fault into the page that is shown, and the measure that has to find it
 STAGE = {
-    "an arrow one row off": ("ends", "const original = idOfPlace; idOfPlace = (number) => original(Math.floor(number / WORD) === 1 ? number + 2 : number);"),
-    "an arrow to the title of its segment": ("ends", "idOfPlace = ((real) => (number) => real(number).replace(/^data-\\d+$/, 'data'))(idOfPlace);"),
+    "an arrow one row off": ("ends", "placeOf = ((real) => (...of) => real(...of).replace(/^text-(\\d+)$/, (_, number) => `text-${Number(number) + 2}`))(placeOf);"),
+    "an arrow to the title of its segment": ("ends", "placeOf = ((real) => (...of) => real(...of).replace(/^data-\\d+$/, 'data'))(placeOf);"),
     "an instruction dropped": ("view", "document.querySelector('.word.bound .instruction').remove();"),
     "a name dropped": ("view", "document.querySelector('.place-line .label').remove();"),
     "a word left out of its group": ("step", "groupsOf = ((real) => (state, keys) => real(state, keys.slice(1)))(groupsOf); showChosen(true);"),
@@ -42,7 +42,23 @@ SCRIPTS = {
     "a number of a lesson that is octal in decimal too": ("numbers", '(typeof part === "number" ? small(part) : part)', '(typeof part === "number" ? part.toString(8) : part)'),
     "-n with data at 0 in the maps": ("maps", '["data", bases[1], bases[2]]', '["data", layout === 1 ? 0 : bases[1], bases[2]]'),
     "the practice asks for the state before": ("practice", "const marks = wordsOfMarks(list);\n    const adds", "const marks = wordsOfMarks(list.slice(0, -1));\n    const adds"),
-    "the practice exchanges before and after": ("practice", "number: mark[2], before: mark[6]", "number: mark[6], before: mark[2]"),
+    "the practice exchanges before and after": ("practice", "number, before, act: adds }];", "number: before, before: number, act: adds }];"),
+    "a distance from the word itself": ("says", "the distance from ${shown(offset + 2)} to", "the distance from ${shown(offset)} to"),
+    "as many words wait as names": ("says", 'return `${counted(waiting.length, "word")} ${waiting.length === 1', 'return `${counted(names.size, "word")} ${waiting.length === 1'),
+    "bytes of bss called words": ("says", "[bss, `${bytesText(bss)} of bss`]", "[bss, `${bss} words of bss`]"),
+    "what a name was": ("says", 'return mark ? stateText(mark.kind, mark.number) : "";', 'return mark ? "undefined" : "";'),
+    "a sum turned round": ("says", "`${was} + ${bound} = ${now}`", "`${bound} + ${was} = ${now}`"),
+    "a size in one base": ("says", "`0${size.toString(8)} (${size}.)`", "`0${size} (${size}.)`"),
+    "a name without its addend": ("in_link", "const of = word.own.kind < 0 ? nameText(word.own)", "const of = word.own.kind < 0 ? word.own.name"),
+    "offsets of a card that begin at 0": ("cards", "const cells = [column(word.offset), column(word.value)", "const cells = [column(2 * index), column(word.value)"),
+    "another symbol in a relocation word": ("cards", "`symbol ${reloc >> 4}`", "`symbol ${reloc >> 3}`"),
+    "one word more that refers to a name": ("count", 'counted(drawn.references.length, "word")} refer', 'counted(drawn.references.length + 1, "word")} refer'),
+    "shares of the first segment": ("maps", "const next = state.fronts[place + 1]?.[which]", "const next = state.fronts[place + 1]?.[0]"),
+    "another colour in the legend": ("legend", '<li><span class="swatch new"></span>', '<li><span class="swatch put-back"></span>'),
+    "a hint to subtract": ("reasons", ": add the place of ${name} to the word, modulo", ": subtract the place of ${name} from the word, modulo"),
+    "the tour's count": ("tour", "`${view.done + 1} of ${guide.steps.length}`", "`${view.done} of ${guide.steps.length}`"),
+    "a button that acts under a question": ("questions", 'off || isAsked()', 'off'),
+    "a branch of the object": ("branches", "((target + moved) % WORD).toString(8)", "target.toString(8)"),
     "objects in another order": ("owners", 'context.full.list.map((_, place) => foldRow(context, place, ""))', 'context.full.list.map((_, place) => foldRow(context, place, "")).reverse()'),
     "a place with another object": ("owners", '["span", "owned", label(object.number)]', '["span", "owned", label(0)]'),
     "a count that is one less": ("counts", '`and ${counted(left, "other word")}`', '`and ${counted(left - 1, "other word")}`'),
@@ -74,6 +90,13 @@ def counts(page, path, count, same):
     page.settle()
     seen = page.run(STEP)
     same("words in view, or counted", (seen["there"] + seen["more"], seen["more"] > 0), (seen["words"], True))
+
+
+def named(tools, page, path, files, same):
+    """A name that is chosen is said to have as many references as it has."""
+    page.load(path)
+    page.open("#" + first(len(files)))
+    choices(page, same, "a choice", ["name _twice", "name _count"], tools.uses(files))
 
 
 def on_stage(tools, page, files, layouts, kind, script):
@@ -121,7 +144,11 @@ def in_scripts(tools, page, path, files, layouts, room, change):
     measures = {"reasons": lambda: reasons(tools, page, [(changed, files)], found.same, 20), "numbers": lambda: numbers(page, changed, found.same),
                 "maps": lambda: maps(tools, page, changed, files, layouts, found.same), "practice": lambda: practice(tools, page, changed, files, found.same),
                 "owners": lambda: owners(page, changed, files, found.same), "counts": lambda: counts(page, changed, len(files), found.same), "paper": lambda: paper(page, changed, found.same),
-                "result": lambda: result(page, changed, found.same), "beside": lambda: beside(page, changed, files, found.same), "distances": lambda: distances(page, changed, found.same)}
+                "result": lambda: result(page, changed, found.same), "beside": lambda: beside(page, changed, files, found.same), "distances": lambda: distances(page, changed, found.same),
+                "says": lambda: page_model.says(page, changed, files, found.same, 40), "in_link": lambda: page_model.in_link(page, changed, files, found.same),
+                "cards": lambda: page_model.cards(page, changed, files, found.same), "legend": lambda: page_model.legend(page, changed, found.same),
+                "tour": lambda: page_model.tour_count(page, changed, found.same), "questions": lambda: page_model.questions(page, changed, found.same),
+                "branches": lambda: page_model.branches(page, changed, files, found.same), "count": lambda: named(tools, page, changed, files, found.same)}
     measures[kind]()
     return found.faults
 
@@ -151,7 +178,7 @@ def with_right_key(text):
 
 def with_answer(text):
     """The first answer of what changes is another word."""
-    return re.sub(r'\["changes","text",\d+\]', '["changes","text",4]', text, count=1)
+    return re.sub(r'\["changes","text-\d+"\]', '["changes","text-4"]', text, count=1)
 
 
 # ---- pictures
@@ -175,7 +202,7 @@ def all_faults(tools, page, default, questions, files, program, given, compiled,
     yield "a wrong answer key", lambda is_planted: refused_key(tools, questions, files, room, with_key if is_planted else with_right_key)
     yield "a wrong answer in the page", lambda is_planted: wrong_answers(tools, default, files, layouts, room, with_answer if is_planted else str)
     for what, (kind, old, new) in SCRIPTS.items():
-        path, of = {"owners": (compiled, many), "counts": (compiled, many), "distances": (program, given)}.get(kind, (default, files))
+        path, of = {"owners": (compiled, many), "counts": (compiled, many), "distances": (program, given), "branches": (program, given)}.get(kind, (default, files))
         yield what, lambda is_planted, path=path, of=of, kind=kind, old=old, new=new: in_scripts(tools, page, path, of, layouts, room, (kind, old, new if is_planted else old))
     page.load(default)
     for what, script in LAYOUT.items():

@@ -21,10 +21,10 @@ def first(count):
 PLACES_MEANT = r"""
 const state = stateNow(), bases = isLinked(state) ? state.links[view.layout].bases : [0, 0, 0, 0];
 const starts = { text: 0, data: bases[1], bss: bases[3] };
+const context = { state, bases: isLinked(state) ? bases : null };
 return allReferences(state).filter((one) => one.to || !isLinked(state)).map((one) => {
     const [kind, ...rest] = one.to.split("-");
-    const number = placeOf(state, state.referenceStarts[one.place] + DATA.objects[state.list[one.place]].references[one.part].get(one.index).number, view.layout) % WORD;
-    return [one.id, one.to, rest.length === 1 && /^\d+$/.test(rest[0]) && kind in starts ? starts[kind] + Number(rest[0]) : number];
+    return [one.id, one.to, rest.length === 1 && /^\d+$/.test(rest[0]) && kind in starts ? starts[kind] + Number(rest[0]) : one.to ? spotNumber(context, one.to) : 0];
 });
 """
 # and for some of them the row at which the drawn arrow ends
@@ -229,7 +229,8 @@ const showsInstruction = (one) => {
     const object = DATA.objects[stateNow().list[word.place]];
     const start = word.part === "text" ? object.units.text[word.index] : -1;
     const first = byId(wordKey("text", word.offset - 2 * (word.index - start)));
-    return start < 0 || !object.instructions.text[start] || [one, first].some((row) => row?.querySelector(".instruction")?.textContent === object.instructions.text[start]);
+    const instruction = instructionAt(object, start, movedBy(word));
+    return start < 0 || !instruction || [one, first].some((row) => row?.querySelector(".instruction")?.textContent === instruction);
 };
 // whether a row has the name for which its word waited, and what the word was; the row of the place has the name too, if it is a word
 const isNamed = (row) => {
@@ -285,8 +286,11 @@ const more = [...document.querySelectorAll("#image .more-line")].filter(seen).re
 """
 STEP = SEEN + r"""
 const changed = [...changesOf(view)].filter(([key, how]) => isWordKey(key) && how !== "new").map(([key]) => key);
+const names = [...document.querySelectorAll(".name:is(.changed, .put-back)")];
+const inNames = (row) => [byId("names"), document.body].every((room) => row.getBoundingClientRect().top >= room.getBoundingClientRect().top - 2 && row.getBoundingClientRect().bottom <= Math.min(room.getBoundingClientRect().bottom, innerHeight) + 2);
 const lead = changed.filter((key) => wordOf(stateNow(), key)?.to);
 return { words: changed.length, there: changed.filter((key) => seen(byId(key))).length, more, leading: lead.length, whole: lead.filter(isWholeArrow).length,
+    names: names.length, named: names.filter(inNames).length,
     drawn: document.querySelectorAll("g.arrow").length, cut: [...document.querySelectorAll("g.arrow")].filter((arrow) => ![arrow.dataset.from, arrow.dataset.to].every((id) => seen(byId(id)))).length };
 """
 CHOSEN = SEEN + r"""
@@ -301,7 +305,7 @@ return some.map((key) => {
 """
 ASKED = SEEN + r"""
 const wait = nextStep();
-if (!wait?.ask || !["refers", "changes"].includes(wait.kind)) return null;
+if (wait?.kind !== "changes") return null;
 return wait.answers.filter((key) => !seen(byId(key))).length <= more ? [] : wait.answers;
 """
 
@@ -320,7 +324,7 @@ def scenes(page, path, count, same, what):
             same(f"{what}, step {number}: changed words in view, or counted", seen["there"] + seen["more"], seen["words"])
         same(f"{what}, step {number}: arrows with an end out of view", seen["cut"], 0)
         if seen["leading"]:
-            steps, whole = steps + 1, whole + (seen["whole"] == seen["leading"] and seen["there"] == seen["words"])
+            steps, whole = steps + 1, whole + (seen["whole"] == seen["leading"] and seen["there"] == seen["words"] and seen["named"] == seen["names"])
         missing = page.run(CHOSEN)
         chosen, wholly = chosen + len(missing), wholly + missing.count("")
     asked = 0

@@ -1,4 +1,4 @@
-"""Shows what v7 is: a session at a terminal, with its answers as they come, and a link of two objects with its bytes.
+"""Shows what v7 is: a session, line by line with its answers, and a link of two objects with its bytes.
 
 tier: check, 2 seconds; programs: v7; for: examples
 
@@ -11,7 +11,6 @@ import sys
 
 from tests.lib.files import read_bytes, room
 from tests.lib.programs import program
-from tests.programs import terminal
 
 # the words of the header, as docs/FORMAT.md has them
 HEADER = ["magic number 0407", "bytes of text", "bytes of data", "bytes of bss", "bytes of symbols", "entry point", "not used", "1: no relocation"]
@@ -20,17 +19,14 @@ CONTENTS = ["mov $6,r0: a.o loads the address of its data,", "which the link has
 
 
 def session():
-    """Plays the session at a terminal, and returns its answers."""
+    """Plays the session, and returns its answers. The answer to a line is what a session with this line says more than one without it."""
     print("$ v7 session", flush=True)
-    played, answers = terminal.Terminal(["session"]), ""
-    played.shown(b"v7> ")
-    for line in read_bytes("session.txt").decode().splitlines():
-        played.type(line)
-        answer = played.shown(b"v7> ")[:-len("v7> ")]
-        print(f"> {line}\n{answer}", end="", flush=True)
-        answers += answer
-    played.type("quit")
-    print("> quit\n" + played.ended()[0], flush=True)
+    lines, answers = read_bytes("session.txt").decode().splitlines(keepends=True), ""
+    for count, line in enumerate(lines, 1):
+        played = subprocess.run([program("v7"), "session"], input="".join(lines[:count]), stdout=subprocess.PIPE, stderr=subprocess.STDOUT, text=True, check=False)
+        print(f"> {line}{played.stdout[len(answers):]}", end="", flush=True)
+        answers = played.stdout
+    print()
     return answers
 
 

@@ -90,10 +90,10 @@ def make():
     script = f"{TOP}/packaging/installed.py"
     with tempfile.TemporaryDirectory() as room:
         os.chmod(room, 0o755)
-        stage, dest = f"{room}/stage", f"{room}/dest"
-        subprocess.run([sys.executable, script, "put", BUILD, f"{stage}/usr/local"], check=True)
-        subprocess.run([sys.executable, script, "copy", stage, dest, "/usr/local"], check=True)
-        root = f"{dest}/usr/local"
+        stage, root = f"{room}/stage", f"{room}/usr/local"
+        subprocess.run([sys.executable, script, "put", BUILD, f"{stage}{root}"], check=True)
+        subprocess.run([sys.executable, script, "copy", stage, f"{room}/package", root], check=True)
+        subprocess.run([sys.executable, script, "copy", stage, "", root], check=True)
         faults, pages, links = look(root)
         version = re.search(r'^#define V7_VERSION "(.*)"', read(f"{TOP}/include/v7.h"), re.M)[1]
         write(f"{root}/planted.md", "[a link](none.md)\n")
@@ -111,9 +111,9 @@ def make():
         for wanted in ("share/doc/v7/lesson.html", "share/doc/v7/docs/TUTORIAL.html", "share/doc/v7/man/v7.1.html", "share/man/man1/v7-ld.1",
                        "share/bash-completion/completions/v7-explain", "share/zsh/site-functions/_v7"):
             faults += [] if wanted in there or wanted.endswith(".html") and not has_html else [f"{wanted} is not installed"]
-        subprocess.run([sys.executable, script, "remove", dest, "/usr/local"], check=True)
-        left = glob.glob(f"{dest}/**", recursive=True) if os.path.exists(dest) else []
-        faults += [f"left: {path}" for path in left]
+        faults += [f"a package has {installed.NOTED}"] if os.path.exists(f"{room}/package{root}/{installed.NOTED}") else []
+        subprocess.run([sys.executable, script, "remove", root], check=True)
+        faults += [f"left: {room}/usr"] if os.path.exists(f"{room}/usr") else []
     return faults, pages, links
 
 

@@ -1,16 +1,17 @@
-"""Refuses one request for memory after another to each program, and judges what comes of it. tests/libv7/memory_library.py does so for libv7.
+"""Refuses one request for memory after another to each program, alone and with all after it, and judges what comes of it. tests/libv7/memory_library.py does so for libv7.
 
 usage: python3 -m tests.programs.memory [CALL ..]      all calls of the table, or these: 'v7 nm'; libv7.so is beside the programs
-tier: check, 60 seconds; programs: v7 v7-explain v7-object v7-from-gnu v7-lesson libv7.so; for: crates/surroundings
+tier: check, 110 seconds; programs: v7 v7-explain v7-object v7-from-gnu v7-lesson libv7.so; for: crates/surroundings tests/lib/watch.c
 
-A call is run as it is, and then with its first request refused, with its second, and so on, until a run makes fewer requests. For each
-call a line has their number, and how many of the runs came out as if nothing had been refused. In any other run the answer has to be
-`no memory`, in its place:
+A call is run as it is, and then with its first request refused, with its second, and so on, until a run makes fewer requests; and with
+each of them and all after it. For each call a line has their number, and how many of the runs came out as if nothing had been refused. In
+any other run the answer has to be `no memory`, in its place:
 
 - The status is 2, and the line of the fault is all of standard error. Standard output has the answers for the files before.
 - Nothing is stored, and each file is as it was.
 - A session answers a line by `no memory`, and goes on as if that line were not there. A withdrawal is made whatever is refused. If
-  there is no memory for the line itself, the session ends with the fault. What came before it is done.
+  there is no memory for the line itself, the session ends with the fault, so with all later requests refused it ends at the next path.
+  What came before it is done.
 - A later request is not refused at an earlier place.
 """
 import os
@@ -97,7 +98,7 @@ def calls():
     yield Call("v7-object", ["v7-object", "main.lst", "out"], examples("main.lst"))
     yield Call("v7-from-gnu", ["v7-from-gnu", "squares.gnu", "out"], GNU)
     yield Call("v7-from-gnu -o", ["v7-from-gnu", "-o", "made", *map(os.fsdecode, GNU)], {**GNU, b"made/old": b""})
-    questions = b"lesson A\nadd main.o\nask undefined Which name?\nname _twice\nask changes Which word changes?\nadd twice.o\n"
+    questions = b"lesson A\nadd main.o\nask changes Which word changes?\nadd twice.o\n"
     lessons = {**examples("k.o", "l.o", "main.o", "twice.o"), b"questions": questions}
     yield Call("v7-lesson", ["v7-lesson", "k.o", "l.o"], lessons, rb"(?m)^\w+ \S+\.o$")
     yield Call("v7-lesson -c", ["v7-lesson", "-c", "k.o", "l.o"], lessons, rb"(?m)^\w+ \S+\.o$")
@@ -122,10 +123,11 @@ class Player:
             if self.there.get(path) != data:
                 write(os.path.join(self.folder, os.fsdecode(path)), data)
 
-    def run(self, script=None, number=0):
-        """What comes of a run that reads this script, or that of the call, and has the request of this number refused."""
+    def run(self, script=None, number=0, rest=b""):
+        """What comes of a run that reads this script, or that of the call, and has the request of this number refused, and with `..` all
+        after it."""
         self.restore()
-        watch = Watch([(b"refuse", b"memory %d" % number)])
+        watch = Watch([(b"refuse", b"memory %d%s" % (number, rest))] if number else [])
         lines = "".join(f"{line}\n" for line in (self.call.script if script is None else script))
         ran = subprocess.run(self.call.words, executable=self.program, cwd=self.folder, input=lines.encode(), capture_output=True,
                              env=watch.environment(), timeout=SECONDS, check=False)
@@ -176,6 +178,9 @@ class Session(Command):
             if line != "withdraw":
                 rest = player.run(script[:number] + script[number + 1:])
                 self.refused[answered + NO_MEMORY + rest.output[len(answered):]] = (number, rest.files)
+                path = next((later for later in range(number + 1, len(script)) if " " in script[later]), len(script))
+                ended = player.run(script[:number] + script[number + 1:path])
+                self.ended.setdefault(answered + NO_MEMORY + ended.output[len(answered):], (number, ended.files))
 
     def place(self, ran):
         if ran.status == 1 and ran.output in self.refused:
@@ -190,13 +195,11 @@ class Session(Command):
         return number
 
 
-def refuse_all(player):
-    """Refuses one request after another: how many there are, how many runs came out as the first, and what was wrong in others."""
-    judge = (Session if player.call.script else Command)(player)
-    if not player.call.script:
-        notices(judge.place, judge.whole)
+def refuse_each(player, judge, rest):
+    """Refuses one request after another, and with `..` all after it: how many there are, how many runs came out as if nothing had been
+    refused, and what was wrong in others."""
     number, alike, last, faults = 1, 0, None, []
-    while (ran := player.run(number=number)).was_refused:
+    while (ran := player.run(number=number, rest=rest)).was_refused:
         try:
             if (ran.status, ran.output, ran.error, ran.files) == (judge.whole.status, judge.whole.output, judge.whole.error, judge.whole.files):
                 alike += 1
@@ -206,11 +209,20 @@ def refuse_all(player):
                     raise Differs(f"the place {place} comes before {last}")
                 last = place
         except Differs as wrong:
-            faults.append(f"request {number}: {wrong}")
+            faults.append(f"request {number}{os.fsdecode(rest)}: {wrong}")
         number += 1
     if number == 1 or last is None:
         faults.append("no request was refused")
     return number - 1, alike, faults
+
+
+def refuse_all(player):
+    """Refuses one request after another, alone and with all after it: what `refuse_each` answers of the first, and what was wrong."""
+    judge = (Session if player.call.script else Command)(player)
+    if not player.call.script:
+        notices(judge.place, judge.whole)
+    requests, alike, faults = refuse_each(player, judge, b"")
+    return requests, alike, faults + refuse_each(player, judge, b"..")[2]
 
 
 def try_call(call):

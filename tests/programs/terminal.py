@@ -330,6 +330,12 @@ def check_random():
         same(f"{words}: output and status", (shown_output, shown_status), (output, status))
         same(f"{words}: first line", shown[:len(error)], error)
         same(f"{words}: more lines, {shown!r}", shown[len(error):].count("\n"), 2 if is_usage else 0)
+    # each of many files counts
+    for count in range(1, 21):
+        words = ["size", *["k.o"] * count]
+        shown, output, status = at_terminal(words)
+        same(f"size of {count} files", (shown, output.count("\n"), status), ("", count, 0))
+        same(f"size of {count} files: through pipes", through_pipes(words), (shown, output, status))
     return refused
 
 

@@ -72,15 +72,14 @@ def quote_faults(page, text):
     return [f"{page}:{number}: {path} has no such line: {line}" for number, path, line in found if line not in statements(read(path))] if found else [f"{page} quotes nothing"]
 
 
-def items(text):
-    """The items of the lists of a text, each as one line."""
-    return [" ".join(item.split()) for item in re.findall(r"^- (.*(?:\n  .*)*)", text, re.M)]
+def claim(text):
+    """The first quotation under "The claim", as one line."""
+    return " ".join(" ".join(line[1:] for line in re.findall(r"(?:^>.*\n)+", text.split("\n## The claim\n")[1], re.M)[0].splitlines()).split())
 
 
 def theorem_faults(text):
-    """The items of README's claim that a text does not have."""
-    claim = items(read("README.md").split("\n## The claim\n")[1].split("\n## ")[0])
-    return [f"the theorem is not that of README.md: {item}" for item in claim if item not in items(text)] if claim else ["README.md: the claim has no list"]
+    """Whether a text has another theorem than README.md."""
+    return [] if claim(text) == claim(read("README.md")) else [f"the theorem is not that of README.md: {claim(text)}"]
 
 
 def remark_faults(header, manual, written):

@@ -31,7 +31,7 @@ CODE = {
     "v7_link_option": ("library_calls/src/requests.rt", r"\b{name}: has_bit\(bits, (\d+)\)", 1),
     "v7_form": ("library_calls/src/kept_calls.rt", r"(\d+) => Ok\(state_{name}\(", 1),
     "v7_finding_kind": ("library_calls/src/reported.rt", r"named\(alloc, (\d+), &report\.{name}", 1),
-    "v7_remark_kind": ("library_calls/src/remarks_call.rt", r"FindingKind::{Name} => (\d+),", 1),
+    "v7_remark_kind": ("findings/src/finding.rt", r"\b{Name} = (\d+),", 1),
     "v7_relocation": ("aout_core/src/reloc.rt", r"(\d+) => Some\(Kind::{Name}\)", 2),
     "v7_segment": ("aout_core/src/symbol.rt", r"Segment::{Name} => (\d+),", 1),
 }

@@ -31,7 +31,7 @@ MENTIONS = [
 
 
 def documents():
-    """The documents, without what tests/texts/calling.py writes."""
+    """The documents."""
     return ["README.md", "CHANGES.md", "CONTRIBUTING.md", "packaging/README.md"] + sorted(
         glob.glob("docs/**/*.md", recursive=True) + glob.glob("examples/*.md") + glob.glob("t*s/**/README.md", recursive=True))
 

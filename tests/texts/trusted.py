@@ -1,18 +1,21 @@
-"""Follows each promise to the definitions that a reader has to trust, and writes what PROOFS, TRUST and INDEX say of them.
+"""Follows each promise to the definitions that a reader has to trust, and writes what PROOFS and TRUST say of them.
 
 A promise is the contract of a public function, or what contracts see of a public type. From the definitions that it cites this follows
 the imports. Each file that they lead to has to be in specs/ of its crate, not in a folder of INTERNAL there, and nothing in src/ or
 specs/ of a crate may import the internals of another.
 
 docs/PROOFS.md has by hand what each promise means, and whose contract it is: a function or a type of the crates of the heading, or
-of those that the cell names. docs/internals/INDEX.md is written from that and the code. It has the file of each contract, the
+of those that the cell names. The index, which -i prints, is made of that and the code. It has the file of each contract, the
 definitions that it cites, and how many lines it leads to. It has all files of definitions too, those of the theorem apart. The theorem
-is the first claim of PROOFS, which is followed definition by definition. The function `link` is left out of claims, since
-`linking_law` ties it to the relation. Lines are those of definitions, without imports, comments and empty lines.
+is the first claim of PROOFS, which is followed definition by definition, with the relation of linking. The function `link` is left out
+of claims, since `linking_law` ties it to the relation. `Performs` is left out of the theorem, which concludes nothing by it: as the
+contract of `perform` it is proved of each run. Lines are those of definitions, without imports, comments and empty lines. For each law
+of links and commands `conformance` has an instance, and the law without a premise, which is false.
 
 usage: python3 -m tests.texts.trusted        compares
-       python3 -m tests.texts.trusted -w     writes INDEX, and the numbers of PROOFS and TRUST
-tier: text, 6 seconds; for: docs/PROOFS.md docs/TRUST.md docs/internals/INDEX.md
+       python3 -m tests.texts.trusted -w     writes the numbers of PROOFS and TRUST
+       python3 -m tests.texts.trusted -i     prints the index
+tier: text, 6 seconds; for: docs/PROOFS.md docs/TRUST.md
 """
 import functools
 import glob
@@ -25,11 +28,18 @@ from tests.lib.files import read, write
 from tests.lib.rattle import definitions, functions, items
 from tests.texts.layers import sections
 
-PROOFS, TRUST, INDEX = "docs/PROOFS.md", "docs/TRUST.md", "docs/internals/INDEX.md"
-# what is written by hand has at most so many words: quotes, numbers and INDEX are compared with the code
-MOST_WORDS = 6000
+PROOFS, TRUST = "docs/PROOFS.md", "docs/TRUST.md"
 # the laws that are the theorem: the first claim begins with what they cite
 THEOREM = ("crates/laws/src/commands.rt", ["session_law", "undo_law"])
+# what a link is, which the theorem leads to besides, and what is left out
+RELATION = {"IsLinkedFrom", "IsRefused"}
+LEFT_OUT = {("link_out", "function.Link", "link")}
+LEFT_OUT_OF_THEOREM = LEFT_OUT | {("v7tools", "CommandRuns", "Performs")}
+# the definitions by which arguments are read, with the kit's `clap`
+WORDS = ("crates/command_words/specs/", ["Calls", "LinkWords", "Tools"]), ("crates/tool_options/specs/", ["Flags", "ForcedNames"])
+WORDS_LINES = re.compile(r"\d+ of its lines say how arguments are read")
+# the crates whose laws have examples
+SHOWN = ["link_out", "link_laws", "laws"]
 # the files that a reader begins with, and the pages that say how many lines they have
 FIRST = ["aout_core/specs/Contents", "link_session/specs/Mentions", "link_laws/specs/relation/LinkedFrom"]
 FIRST_LINES = re.compile(r"files of `specs/`, \d+ lines")
@@ -47,8 +57,8 @@ NAME = re.compile(r"`(?:(\w+)::)?(\w+)`")
 HEADER = """\
 # Index
 
-For each promise of [PROOFS](../PROOFS.md): where its contract is, which definitions the contract cites, and how many lines of definitions
-it leads to, in all files. The second table has these files. `python3 -m tests.texts.trusted -w` writes this page from the code.
+For each promise of docs/PROOFS.md: where its contract is, which definitions the contract cites, and how many lines of definitions it
+leads to, in all files. The second table has these files.
 """
 faults = []
 
@@ -144,13 +154,13 @@ def other_internals():
                 faults.append(f"{path} imports {name}, of the internals of {crate}")
 
 
-def led_to(starts):
+def led_to(starts, left_out=LEFT_OUT):
     """How many lines of definitions some names lead to, by file."""
     reached, waiting = {}, list(starts)
     while waiting:
         crate, module, name = waiting.pop()
         path = path_of(crate, module)
-        if not os.path.exists(path) or (crate, module, name) == ("link_out", "function.Link", "link"):
+        if not os.path.exists(path) or (crate, module, name) in left_out:
             continue
         known, scope = in_file(path)
         places = {own: place for place, it in enumerate(known) for own in it.names}
@@ -185,7 +195,7 @@ def named_definitions():
 
 def claims(text):
     """The claims of PROOFS: each with the lines that it leads to, by file, and its row."""
-    where = named_definitions()
+    where, left_out = named_definitions(), LEFT_OUT_OF_THEOREM
     for row in re.findall(r"^\| (?:[^|\n]+ \| ){3}\d+ \| \d+ \|$", text, re.M):
         claim, _, names = row.strip("| ").split(" | ")[:3]
         starts = []
@@ -195,13 +205,24 @@ def claims(text):
             if len(found) != 1:
                 faults.append(f"{PROOFS}: {claim}: {len(found)} definitions are called {name}")
             starts += found
-        yield led_to(starts), row
+        yield led_to(starts, left_out), row
+        left_out = LEFT_OUT
 
 
 def cited_by_theorem():
     """The definitions that the laws of the theorem cite."""
     path, laws = THEOREM
     return {word for it in contracts(path.split("/")[1]) if it[0] == path and it[3] in laws for word in it[5]}
+
+
+def unshown():
+    """The laws without an instance, or without a premise that is shown to be needed: a proof `LAW_says`, or one `LAW_needs` of a falsity."""
+    proofs = "\n".join(read(path) for path in sorted(glob.glob("crates/conformance/proofs/*.antt")))
+    shown = dict(re.findall(r"^(\w+) : ((?:.|\n(?! *unfolding|\1))*)", proofs, re.M))
+    for name in [it[3] for crate in SHOWN for it in contracts(crate) if it[3].endswith("_law")]:
+        for part, end in (("says", ""), ("needs", "→ ⊥")):
+            if not any(own.startswith(f"{name[:-4]}_{part}") and type_of.rstrip().endswith(end) for own, type_of in shown.items()):
+                yield f"crates/conformance: no proof {name[:-4]}_{part}.. for {name}"
 
 
 def promises(text):
@@ -248,7 +269,7 @@ def rows_of_index(text):
 
 
 def index(text, theorem, rest):
-    """The page INDEX, by PROOFS, the lines that the theorem leads to, and those of other promises."""
+    """The index, by PROOFS, the lines that the theorem leads to, and those of other promises."""
     sources = rows_of_index(text)
     page = [HEADER]
     for section, crates in sections().items():
@@ -262,7 +283,7 @@ def index(text, theorem, rest):
                 files.setdefault((crate != path.split("/")[1]) * f"{crate}/" + module.replace(".", "/"), []).append(name)
             cites = "; ".join(f"{file}: {', '.join(f'`{name}`' for name in sorted({*own}))}" for file, own in sorted(files.items()))
             shown = ", ".join(f"`{name}`" for name in names)
-            page.append(f"| [`{path[7:]}`](../../{path}) | {shown} | {cites} | {sum(led_to(places).values())} |")
+            page.append(f"| `{path[7:]}` | {shown} | {cites} | {sum(led_to(places).values())} |")
         page += [""] * bool(rows)
     page.append("## What a reader has to trust\n\n| Crate | The theorem leads to | Other promises lead to |\n|---|---|---|")
     for crate in LIBRARIES:
@@ -273,38 +294,35 @@ def index(text, theorem, rest):
     return re.sub(r"(\n\|[^\n]*\|)\n\n(?=\|)", r"\1\n", "\n".join(page)) + "\n"
 
 
-def words_by_hand(text):
-    """How many words of PROOFS are its own: without quoted code, and without the numbers and the rows' bars."""
-    return sum(bool(re.search(r"\w", word)) for word in re.sub(r"^ {4}.*$|\b\d+ \| \d+ \|$", "", text, flags=re.M).split())
-
-
 def expected():
-    """The pages as they should be, and how far what is there may lead."""
-    pages = {path: read(path) for path in (PROOFS, TRUST, INDEX)}
+    """The pages as they should be, and the index."""
+    pages = {path: read(path) for path in (PROOFS, TRUST)}
     all_claims = list(claims(pages[PROOFS]))
     theorem = all_claims[0][0]
-    if set(re.findall(r"`(\w+)`", all_claims[0][1].split(" | ")[2])) != cited_by_theorem():
-        faults.append(f"{PROOFS}: the first claim should begin with {', '.join(sorted(cited_by_theorem()))}")
+    if set(re.findall(r"`(?:\w+\.)?(\w+)`", all_claims[0][1].split(" | ")[2])) != cited_by_theorem() | RELATION:
+        faults.append(f"{PROOFS}: the first claim should begin with {', '.join(sorted(cited_by_theorem() | RELATION))}")
     rest = {path: n - theorem.get(path, 0) for path in trusted() if (n := count(path)) > theorem.get(path, 0)}
     for found, row in all_claims:
         pages[PROOFS] = pages[PROOFS].replace(row, re.sub(r"\d+ \| \d+ \|$", f"{sum(found.values())} | {len(found)} |", row))
     first = sum(count(f"crates/{name}.antt") for name in FIRST)
+    words = sum(theorem.get(f"{folder}{name}.antt", 0) for folder, names in WORDS for name in names)
+    pages[PROOFS], said = WORDS_LINES.subn(f"{words} of its lines say how arguments are read", pages[PROOFS])
+    faults.extend([f"{PROOFS} does not say how many lines of the theorem say how arguments are read"] * (said != 1))
     for page in (PROOFS, TRUST):
         pages[page], said = FIRST_LINES.subn(f"files of `specs/`, {first} lines", pages[page])
         faults.extend([f"{page} does not say how many lines the first files have"] * (said != 1))
-    pages[INDEX] = index(pages[PROOFS], theorem, rest)
-    return pages
+    return pages, index(pages[PROOFS], theorem, rest)
 
 
 def main():
     other_internals()
-    pages = expected()
-    words = words_by_hand(pages[PROOFS])
-    if words > MOST_WORDS:
-        faults.append(f"{PROOFS} has {words:,} words by hand, and {MOST_WORDS:,} are the most")
+    pages, shown = expected()
+    if sys.argv[1:] == ["-i"]:
+        print(shown, end="")
+        return
     for known, changed in (("`read_file`", "`read_files`"), ("`UndoLaw` |", "`UndoneLaw` |")):
         notices(same, "names", [*unknown(pages[PROOFS].replace(known, changed))], [])
-    faults.extend(unknown(pages[PROOFS]))
+    faults.extend([*unknown(pages[PROOFS]), *unshown()])
     notices(same, PROOFS, re.sub(r"\d", "0", pages[PROOFS]).split("\n"), pages[PROOFS].split("\n"))
     for page, text in pages.items():
         if sys.argv[1:] == ["-w"]:
@@ -312,7 +330,7 @@ def main():
         same(f"{page}, by the code; -w writes it", read(page).split("\n"), text.split("\n"))
     for fault in faults:
         print(f"fault: {fault}")
-    print(f"{words:,} words of {PROOFS} are by hand; {INDEX} has {pages[INDEX].count('.rt`](')} sources; {pages[INDEX].split('| in all | ')[1][:-3]}")
+    print(f"{shown.count('.rt` |')} sources with a contract; {shown.split('| in all | ')[1][:-3]}")
     sys.exit(1 if faults else 0)
 
 

@@ -86,7 +86,7 @@ taken_in_two a b w read old_out out second all rest n m count more taken reads a
 pub ends_after_waiting : (e : ReadFault) (w : Awaited) (a b : Option (List ℕ)) → EndsBefore e a b w.missing →
     EndsBefore e (prepend_known w.waiting a) b (awaited w)
 ends_after_waiting Truncated w a b r = ends_after a b w r
-ends_after_waiting Device w a b r = tt
+ends_after_waiting (Device _) w a b r = tt
 ends_after_waiting ShortHeader w a b r = absurd r
 ends_after_waiting BadMagic w a b r = absurd r
 ends_after_waiting OddSize w a b r = absurd r
@@ -113,7 +113,7 @@ ends_later Truncated w v a b d first p e =
       taken = Consumes-trans (prepend_known w.waiting a) (prepend_known v.waiting b) d first e.bytes p.taken e.taken;
       end = e.end;
     }
-ends_later Device w v a b d first p e = tt
+ends_later (Device _) w v a b d first p e = tt
 ends_later ShortHeader w v a b d first p e = absurd e
 ends_later BadMagic w v a b d first p e = absurd e
 ends_later OddSize w v a b d first p e = absurd e
@@ -169,7 +169,7 @@ ends_in_body Truncated h n v a b d taken size takes ends =
     let early = ends_later Truncated (unread n) v a b d taken takes ends in
     let short = early.short in
     record { bytes = early.bytes; short = omega arith; taken = untaken a d early.bytes early.taken; end = early.end }
-ends_in_body Device h n v a b d taken size takes ends = tt
+ends_in_body (Device _) h n v a b d taken size takes ends = tt
 ends_in_body ShortHeader h n v a b d taken size takes ends = absurd ends
 ends_in_body BadMagic h n v a b d taken size takes ends = absurd ends
 ends_in_body OddSize h n v a b d taken size takes ends = absurd ends

@@ -101,7 +101,7 @@ refused_header OddSize bytes (Some rest) (h, t, magic, bad) =
     let b = begins bytes rest h t in (odd_size bytes rest h b magic bad, ap Some (rest_after bytes rest h b))
 refused_header (Memory _) bytes left r = absurd r
 refused_header Truncated bytes left r = absurd r
-refused_header Device bytes left r = (tt, tt)
+refused_header (Device _) bytes left r = (tt, tt)
 
 file_after : (c : Contents) (bytes rest : List ℕ) (left : Option (List ℕ)) (h : Header) → Begins bytes rest h →
     IsFileHeader h → TakesBody h (Some rest) left c → IsReadOf (Ok c) bytes × LeavesAfter (Ok c) bytes left
@@ -137,7 +137,7 @@ read_after (Err (Memory _)) bytes (Some rest) (Some more) h t good body =
 read_after (Err Truncated) bytes (Some rest) left h t good body =
     let end = early_end rest left 16 (file_length h) body in
     (truncated bytes rest h (begins bytes rest h t) good end.0, end.1)
-read_after (Err Device) bytes (Some rest) left h t good body = (tt, tt)
+read_after (Err (Device _)) bytes (Some rest) left h t good body = (tt, tt)
 
 -- the same where the reader may not tell its bytes
 pub refused_if_known : (e : ReadFault) (old left : Option (List ℕ)) → IsHeaderRead old left (Err e) →

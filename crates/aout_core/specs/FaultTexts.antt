@@ -9,7 +9,7 @@ read_text reads.ShortHeader = codes "short header"
 read_text reads.BadMagic = codes "bad magic number"
 read_text reads.OddSize = codes "odd size"
 read_text reads.Truncated = codes "truncated"
-read_text reads.Device = codes "read error"
+read_text (reads.Device _) = codes "read error"
 read_text (reads.Memory _) = codes "no memory"
 
 -- what is said before the number of a word

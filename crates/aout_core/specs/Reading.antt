@@ -23,7 +23,7 @@ pub record HasHeader (bytes : List ℕ) : Type 0 where
 abbrev pub IsReadOf : Result Contents ReadFault → List ℕ → Type 0
 IsReadOf (Ok c) bytes = decode bytes ≡ Ok c
 IsReadOf (Err (Memory _)) bytes = HasHeader bytes × (16 < file_length (header_in bytes))
-IsReadOf (Err Device) bytes = Unit {0}
+IsReadOf (Err (Device _)) bytes = Unit {0}
 IsReadOf (Err fault) bytes = decode bytes ≡ Err fault
 
 -- a file was taken whole and nothing more, and of too few bytes none is left. After a refused header, or if memory ran out, the
@@ -32,5 +32,5 @@ abbrev pub LeavesAfter : Result Contents ReadFault → List ℕ → Option (List
 LeavesAfter (Ok c) bytes left = left ≡ Some (drop (file_length c.header) bytes)
 LeavesAfter (Err ShortHeader) bytes left = left ≡ Some []
 LeavesAfter (Err Truncated) bytes left = left ≡ Some []
-LeavesAfter (Err Device) bytes left = Unit {0}
+LeavesAfter (Err (Device _)) bytes left = Unit {0}
 LeavesAfter (Err fault) bytes left = left ≡ Some (drop 16 bytes)

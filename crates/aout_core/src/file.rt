@@ -2,7 +2,7 @@
 ghost use Rattle.std.specs.Prelude.{◌≡◌, ◌↔◌, ◌*◌, IsTrue};
 ghost use Rattle.aout_core.specs.Contents.{is_magic, has_whole_sizes};
 ghost use Rattle.aout_core.specs.declared.file.ReadFault.TheVariants.{Memory, Device};
-ghost use Rattle.aout_core.specs.Refusals.{refused};
+ghost use Rattle.aout_core.specs.Refusals.{device_fault, refused};
 
 use crate::header::Header;
 use crate::refused::Refused;
@@ -193,7 +193,7 @@ pub enum ReadFault {
     /// 5: fewer bytes than the header announces.
     Truncated,
     /// 6: the device failed, in this call or before it.
-    Device,
+    Device(DeviceFault),
 }
 
 impl ReadFault {
@@ -210,16 +210,16 @@ impl ReadFault {
             ReadFault::OddSize => "odd size",
             ReadFault::Memory(_) => "no memory",
             ReadFault::Truncated => "truncated",
-            ReadFault::Device => "read error",
+            ReadFault::Device(_) => "read error",
         }
     }
 }
 
 impl From<DeviceFault> for ReadFault {
-    ghost from_gives = { λ _ fault. fault ≡ Device };
+    ghost from_gives = { λ _ fault. fault ≡ Device device_fault };
 
-    fn from(_fault: DeviceFault) -> ReadFault {
-        ReadFault::Device
+    fn from(fault: DeviceFault) -> ReadFault {
+        ReadFault::Device(fault)
     }
 }
 

@@ -1,5 +1,6 @@
 //! Bytes on their way from a wire.
 ghost use Rattle.std.specs.Prelude.{◌≡◌, ◌↔◌, ◌≤◌, false};
+ghost use Rattle.aout_core.specs.Refusals.{device_fault};
 
 use crate::block::{BLOCK_SIZE, Block};
 use crate::file::ReadFault;
@@ -59,7 +60,7 @@ impl Incoming {
     fn refill<R: Read>(&mut self, wire: &mut Wire<R>) -> Result<(), ReadFault>
         requires works { wire.old.has_failed ≡ false }
         requires empty { self.old.waiting ≡ [] }
-        ensures device { (result ≡ Err ReadFault.Device) ↔ IsTrue wire.new.has_failed }
+        ensures device { (result ≡ Err (ReadFault.Device device_fault)) ↔ IsTrue wire.new.has_failed }
         ensures value { IfOk result (λ _. Refills BLOCK_SIZE self.old.missing
             (R.remaining wire.old.device) (R.remaining wire.new.device) self.new) }
         ensures end { IfErr result (λ fault. EndsBefore fault
@@ -83,7 +84,7 @@ impl Incoming {
         requires works { wire.old.has_failed ≡ false }
         requires short { length out.old ≤ BLOCK_SIZE }
         requires within { length out.old ≤ awaited self.old }
-        ensures device { (result ≡ Err ReadFault.Device) ↔ IsTrue wire.new.has_failed }
+        ensures device { (result ≡ Err (ReadFault.Device device_fault)) ↔ IsTrue wire.new.has_failed }
         ensures value { IfOk result (λ _. Takes self.old (R.remaining wire.old.device) self.new
             (R.remaining wire.new.device) out.new) }
         ensures end { IfErr result (λ fault. EndsAwaiting fault self.old

@@ -9,6 +9,7 @@ ghost use Rattle.aout_core.specs.Encoding.{symbol_encoding};
 ghost use Rattle.aout_core.specs.internal.Blocks.{awaited, PutsBut};
 ghost use Rattle.aout_core.specs.internal.Items.{EndsAwaiting, PutsBoth, TakesAll};
 ghost use Rattle.aout_core.specs.internal.Rows.{row_in, word_in, reloc_in, TakesItem, TakesRow};
+ghost use Rattle.aout_core.specs.Refusals.{device_fault};
 
 use crate::block::BLOCK_SIZE;
 use crate::file::ReadFault;
@@ -173,7 +174,7 @@ fn take_waiting<T: Item>(most: usize, items: &mut Vec<T>, incoming: &mut Incomin
 fn take_item<T: Item, R: Read>(incoming: &mut Incoming, wire: &mut Wire<R>) -> Result<T, ReadFault>
     requires works { wire.old.has_failed ≡ false }
     requires within { T.WIDTH ≤ awaited incoming.old }
-    ensures device { (result ≡ Err ReadFault.Device) ↔ IsTrue wire.new.has_failed }
+    ensures device { (result ≡ Err (ReadFault.Device device_fault)) ↔ IsTrue wire.new.has_failed }
     ensures value { IfOk result (TakesItem T.item_in T.WIDTH incoming.old
         (R.remaining wire.old.device) incoming.new (R.remaining wire.new.device)) }
     ensures end { IfErr result (λ fault. EndsAwaiting fault incoming.old
@@ -195,7 +196,7 @@ pub(crate) fn take_items<T: Item, R: Read>(
     requires works { wire.old.has_failed ≡ false }
     requires reserved { vec_len items.old + count ≤ vec_capacity items.old }
     requires within { T.WIDTH * count ≤ awaited incoming.old }
-    ensures device { (result ≡ Err ReadFault.Device) ↔ IsTrue wire.new.has_failed }
+    ensures device { (result ≡ Err (ReadFault.Device device_fault)) ↔ IsTrue wire.new.has_failed }
     ensures value { OnOk result (TakesAll T.item_in T.WIDTH count R.remaining incoming.old
         wire.old.device incoming.new wire.new.device items.old items.new) }
     ensures end { IfErr result (λ fault. EndsAwaiting fault incoming.old

@@ -82,20 +82,20 @@ fn is_wanted(symbols: &[Symbol], number: usize) -> bool
 }
 
 /// What is wrong with the relocation word at an index, if anything is. Most words are absolute or refer to a segment, and
-/// need no symbol: their bit 3 is 0.
+/// need no symbol: their bit 3 is 0. Where it is 1, bits 2 and 1 are 0 too.
 fn word_fault(symbols: &[Symbol], index: u16, reloc: Reloc) -> Option<ObjectFault>
     ensures { result ≡ word_fault symbols.now index reloc }
 {
     if reloc.0 / 0o10 % 2 == 0 {
         return None;
     }
-    match reloc.kind() {
-        None => Some(ObjectFault::BadRelocation(index)),
-        Some(Kind::External) if !is_wanted(symbols, reloc.number() as usize) => {
-            Some(ObjectFault::BadSymbolNumber(index))
-        }
-        Some(_) => None,
+    if reloc.0 / 2 % 4 != 0 {
+        return Some(ObjectFault::BadRelocation(index));
     }
+    if !is_wanted(symbols, reloc.number() as usize) {
+        return Some(ObjectFault::BadSymbolNumber(index));
+    }
+    None
 }
 
 /// The first bad word of these, the first of which has index `start`.

@@ -1,6 +1,7 @@
 //! Reading an object.
 ghost use Rattle.std.specs.Prelude.{◌≡◌, ◌↔◌, Err, IfSome, IsTrue};
 ghost use Rattle.aout_core.specs.Objects.{IsObjectRead};
+ghost use Rattle.aout_core.specs.Refusals.{device_fault};
 
 use crate::file::ReadFault;
 use crate::object::{Object, ObjectFault};
@@ -26,7 +27,7 @@ pub enum NoObject {
 /// Errors, the first that applies: `NotRead`, 1, with the fault of `read_file`, and then `NotFit`, 2, with that of
 /// `Object::from_file`.
 pub fn read_object<R: Read>(alloc: Global, wire: &mut Wire<R>) -> Result<Object, NoObject>
-    ensures device { (result ≡ Err (NoObject.NotRead ReadFault.Device))
+    ensures device { (result ≡ Err (NoObject.NotRead (ReadFault.Device device_fault)))
         ↔ IsTrue wire.new.has_failed }
     ensures latched { IsTrue wire.old.has_failed → (wire.new ≡ wire.old) }
     ensures reads { IfSome (R.remaining wire.old.device) (λ bytes.

@@ -6,6 +6,7 @@ ghost use Rattle.aout_core.specs.Encoding.{file_length};
 ghost use Rattle.aout_core.specs.Decoding.{contents_in, decode, header_in};
 ghost use Rattle.aout_core.specs.internal.ReadParts.{HasNoItems, HasCapacity, IsBodyRead, IsHeaderRead, TakesBody};
 ghost use Rattle.aout_core.specs.Reading.{IsFileHeader, IsReadOf, LeavesAfter};
+ghost use Rattle.aout_core.specs.Refusals.{device_fault};
 
 use crate::file::{File, Parts, ReadFault, has_whole_sizes, is_magic};
 use crate::header::Header;
@@ -55,7 +56,7 @@ fn read_lists<R: Read>(parts: &mut Parts, wire: &mut Wire<R>) -> Result<(), Read
     requires works { wire.old.has_failed ≡ false }
     requires reserved { HasCapacity parts.old.header parts.old }
     requires sizes { IsTrue (has_whole_sizes parts.old.header) }
-    ensures device { (result ≡ Err ReadFault.Device) ↔ IsTrue wire.new.has_failed }
+    ensures device { (result ≡ Err (ReadFault.Device device_fault)) ↔ IsTrue wire.new.has_failed }
     ensures value { IfOk result (λ _. TakesBody parts.old.header
         (R.remaining wire.old.device) (R.remaining wire.new.device) (contents_of parts.new)) }
     ensures end { IfErr result (λ fault. IsBodyRead parts.old.header
@@ -85,7 +86,7 @@ fn read_lists<R: Read>(parts: &mut Parts, wire: &mut Wire<R>) -> Result<(), Read
 
 /// Reads a header, and refuses one that no file has.
 fn read_header<R: Read>(wire: &mut Wire<R>) -> Result<Header, ReadFault>
-    ensures device { (result ≡ Err ReadFault.Device) ↔ IsTrue wire.new.has_failed }
+    ensures device { (result ≡ Err (ReadFault.Device device_fault)) ↔ IsTrue wire.new.has_failed }
     ensures latched { IsTrue wire.old.has_failed → (wire.new ≡ wire.old) }
     ensures value { IsHeaderRead
         (R.remaining wire.old.device) (R.remaining wire.new.device) result }
@@ -108,7 +109,7 @@ fn read_header<R: Read>(wire: &mut Wire<R>) -> Result<Header, ReadFault>
 fn read_body<R: Read>(alloc: Global, header: Header, wire: &mut Wire<R>) -> Result<File, ReadFault>
     requires header { IsFileHeader header }
     requires works { wire.old.has_failed ≡ false }
-    ensures device { (result ≡ Err ReadFault.Device) ↔ IsTrue wire.new.has_failed }
+    ensures device { (result ≡ Err (ReadFault.Device device_fault)) ↔ IsTrue wire.new.has_failed }
     ensures value { IsBodyRead header
         (R.remaining wire.old.device) (R.remaining wire.new.device) result }
 {
@@ -124,7 +125,7 @@ fn read_body<R: Read>(alloc: Global, header: Header, wire: &mut Wire<R>) -> Resu
 /// 5, at an early end of the rest. `Device`, 6, if the device failed, in this call or before it. After `BadMagic`,
 /// `OddSize` and `Memory` all that follows the 16 bytes of the header is still unread.
 pub fn read_file<R: Read>(alloc: Global, wire: &mut Wire<R>) -> Result<File, ReadFault>
-    ensures device { (result ≡ Err ReadFault.Device) ↔ IsTrue wire.new.has_failed }
+    ensures device { (result ≡ Err (ReadFault.Device device_fault)) ↔ IsTrue wire.new.has_failed }
     ensures latched { IsTrue wire.old.has_failed → (wire.new ≡ wire.old) }
     ensures decodes { IfSome (R.remaining wire.old.device) (λ bytes.
         IsReadOf result bytes × LeavesAfter result bytes (R.remaining wire.new.device)) }

@@ -1,13 +1,9 @@
--- The law of clean programs at three objects. Without one of these premises it does not hold: words of 16 bits, nothing suspicious for sure,
--- a place for the parent after `sys fork`, jumps and calls that refer to text, and if to their own text not beyond its end, an entry point
--- at 0 or at a symbol within its text, and no name that is multiply defined.
---
--- Whether two others are needed is not shown. A text of more than 65,535 bytes is too long to write out. A link without symbols has the text
--- of one with them; so no program refutes the law without the premise that symbols are kept, if its table has room in a file.
-use Rattle.std.proofs.Common.{◌≡◌, ◌≢◌, ℕ, ◌+◌, ◌*◌, ◌/◌, ◌%◌, ◌≤◌, ◌⊎◌, inl, inr, Bool, true, false, eqb, nat_lt, List, [], ◌∷◌, ◌++◌, length}
+-- The law of clean programs at three objects. Without one of these premises it does not hold: a place for the parent after `sys fork`,
+-- jumps and calls that refer to text, an entry point at 0 or at a symbol within its text, and no name that is multiply defined.
+use Rattle.std.proofs.Common.{◌≡◌, ◌≢◌, ℕ, ◌+◌, ◌*◌, ◌/◌, ◌≤◌, ◌⊎◌, inl, inr, Bool, true, false, eqb, nat_lt, List, [], ◌∷◌, ◌++◌, length}
 use Rattle.std.proofs.Common.{Option, Some, None, refl, sym, ap, ◌∙◌, subst, arith}
 use Rattle.std.proofs.{lemmas.Bool.or_cases, lemmas.Bool.eqb-true, lemmas.Bool.ltb-true, lemmas.Bool.ltb-false, lemmas.Option.same_Some}
-use Rattle.std.specs.{Prelude.slice_get, Prelude.slice_index, Prelude.Ok, List.AllByRecursion, List.list_all, List.list_any}
+use Rattle.std.specs.{Prelude.slice_get, Prelude.Ok, List.AllByRecursion, List.list_all, List.list_any}
 use Rattle.aout_core.specs.{declared.symbol.Symbol.Symbol, declared.symbol.Segment.TheVariants.TextSeg, declared.reloc.Reloc.Reloc}
 use Rattle.aout_core.specs.{Contents.Contents, Contents.IsWord, WellFormed.is_external}
 use Rattle.link_session.specs.{Starts.total, Sessions.IsObject}
@@ -22,21 +18,20 @@ use Rattle.instructions.specs.{declared.unix.Decoder.TheVariants.Unix, declared.
 use Rattle.instructions.specs.declared.unix.UnixLine.TheVariants.{Machine, Call}
 use Rattle.instructions.specs.{declared.call.SystemCall.SystemCall, declared.call.SystemCall.TheVariants.Fork}
 use Rattle.instructions.specs.{Rows.begins as in_row, Rows.row_of, UnixLines.call_of}
-use Rattle.instructions.specs.Instructions.{jumps, word_count_of, instruction_of}
+use Rattle.instructions.specs.Instructions.{jumps, word_count_of}
 use Rattle.disassemblies.specs.Lines.{unix_line_in}
 use Rattle.suspicions.specs.declared.evidence.Evidence.TheVariants.{Promise}
 use Rattle.suspicions.specs.Reached.{reached, is_reached, is_text}
 use Rattle.suspicions.specs.{ReachedLaw.IsReached, ReachedLaw.Evident, ReachedLaw.Led, SureLaw.NoneIsSure}
-use Rattle.suspicions.specs.Suspicions.{suspicions, is_foreign}
+use Rattle.suspicions.specs.Suspicions.{suspicions}
 use Rattle.suspicions.proofs.ReachLemmas.{reached_law}
-use Rattle.laws.specs.{OperandPlaces.addressing_of, ReachedInstructions.BeginsInstruction, ReachedInstructions.kind_said}
+use Rattle.laws.specs.{OperandPlaces.addressing_of}
 use Rattle.laws.specs.CleanPrograms.{IsRun, TextSymbol, RefersToOwnText, RefersToText, JumpsTo, JumpsToText, KeepsParent, IsClean, Begins}
 use Rattle.laws.specs.CleanPrograms.{IsOfObject, CleanObjectsMakeCleanPrograms}
 use Rattle.laws.proofs.CleanProgramLemmas.{clean_objects}
 use Rattle.conformance.specs.Samples.{sym as entry, object, _f, _g, _main, plain, choices}
 use Rattle.conformance.proofs.{LawExamples.all_so, LawExamples.outcome_of, ClauseLemmas.as_object, ClauseLemmas.less_so}
 use Rattle.conformance.proofs.{ClauseLemmas.at_most_so, NeededPremises.all_kept}
-use Rattle.aout_core.specs.declared.reloc.Kind.TheVariants as kinds
 
 -- what holds of each reached place of an object, by the list of them
 
@@ -225,8 +220,8 @@ unfolding row_of in_row call_of
 g_runs = Led 3 6 (Led 0 3 (Evident 0 (less_so 0 7 refl) refl) (less_so 3 7 refl) refl) (less_so 6 7 refl) refl
 
 -- so it is a reached place of one of the objects
-g_of_object : IsOfObject plain (program three) three_linked.rows three 6
-g_of_object =
+clean_says : IsOfObject plain (program three) three_linked.rows three 6
+clean_says =
     clean_objects [] three plain (program three) three_good (
       calls_clean,
       (
@@ -255,28 +250,24 @@ no_more : (xs : List Contents) (k : Contents) (ys : List Contents) → [] ≡ xs
 no_more [] k ys e = absurd cc
 no_more (x ∷ xs) k ys e = absurd cc
 
-record IsIn (k : Contents) (i : ℕ) : Type 0 where
-  reached : IsReached Promise k i
-  begins : is_foreign (slice_index k.text_words i) ≡ false → BeginsInstruction k i
-
 abbrev InTwo : Contents → Contents → ℕ → Type 0
-InTwo k d place = IsIn k place ⊎ ((i : ℕ) × (place ≡ total TextSeg (k ∷ []) / 2 + i) × IsIn d i)
+InTwo k d place = IsReached Promise k place ⊎ ((i : ℕ) × (place ≡ total TextSeg (k ∷ []) / 2 + i) × IsReached Promise d i)
 
 in_two : (o : Choices) (x : Outcome) (rows : List Symbol) (place : ℕ) (k d : Contents) → IsOfObject o x rows (k ∷ d ∷ []) place →
     InTwo k d place
 in_two o x rows place k d r =
-    by r.before r.k r.i r.all r.at (record { reached = r.reached; begins = λ own. (r.instruction own).begins })
+    by r.before r.k r.i r.all r.at r.reached
   where
     by : (before : List Contents) (c : Contents) (i : ℕ) → k ∷ d ∷ [] ≡ before ++ c ∷ r.after →
-        place ≡ total TextSeg before / 2 + i → IsIn c i → InTwo k d place
+        place ≡ total TextSeg before / 2 + i → IsReached Promise c i → InTwo k d place
     by [] c i all at is =
         let same : k ≡ c = cc in
         let here : i ≡ place = omega arith in
-        inl (subst (λ (e : Contents). IsIn e place) (sym same) (subst (λ (n : ℕ). IsIn c n) here is))
+        inl (subst (λ (e : Contents). IsReached Promise e place) (sym same) (subst (λ (n : ℕ). IsReached Promise c n) here is))
     by (b ∷ []) c i all at is =
         let first : k ≡ b = cc in
         let second : d ≡ c = cc in
-        inr (i, at ∙ ap (λ (f : Contents). total TextSeg (f ∷ []) / 2 + i) (sym first), subst (λ (e : Contents). IsIn e i) (sym second) is)
+        inr (i, at ∙ ap (λ (f : Contents). total TextSeg (f ∷ []) / 2 + i) (sym first), subst (λ (e : Contents). IsReached Promise e i) (sym second) is)
     by (b ∷ (e ∷ bs)) c i all at is = let none : [] ≡ bs ++ c ∷ r.after = cc in absurd (no_more bs c r.after none)
 
 -- an object whose second word no evidence reaches, the second one of the programs below
@@ -294,10 +285,10 @@ moves_good = as_object moves_o refl refl refl refl refl refl refl refl
 unreached_in_two : (k : Contents) (place : ℕ) → is_reached Promise k place ≡ false → place ≡ total TextSeg (k ∷ []) / 2 + 1 →
     InTwo k moves_o place → ⊥
 unfolding row_of in_row call_of
-unreached_in_two k place none second (inl e) = unreached k place none e.reached
+unreached_in_two k place none second (inl e) = unreached k place none e
 unreached_in_two k place none second (inr (i, at, e)) =
     let one : i ≡ 1 = omega (arith, at, second) in
-    unreached moves_o 1 refl (subst (λ (n : ℕ). IsReached Promise moves_o n) one e.reached)
+    unreached moves_o 1 refl (subst (λ (n : ℕ). IsReached Promise moves_o n) one e)
 
 moves_clean : (os : List Contents) → IsClean os moves_o
 unfolding row_of in_row call_of
@@ -331,9 +322,9 @@ beyond_o = object (0o207 ∷ []) (0 ∷ []) [] [] 0 (entry _main 0o42 4 ∷ [])
 abbrev enters_main : Choices
 enters_main = choices Plain false All (Some _main) false
 
-without_begins : CleanBy IsClean (λ os y. Unit {0}) Once → ⊥
+clean_needs_an_entry_in_text : CleanBy IsClean (λ os y. Unit {0}) Once → ⊥
 unfolding row_of in_row call_of
-without_begins law =
+clean_needs_an_entry_in_text law =
     unreached_in_two beyond_o 2 refl refl
     (in_program law (λ os k c. c) enters_main all_kept beyond_o (as_object beyond_o refl refl refl refl refl refl refl refl)
     (outcome_of (link [] (with_moves beyond_o) enters_main)) refl (record {
@@ -343,63 +334,6 @@ without_begins law =
       jumps = each beyond_o _ (no_jump _ beyond_o 0 refl, tt);
     }) refl refl tt 2 (Evident 2 (less_so 2 3 refl) refl))
 
--- a jump to a word of more than 16 bits: the link makes it the place of an operand word
-abbrev wide_o : Contents
-wide_o = main_of (0o137 ∷ 0o200002 ∷ []) (0 ∷ 2 ∷ [])
-
-abbrev LacksWords : List Contents → Contents → Type 0
-LacksWords os k = NoneIsSure (suspicions Promise k) × Each k (KeepsParent k) × Each k (JumpsToText os k)
-
--- its word is within the text, modulo 65,536
-goes_to : (k : Contents) (n word : ℕ) → kind_said Absolute (record { 0 = n }) ≡ Some kinds.TextSeg → slice_get k.text_words 1 ≡ Some word →
-    nat_lt (2 * length k.text_words) (word % 65536) ≡ false → RefersToOwnText k Absolute 1 (record { 0 = n })
-goes_to k n word kind there low = record {
-  kind = kind;
-  inside = λ w found.
-      subst (λ (v : ℕ). v % 65536 ≤ 2 * length k.text_words) (same_Some word w (sym there ∙ found))
-      (ltb-false (2 * length k.text_words) (word % 65536) low);
-}
-
-without_words : CleanBy LacksWords Begins Once → ⊥
-unfolding row_of in_row call_of
-without_words law = nowhere (in_program law (λ os k c. (c.quiet, c.parents, c.jumps)) plain all_kept wide_o
-    (as_object wide_o refl refl refl refl refl refl refl refl) (program (with_moves wide_o)) refl (
-      tt,
-      each wide_o _ (no_parent wide_o 0 refl, tt),
-      each wide_o _ (
-        jumps_by (OwnOrText (with_moves wide_o) wide_o) wide_o Absolute 2
-            (inl (goes_to wide_o 2 0o200002 refl refl refl)) refl (inr (refl, refl), inl refl),
-        tt,
-      ),
-    ) refl refl (inl refl) 1 (Led 0 1 (Evident 0 (less_so 0 4 refl) refl) (less_so 1 4 refl) refl))
-  where
-    nowhere : InTwo wide_o moves_o 1 → ⊥
-    nowhere (inl e) = unreached wide_o 1 refl e.reached
-    nowhere (inr (i, at, e)) = let far : 1 ≡ 2 + i = at in omega arith
-
--- a word that begins no instruction
-abbrev seven_o : Contents
-seven_o = main_of (7 ∷ []) (0 ∷ [])
-
-abbrev LacksQuiet : List Contents → Contents → Type 0
-LacksQuiet os k = AllByRecursion IsWord k.text_words × Each k (KeepsParent k) × Each k (JumpsToText os k)
-
-without_quiet : CleanBy LacksQuiet Begins Once → ⊥
-unfolding row_of in_row call_of
-without_quiet law = nowhere (in_program law (λ os k c. (c.words, c.parents, c.jumps)) plain all_kept seven_o
-    (as_object seven_o refl refl refl refl refl refl refl refl) (program (with_moves seven_o)) refl
-    (words_so seven_o refl, each seven_o _ (no_parent seven_o 0 refl, tt), each seven_o _ (no_jump _ seven_o 0 refl, tt))
-    refl refl (inl refl) 0 (Evident 0 (less_so 0 3 refl) refl))
-  where
-    nowhere : InTwo seven_o moves_o 0 → ⊥
-    nowhere (inl e) =
-        let b = e.begins refl in
-        let here : 7 ∷ [] ≡ b.w ∷ b.following = b.here in
-        let word : 7 ≡ b.w = cc in
-        let none : None ≡ Some b.instruction = ap instruction_of word ∙ b.is in
-        absurd cc
-    nowhere (inr (i, at, e)) = let far : 0 ≡ 1 + i = at in omega arith
-
 -- the parent's way after `sys fork`, past the end
 abbrev forks_o : Contents
 forks_o = main_of (0o104402 ∷ []) (0 ∷ [])
@@ -407,9 +341,9 @@ forks_o = main_of (0o104402 ∷ []) (0 ∷ [])
 abbrev LacksParent : List Contents → Contents → Type 0
 LacksParent os k = AllByRecursion IsWord k.text_words × NoneIsSure (suspicions Promise k) × Each k (JumpsToText os k)
 
-without_parent : CleanBy LacksParent Begins Once → ⊥
+clean_needs_a_place_for_the_parent : CleanBy LacksParent Begins Once → ⊥
 unfolding row_of in_row call_of
-without_parent law =
+clean_needs_a_place_for_the_parent law =
     unreached_in_two forks_o 2 refl refl
     (in_program law (λ os k c. (c.words, c.quiet, c.jumps)) plain all_kept forks_o
     (as_object forks_o refl refl refl refl refl refl refl refl) (program (with_moves forks_o)) refl
@@ -423,47 +357,16 @@ numbers_o = main_of (0o137 ∷ 2 ∷ []) (0 ∷ 0 ∷ [])
 abbrev LacksJumps : List Contents → Contents → Type 0
 LacksJumps os k = AllByRecursion IsWord k.text_words × NoneIsSure (suspicions Promise k) × Each k (KeepsParent k)
 
-without_jumps : CleanBy LacksJumps Begins Once → ⊥
+clean_needs_jumps_to_text : CleanBy LacksJumps Begins Once → ⊥
 unfolding row_of in_row call_of
-without_jumps law = nowhere (in_program law (λ os k c. (c.words, c.quiet, c.parents)) plain all_kept numbers_o
+clean_needs_jumps_to_text law = nowhere (in_program law (λ os k c. (c.words, c.quiet, c.parents)) plain all_kept numbers_o
     (as_object numbers_o refl refl refl refl refl refl refl refl) (program (with_moves numbers_o)) refl
     (words_so numbers_o refl, tt, each numbers_o _ (no_parent numbers_o 0 refl, tt))
     refl refl (inl refl) 1 (Led 0 1 (Evident 0 (less_so 0 4 refl) refl) (less_so 1 4 refl) refl))
   where
     nowhere : InTwo numbers_o moves_o 1 → ⊥
-    nowhere (inl e) = unreached numbers_o 1 refl e.reached
+    nowhere (inl e) = unreached numbers_o 1 refl e
     nowhere (inr (i, at, e)) = let far : 1 ≡ 2 + i = at in omega arith
-
--- a jump beyond the end of its own text
-abbrev leaves_o : Contents
-leaves_o = main_of (0o137 ∷ 6 ∷ []) (0 ∷ 2 ∷ [])
-
-abbrev KindOrText : List Contents → Contents → Addressing → ℕ → Reloc → Type 0
-KindOrText os k way p r = (kind_said way r ≡ Some kinds.TextSeg) ⊎ RefersToText os k way p r
-
-abbrev LacksInside : List Contents → Contents → Type 0
-LacksInside os k =
-    AllByRecursion IsWord k.text_words × NoneIsSure (suspicions Promise k) × Each k (KeepsParent k) × Each k (JumpsTo (KindOrText os k) k)
-
-without_inside : CleanBy LacksInside Begins Once → ⊥
-unfolding row_of in_row call_of
-without_inside law =
-    unreached_in_two leaves_o 3 refl refl
-    (in_program law (λ os k c. (c.words, c.quiet, c.parents, weaker os k c.jumps)) plain all_kept leaves_o
-    (as_object leaves_o refl refl refl refl refl refl refl refl) (program (with_moves leaves_o)) refl (
-      words_so leaves_o refl,
-      tt,
-      each leaves_o _ (no_parent leaves_o 0 refl, tt),
-      each leaves_o _ (jumps_by (KindOrText (with_moves leaves_o) leaves_o) leaves_o Absolute 2 (inl refl) refl (inr (refl, refl), inl refl), tt),
-    ) refl refl (inl refl) 3 (Led 0 3 (Evident 0 (less_so 0 4 refl) refl) (less_so 3 4 refl) refl))
-  where
-    either : (os : List Contents) (k : Contents) (way : Addressing) (p : ℕ) (r : Reloc) → OwnOrText os k way p r → KindOrText os k way p r
-    either os k way p r (inl own) = inl own.kind
-    either os k way p r (inr named) = inr named
-
-    weaker : (os : List Contents) (k : Contents) → Each k (JumpsToText os k) → Each k (JumpsTo (KindOrText os k) k)
-    weaker os k jumps place r instruction a b line j operand p is way mode direct s found =
-        either os k way p s (jumps place r instruction a b line j operand p is way mode direct s found)
 
 -- a name that is defined twice, first as the number of an operand word
 abbrev twice_named_o : Contents
@@ -472,9 +375,9 @@ twice_named_o = object (0o207 ∷ []) (0 ∷ []) [] [] 0 (entry _g 0o41 2 ∷ en
 abbrev twice : List Contents
 twice = jumps_o ∷ twice_named_o ∷ []
 
-without_once : CleanBy IsClean Begins (λ y. Unit {0}) → ⊥
+clean_needs_one_definition : CleanBy IsClean Begins (λ y. Unit {0}) → ⊥
 unfolding row_of in_row call_of
-without_once law =
+clean_needs_one_definition law =
     let good : AllByRecursion IsObject twice = (
       three_good.1.0,
       (as_object twice_named_o refl refl refl refl refl refl refl refl, tt),
@@ -494,6 +397,6 @@ without_once law =
     ) all_kept linked tt (at_most_so 6 65535 refl) (inl refl) 1
     (Led 0 1 (Evident 0 (less_so 0 3 refl) refl) (less_so 1 3 refl) refl) in
     elim (in_two plain (program twice) linked.rows 1 jumps_o twice_named_o r) [
-      | inl e ↦ unreached jumps_o 1 refl e.reached
+      | inl e ↦ unreached jumps_o 1 refl e
       | inr (i, at, e) ↦ (let far : 1 ≡ 2 + i = at in omega arith)
     ]

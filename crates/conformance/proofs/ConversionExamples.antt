@@ -1,18 +1,14 @@
 -- Objects in GNU's form, what they become, and objects near these that they do not become.
-use Rattle.std.proofs.Common.{◌≡◌, ℕ, zero, suc, ◌/◌, false, true, List, [], ◌∷◌, Some, None, length, slice_get, refl, sym as back, ap, ◌∙◌}
+use Rattle.std.proofs.Common.{◌≡◌, ℕ, zero, suc, ◌/◌, false, List, [], ◌∷◌, Some, None, slice_get, refl, sym as back, ap, ◌∙◌}
 use Rattle.std.proofs.Common.{arith}
-use Rattle.std.specs.{Prelude.codes, Prelude.Ok, Prelude.Err, Prelude.slice_index, List.AllZip}
-use Rattle.aout_core.specs.declared.reloc.Kind.TheVariants.{Absolute, TextSeg, External}
+use Rattle.std.specs.{Prelude.Ok, Prelude.Err, List.AllZip}
 use Rattle.aout_core.specs.{declared.reloc.Reloc.Reloc, declared.symbol.Symbol.Symbol, Contents.Contents, WellFormed.symbol_number}
-use Rattle.gnu_objects.specs.declared.refusal.Refusal.TheVariants.{AlikeNames, LocalWord}
+use Rattle.gnu_objects.specs.declared.refusal.Refusal.TheVariants.{LocalWord}
 use Rattle.gnu_objects.specs.Converted.{converted, converted_symbol}
 use Rattle.gnu_objects.specs.Laws.{gnu_file, RefersAlike, IsSameReference, IsConversion, ConversionLaw}
-use Rattle.gnu_objects.specs.{declared.options.Options.Options, declared.options.Locals.TheVariants.KeepAll}
+use Rattle.gnu_objects.specs.{declared.options.Options.Options}
 use Rattle.gnu_objects.specs.{declared.options.Locals.TheVariants.KeepNone, declared.symbols.GnuSymbol.GnuSymbol}
 use Rattle.conformance.specs.Samples.{sym, object, _f, _g}
-
-abbrev keeping : Options
-keeping = record { drops_debugger = false; locals = KeepAll }
 
 abbrev dropping : Options
 dropping = record { drops_debugger = false; locals = KeepNone }
@@ -37,9 +33,6 @@ with_symbols reference symbols =
 abbrev without_x : ℕ → Contents
 without_x reference = with_symbols reference (sym _f 0o42 0 ∷ sym _g 0o40 0 ∷ [])
 
-kept_whole : converted keeping calls_g ≡ Ok (with_symbols 0o51 (sym _f 0o42 0 ∷ sym (codes "x") 3 6 ∷ sym _g 0o40 0 ∷ []))
-kept_whole = refl
-
 -- `_g` gets the number that `x` had
 dropped_x : converted dropping calls_g ≡ Ok (without_x 0o31)
 dropped_x = refl
@@ -47,8 +40,8 @@ dropped_x = refl
 abbrev Becomes : Contents → Type 0
 Becomes c = IsConversion dropping (gnu_file calls_g) c
 
-it_becomes : ConversionLaw → Becomes (without_x 0o31)
-it_becomes law = law dropping calls_g (without_x 0o31) refl
+conversion_says : ConversionLaw → Becomes (without_x 0o31)
+conversion_says law = law dropping calls_g (without_x 0o31) refl
 
 abbrev entry : ℕ → ℕ → ℕ → GnuSymbol
 entry place type_bits value = record { description = 0; place = place; type_bits = type_bits; overlay = 0; value = value }
@@ -78,38 +71,6 @@ number_as_before becomes = at (refers_of 0o51 becomes)
   where
     at : RefersAlike (gnu_file calls_g) (without_x 0o51) 2 2 → ⊥
     at (s, is, there) = let bad : None ≡ Some (converted_symbol (gnu_file calls_g).strings s) = there in cc
-
--- The pc bit, the kind and the value of a word.
-
-pc_bit_lost : Becomes (without_x 0o30) → ⊥
-pc_bit_lost becomes = let bad : false ≡ true = becomes.text_reloc.1.0.pc in cc
-
-other_kind : Becomes (without_x 3) → ⊥
-other_kind becomes = let bad : Some TextSeg ≡ Some External = becomes.text_reloc.1.0.kind in cc
-
-other_number : Becomes (object (0o4767 ∷ 0o177774 ∷ 0o207 ∷ []) (0 ∷ 0o31 ∷ 2 ∷ []) (1 ∷ []) (0 ∷ []) 0
-    (sym _f 0o42 0 ∷ sym _g 0o40 0 ∷ [])) → ⊥
-other_number becomes = let bad : Some TextSeg ≡ Some Absolute = becomes.text_reloc.1.1.0.kind in cc
-
-other_value : Becomes (object (0o4767 ∷ 0 ∷ 0o207 ∷ []) (0 ∷ 0o31 ∷ 0 ∷ []) (1 ∷ []) (0 ∷ []) 0 (sym _f 0o42 0 ∷ sym _g 0o40 0 ∷ [])) → ⊥
-other_value becomes =
-    let bad : 0 ≡ 0o177774 = ap (λ (l : List ℕ). slice_index l 1) becomes.text_words in
-    omega (arith, bad)
-
--- The table in another order, with a symbol that was dropped, and without one that stays.
-
-abbrev first_bits : List Symbol → ℕ
-first_bits [] = 0
-first_bits (s ∷ rest) = s.type_bits
-
-exchanged : Becomes (with_symbols 0o11 (sym _g 0o40 0 ∷ sym _f 0o42 0 ∷ [])) → ⊥
-exchanged becomes = let bad : 0o40 ≡ 0o42 = ap first_bits becomes.symbols in omega (arith, bad)
-
-with_the_local : Becomes (with_symbols 0o51 (sym _f 0o42 0 ∷ sym (codes "x") 3 6 ∷ sym _g 0o40 0 ∷ [])) → ⊥
-with_the_local becomes = let bad : 3 ≡ 2 = ap (λ (l : List Symbol). length l) becomes.symbols in omega (arith, bad)
-
-without_f : Becomes (with_symbols 0o11 (sym _g 0o40 0 ∷ [])) → ⊥
-without_f becomes = let bad : 1 ≡ 2 = ap (λ (l : List Symbol). length l) becomes.symbols in omega (arith, bad)
 
 -- A word that refers to the local: without it no object is what the file becomes, whatever number the word has.
 
@@ -144,24 +105,3 @@ dropped_and_needed c becomes =
 
     at : (r : Reloc) × IsSameReference (gnu_file calls_x) c (record { 0 = 0o31 }) r → ⊥
     at (r, same) = to r (same.refers refl)
-
--- Two externals that are equal in eight bytes: no object keeps them apart. A local goes.
-
-abbrev alike : ℕ → List ℕ
-alike type_bits =
-    7 ∷ 1 ∷ 0 ∷ 0 ∷ 0 ∷ 0 ∷ 0 ∷ 0 ∷ 16 ∷ 0 ∷ 0 ∷ 0 ∷ 0 ∷ 0 ∷ 1 ∷ 0
-    ∷ 0 ∷ 0 ∷ 4 ∷ 0 ∷ 33 ∷ 0 ∷ 1 ∷ 0 ∷ 0 ∷ 0 ∷ 15 ∷ 0 ∷ type_bits ∷ 0 ∷ 2 ∷ 0
-    ∷ 0 ∷ 0 ∷ 26 ∷ 0
-    ∷ 95 ∷ 102 ∷ 117 ∷ 110 ∷ 99 ∷ 116 ∷ 105 ∷ 111 ∷ 110 ∷ 49 ∷ 0 ∷ 95 ∷ 102 ∷ 117 ∷ 110 ∷ 99 ∷ 116 ∷ 105 ∷ 111 ∷ 110 ∷ 50 ∷ 0 ∷ []
-
-alike_refused : converted keeping (alike 0o41) ≡ Err (AlikeNames 0 1)
-alike_refused = refl
-
-local_goes : converted keeping (alike 1) ≡ Ok (object [] [] [] [] 0 (sym (codes "_functio") 0o41 1 ∷ []))
-local_goes = refl
-
-alike_become_nothing : (c : Contents) → IsConversion keeping (gnu_file (alike 0o41)) c → ⊥
-alike_become_nothing c becomes =
-    becomes.names 0 1 (entry 4 0o41 1) (entry 15 0o41 2)
-    (record { is = refl; stays = refl }) (record { is = refl; stays = refl })
-    (λ e. let bad : 49 ≡ 50 = ap (λ (l : List ℕ). slice_index l 9) e in omega (arith, bad)) refl

@@ -1,19 +1,19 @@
--- Rows that follow from the laws of linking alone: no link is computed here.
+-- What follows from the laws of linking alone: no link is computed here.
 use Rattle.std.proofs.Common.{◌≡◌, ℕ, zero, suc, true, false, List, [], ◌∷◌, Some, None, refl, sym, ◌∙◌, ap, subst, arith, inl, inr}
 use Rattle.std.proofs.lemmas.Slice.Eq.{bytes_eq-Decides}
-use Rattle.std.specs.Prelude.{Ok, Err, codes, slice_get, bytes_eq}
+use Rattle.std.specs.Prelude.{Ok, slice_get, bytes_eq}
 use Rattle.aout_core.specs.{declared.symbol.Symbol.Symbol, declared.symbol.Segment.Segment, declared.symbol.Segment.TheVariants.TextSeg}
 use Rattle.aout_core.specs.{declared.symbol.Segment.TheVariants.DataSeg, declared.reloc.Reloc.Reloc, Contents.Contents}
 use Rattle.link_session.specs.{declared.state.State.State, declared.state.State.TheVariants.Defined}
 use Rattle.link_session.specs.{declared.state.State.TheVariants.Wanted, Mentions.Mention}
 use Rattle.tool_options.specs.NameLists.{is_among}
 use Rattle.link_out.specs.ReservedNames.{etext, edata, end_name}
-use Rattle.link_out.specs.{declared.linked.LinkFault.TheVariants.DoesNotFit, Results.Outcome, function.Link.link}
+use Rattle.link_out.specs.{Results.Outcome, function.Link.link}
 use Rattle.link_laws.specs.{relation.NameStates.IsFirst, relation.NameStates.IsWanted, relation.Relocated.IsRelocated}
 use Rattle.link_laws.specs.{relation.LinkedWords.AreRelocated, relation.Reported.IsReported, relation.LinkedFrom.IsLinkedFrom}
-use Rattle.link_laws.specs.{relation.LinkedFrom.LinkedExactly, WordsAndNames.MultiplesDiffer, relation.Refusals.RefusedExactly}
-use Rattle.conformance.specs.Samples.{sym as entry_of, header, sized, _f, L1, c_o, d_o, d2_o, plain}
-use Rattle.conformance.proofs.ClauseLemmas.{one_of_two, only_word, no_word, as_object, at_most_so, less_so, only_wanted}
+use Rattle.link_laws.specs.{relation.LinkedFrom.LinkedExactly, WordsAndNames.MultiplesDiffer}
+use Rattle.conformance.specs.Samples.{sym as entry_of, header, _f, L1, c_o, d_o, d2_o, plain}
+use Rattle.conformance.proofs.ClauseLemmas.{one_of_two, only_word, no_word, as_object, at_most_so}
 
 two_words : (P : ℕ → ℕ → Reloc → Type 0) (v w : ℕ) (q r : Reloc) → P 0 v q → P 1 w r → (i u : ℕ) (s : Reloc) →
     slice_get (v ∷ w ∷ []) i ≡ Some u → slice_get (q ∷ r ∷ []) i ≡ Some s → P i u s
@@ -25,13 +25,13 @@ two_words P v w q r first second (suc i) u s e f = only_word (λ j. P (suc j)) w
 
 -- a call of a name that a later object defines
 
-abbrev pub os : List Contents
+abbrev os : List Contents
 os = c_o ∷ d_o ∷ []
 
-abbrev pub rows : List Symbol
+abbrev rows : List Symbol
 rows = entry_of _f 34 6 ∷ []
 
-abbrev pub forward : Outcome
+abbrev forward : Outcome
 forward = record {
   file = record {
     header = header 263 8 0 0 24 0 1;
@@ -134,30 +134,17 @@ forward_linked = record {
   report = reported;
 }
 
-pub call_forward_follows : LinkedExactly → link [] os plain ≡ Ok forward
-call_forward_follows exactly = (exactly [] os plain forward (
+linking_says : LinkedExactly → link [] os plain ≡ Ok forward
+linking_says exactly = (exactly [] os plain forward (
   as_object c_o refl refl refl refl refl refl refl refl,
   (as_object d_o refl refl refl refl refl refl refl refl, tt),
 )).1 forward_linked
 
--- a common of 65,535 bytes, by which a program would end at 65,536
-
-abbrev pub large : Contents
-large = sized 0 0 0 (entry_of (codes "_c") 0o40 65535 ∷ [])
-
-pub large_common_refused_follows : RefusedExactly → link [] (large ∷ []) plain ≡ Err DoesNotFit
-large_common_refused_follows exactly =
-    (exactly [] (large ∷ []) plain DoesNotFit (as_object large refl refl refl refl refl refl refl refl, tt)).1 (
-      65536,
-      record { commons = 65536; take = (Wanted 65535, only_wanted (codes "_c") 65535, (0, refl, refl)); is = refl },
-      less_so 65535 65536 refl,
-    )
-
 -- a name that two objects define at different offsets
 
-pub multiply_defined_follows : MultiplesDiffer → (x : Outcome) → link [] (d_o ∷ d2_o ∷ []) plain ≡ Ok x →
+meaning_says : MultiplesDiffer → (x : Outcome) → link [] (d_o ∷ d2_o ∷ []) plain ≡ Ok x →
     is_among x.report.multiples _f ≡ true
-multiply_defined_follows law x linked = (law [] (d_o ∷ d2_o ∷ []) plain x linked _f).1 (record {
+meaning_says law x linked = (law [] (d_o ∷ d2_o ∷ []) plain x linked _f).1 (record {
   one = TextSeg;
   two = TextSeg;
   at_one = 2;

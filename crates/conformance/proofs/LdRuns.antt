@@ -1,10 +1,12 @@
 -- Runs of ld, made of the files that it opens and the link that it makes, for examples of sessions.
-use Rattle.std.specs.Prelude.{IfSome, String, Vec, encode_utf8_all, eqb, nat_lt, if◌then◌else◌, string_bytes}
+use Rattle.std.specs.Prelude.{IfSome, codes, String, Vec, encode_utf8_all, eqb, nat_lt, if◌then◌else◌, string_bytes}
 use Rattle.std.specs.{declared.alloc.Global.Global, List.list_all}
 use Rattle.std.proofs.Common.{◌≡◌, ℕ, ◌<◌, ◌≤◌, ◌^◌, Bool, true, false, List, [], ◌∷◌, ◌++◌, map, length, Option, Some, None, Ok, refl, ap}
 use Rattle.std.proofs.Common.{arith, inr}
 use Rattle.std.proofs.lemmas.Str.{encode_ascii}
 use denote.RawPtr.{null_ptr}
+use Rattle.clap.specs.{Simple.subcommand_of, Walk.Row}
+use Rattle.command_words.specs.Tools.{v7_app}
 use Rattle.aout_core.specs.{Contents.Contents, Contents.IsSound, Decoding.decode, Encoding.encoding, Wires.Latched}
 use Rattle.aout_core.proofs.EncodesLemmas.{decoded_sound}
 use Rattle.link_session.specs.Labelled.{Labelled, objects}
@@ -29,6 +31,43 @@ vector xs small =
 -- a letter is written as itself
 pub as_written : (c : ℕ) → c < 128 → encode_utf8_all (c ∷ []) ≡ c ∷ []
 as_written c small = ap (λ (text : List ℕ). text ++ []) (encode_ascii c small)
+
+-- paths of one letter
+
+abbrev pub a_path : String Global
+a_path = record { bytes = vector (codes "a") (omega arith); ok = ∣ (codes "a", (refl, as_written 97 (omega arith))) ∣₁ }
+
+abbrev pub b_path : String Global
+b_path = record { bytes = vector (codes "b") (omega arith); ok = ∣ (codes "b", (refl, as_written 98 (omega arith))) ∣₁ }
+
+abbrev pub m_path : String Global
+m_path = record { bytes = vector (codes "m") (omega arith); ok = ∣ (codes "m", (refl, as_written 109 (omega arith))) ∣₁ }
+
+abbrev pub q_path : String Global
+q_path = record { bytes = vector (codes "q") (omega arith); ok = ∣ (codes "q", (refl, as_written 113 (omega arith))) ∣₁ }
+
+-- the options that `clap` reads from some arguments
+abbrev pub rows_read : List (List ℕ) → List Row
+rows_read words = by_found (subcommand_of v7_app words)
+  where
+    by_found : Option (List ℕ × List Row) → List Row
+    by_found None = []
+    by_found (Some it) = it.1
+
+-- a link that was made, with nothing to report
+abbrev pub made_of : Contents → Linked
+made_of file = record {
+  file = file;
+  report = record {
+    multiples = vector [] (omega arith);
+    reserved = vector [] (omega arith);
+    entry_bad = None;
+    undefined = vector [] (omega arith);
+  };
+}
+
+abbrev pub labelled : List ℕ → Contents → Labelled
+labelled path object = record { label = path; object = object }
 
 -- a device that holds these bytes
 abbrev pub holding : List ℕ → Latched (List ℕ)

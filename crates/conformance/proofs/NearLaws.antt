@@ -1,20 +1,20 @@
 -- Statements near the laws of linking that do not hold: each has a link that shows it.
 use Rattle.std.proofs.Common.{◌≡◌, ◌≢◌, ◌↔◌, ℕ, ◌+◌, ◌%◌, ◌<◌, ◌≤◌, true, false, List, [], ◌∷◌, Some, refl, sym, ◌∙◌, ap, arith, inl, inr}
 use Rattle.std.proofs.Common.{eq-eqb}
-use Rattle.std.specs.{Prelude.eqb, Prelude.Ok, Prelude.Err, Prelude.replicate, Prelude.slice_get, Prelude.sum_by, List.AllByRecursion}
+use Rattle.std.specs.{Prelude.eqb, Prelude.Ok, Prelude.Err, Prelude.replicate, Prelude.slice_get, List.AllByRecursion}
 use Rattle.aout_core.specs.{declared.symbol.Symbol.Symbol, declared.symbol.Segment.Segment, declared.symbol.Segment.TheVariants.TextSeg}
 use Rattle.aout_core.specs.{declared.reloc.Reloc.Reloc, Contents.Contents, WellFormed.symbol_number}
 use Rattle.link_session.specs.Cells.{segment_words, segment_relocs}
 use Rattle.link_session.specs.{declared.state.State.State, declared.state.State.TheVariants.Defined}
 use Rattle.link_session.specs.{declared.state.State.TheVariants.Wanted, Sessions.IsObject, Mentions.place_of}
-use Rattle.tool_options.specs.{NameLists.is_among, declared.options.Layout.Layout, declared.options.Layout.TheVariants.Split}
+use Rattle.tool_options.specs.{NameLists.is_among}
 use Rattle.tool_options.specs.{Choices.Choices}
 use Rattle.link_out.specs.declared.linked.LinkFault.TheVariants.{DoesNotFit, TooManySymbols, SymbolNumber, Memory}
 use Rattle.link_out.specs.{declared.linked.LinkFault.LinkFault, Results.Outcome, function.Link.link}
 use Rattle.link_laws.specs.WordsAndNames.{IsSaid, HasTwoDefinitions, MultiplesDiffer}
 use Rattle.link_laws.specs.relation.Refusals.{CommonsTake, EndsAt, entry_count, HasNumberTooLarge, RefusedExactly}
-use Rattle.link_laws.specs.{relation.NameStates.IsFirst, CommonsAndLayouts.DifferInPlace, CommonsAndLayouts.LayoutsDiffer}
-use Rattle.conformance.specs.Samples.{sym as entry_of, object, _f, _x, L1, a_o, c_o, d_o, i_o, plain, relocatable, with_layout}
+use Rattle.link_laws.specs.{relation.NameStates.IsFirst}
+use Rattle.conformance.specs.Samples.{sym as entry_of, object, _f, _x, L1, c_o, d_o, plain, relocatable}
 use Rattle.conformance.proofs.LawExamples.{outcome_of}
 use Rattle.conformance.proofs.ClauseLemmas.{only_object, only_word, no_word, as_object, at_most_so, less_so, only_wanted}
 
@@ -99,34 +99,6 @@ mention_beside_definition_unreported law =
 
 pub different : (a b : ℕ) → eqb a b ≡ false → a ≡ b → ⊥
 different a b t e = let bad : true ≡ false = sym (eq-eqb a b e) ∙ t in cc
-
--- the links of two layouts differ so
-abbrev LayoutsGive : (List Contents → Outcome → Outcome → Type 0) → Type 0
-LayoutsGive DifferSo = (forced : List (List ℕ)) (os : List Contents) (o : Choices) (layout : Layout) (x y : Outcome) →
-    link forced os o ≡ Ok x → link forced os (record o { layout = layout }) ≡ Ok y → DifferSo os x y
-
-law_of_layouts : LayoutsDiffer → LayoutsGive DifferInPlace
-law_of_layouts law = law
-
-abbrev plain_link : List Contents → Outcome
-plain_link os = outcome_of (link [] os plain)
-
-abbrev split_link : List Contents → Outcome
-split_link os = outcome_of (link [] os (with_layout Split plain))
-
-layouts_differ_in_magic : LayoutsGive (λ os x y. x.file.header ≡ y.file.header) → ⊥
-layouts_differ_in_magic law =
-    different 263 265 refl (ap (λ h. h.magic) (law [] [] plain Split (plain_link []) (split_link []) refl refl))
-
-layouts_differ_in_symbols : LayoutsGive (λ os x y. x.file.symbols ≡ y.file.symbols) → ⊥
-layouts_differ_in_symbols law =
-    different 42 24 refl (ap (λ ss. sum_by (λ (s : Symbol). s.value) ss)
-    (law [] (i_o ∷ []) plain Split (plain_link (i_o ∷ [])) (split_link (i_o ∷ [])) refl refl))
-
-layouts_differ_in_words : LayoutsGive (λ os x y. x.file.text_words ≡ y.file.text_words) → ⊥
-layouts_differ_in_words law =
-    different 5572 5568 refl (ap (λ ws. sum_by (λ (w : ℕ). w) ws)
-    (law [] (a_o ∷ []) plain Split (plain_link (a_o ∷ [])) (split_link (a_o ∷ [])) refl refl))
 
 -- a link is refused where it ends after this address, has more than so many entries, or needs a number over this one
 abbrev IsRefusedAbove : ℕ → ℕ → ℕ → List (List ℕ) → List Contents → Choices → LinkFault → Type 0

@@ -1,5 +1,5 @@
 -- Premises of the laws that are needed: each law without one of them, and a link for which it is then false.
-use Rattle.std.proofs.Common.{◌≡◌, ◌≢◌, ℕ, ◌+◌, ◌≤◌, true, false, List, [], ◌∷◌, ◌++◌, map, length, Some, None, refl, sym, ◌∙◌, ap, arith}
+use Rattle.std.proofs.Common.{◌≡◌, ◌≢◌, ℕ, ◌+◌, true, false, List, [], ◌∷◌, ◌++◌, map, length, Some, None, refl, sym, ◌∙◌, ap}
 use Rattle.std.proofs.Common.{inl, inr, eq-eqb}
 use Rattle.std.specs.{Prelude.eqb, Prelude.filter, Prelude.Result, Prelude.Ok, Prelude.slice_get, Prelude.sum_by, List.AllByRecursion}
 use Rattle.aout_core.specs.WellFormed.{is_external, masked_type, IsWellFormed}
@@ -7,11 +7,13 @@ use Rattle.aout_core.specs.{declared.symbol.Symbol.Symbol, declared.symbol.Segme
 use Rattle.aout_core.specs.{declared.reloc.Reloc.Reloc, Contents.Contents, Strip.stripped}
 use Rattle.link_session.specs.{Sessions.IsObject, Mentions.externals, Cells.segment_words, Cells.segment_relocs}
 use Rattle.tool_options.specs.{NameLists.is_among, declared.options.Keep.TheVariants.All, declared.options.Keep.TheVariants.NotL}
-use Rattle.tool_options.specs.{declared.options.Keep.TheVariants.Nothing, Choices.Choices, Choices.lays_commons, Choices.option_fault}
-use Rattle.link_out.specs.laws.PartialLinks.{KeepsNoMore, IsPartialLink, without_multiples}
+use Rattle.tool_options.specs.{declared.options.Keep.TheVariants.Nothing, Choices.Choices, Choices.option_fault}
+use Rattle.link_out.specs.{laws.PartialLinks.KeepsNoMore, laws.PartialLinks.IsPartialLink, laws.PartialLinks.without_multiples}
+use Rattle.link_out.specs.laws.Stripping.{StripLaw}
+use Rattle.link_laws.specs.PartialLinksAmongOthers.{PartialAlwaysReplaces}
 use Rattle.link_out.specs.{declared.linked.LinkFault.LinkFault, Results.Outcome, function.Link.link}
-use Rattle.link_laws.specs.relation.Relocated.{entry_of, IsRelocated, HoldsObjects, IsEntry}
-use Rattle.link_laws.specs.{WordsAndNames.IsDefined, CommonsAndLayouts.IsCommon, CommonsAndLayouts.HasSpace}
+use Rattle.link_laws.specs.{relation.Relocated.entry_of, relation.Relocated.IsRelocated, relation.Relocated.IsEntry, relation.LinkedFrom.IsLinkedFrom}
+use Rattle.link_laws.specs.{WordsAndNames.IsDefined, CommonsAndEntries.IsCommon, CommonsAndEntries.HasSpace}
 use Rattle.conformance.specs.Samples.{sym as entry, sized, _f, _x, _z, c_o, d_o, d2_o, x4_o, plain, plain_s, relocatable, relocatable_d}
 use Rattle.conformance.specs.Samples.{with_keep, with_entry}
 use Rattle.conformance.proofs.{LawExamples.outcome_of, ClauseLemmas.as_object, ClauseLemmas.only_wanted}
@@ -35,10 +37,13 @@ c_good = as_object c_o refl refl refl refl refl refl refl refl
 pub d_good : IsObject d_o
 d_good = as_object d_o refl refl refl refl refl refl refl refl
 
+strip_says : StripLaw → link [] both plain_s ≡ Ok (record (link_of both plain) { file = stripped (link_of both plain).file })
+strip_says law = law [] both plain (link_of both plain) refl refl
+
 -- the law of stripping, without its premise that relocation is not kept
-strips_relocation : ((forced : List (List ℕ)) (os : List Contents) (o : Choices) (x : Outcome) →
+strip_needs_no_relocation : ((forced : List (List ℕ)) (os : List Contents) (o : Choices) (x : Outcome) →
     link forced os o ≡ Ok x → link forced os (record o { keep = Nothing }) ≡ Ok (record x { file = stripped x.file })) → ⊥
-strips_relocation law =
+strip_needs_no_relocation law =
     let kept : Outcome = link_of both relocatable in
     let dropped : Outcome = link_of both (with_keep Nothing relocatable) in
     let e : Ok dropped ≡ Ok (record kept { file = stripped kept.file }) = law [] both relocatable kept refl in
@@ -46,104 +51,101 @@ strips_relocation law =
     counts (λ (x : Outcome). x.file.header.flag) dropped (record kept { file = stripped kept.file }) refl same
 
 -- the meaning of words, where no table is written
-words_without_table : ((forced : List (List ℕ)) (before : List Contents) (k : Contents) (after : List Contents) (o : Choices)
+meaning_needs_a_table : ((forced : List (List ℕ)) (before : List Contents) (k : Contents) (after : List Contents) (o : Choices)
     (x : Outcome) → AllByRecursion IsObject (before ++ k ∷ after) → link forced (before ++ k ∷ after) o ≡ Ok x →
     (segment : Segment) (i w : ℕ) (r : Reloc) → slice_get (segment_words segment k) i ≡ Some w →
     slice_get (segment_relocs segment k) i ≡ Some r → IsRelocated x.file x.file.symbols (before ++ k ∷ after) before k segment i w r) → ⊥
-words_without_table law =
+meaning_needs_a_table law =
     let h = (law [] [] c_o (d_o ∷ []) plain_s (link_of both plain_s) (c_good, (d_good, tt)) refl TextSeg 1 0o177774
     (record { 0 = 0o11 }) refl refl).is in
     let bad : None ≡ Some h.row = h.found in
     absurd (cc)
 
--- what the segments hold, of lists that are no objects
+-- the relation, of lists that are no objects
 abbrev pub no_object : Contents
 no_object = sized 8 0 0 []
 
-filled_by_others : ((forced : List (List ℕ)) (os : List Contents) (o : Choices) (x : Outcome) →
-    link forced os o ≡ Ok x → HoldsObjects x.file os) → ⊥
-filled_by_others law = counts (λ (n : ℕ). n) 0 8 refl (law [] (no_object ∷ []) plain (link_of (no_object ∷ []) plain) refl).text_words
+linking_needs_objects : ((forced : List (List ℕ)) (os : List Contents) (o : Choices) (x : Outcome) →
+    link forced os o ≡ Ok x → IsLinkedFrom forced os o x) → ⊥
+linking_needs_objects law = counts (λ (n : ℕ). n) 0 8 refl (law [] (no_object ∷ []) plain (link_of (no_object ∷ []) plain) refl).holds.text_words
 
 -- definitions, where a name is multiply defined
-definitions_of_multiples : ((forced : List (List ℕ)) (before : List Contents) (k : Contents) (after : List Contents)
+meaning_needs_one_definition : ((forced : List (List ℕ)) (before : List Contents) (k : Contents) (after : List Contents)
     (o : Choices) (x : Outcome) → o.keep ≢ Nothing → link forced (before ++ k ∷ after) o ≡ Ok x →
     (j : ℕ) (s : Symbol) → slice_get k.symbols j ≡ Some s → is_external s ≡ true → eqb (masked_type s) 0 ≡ false →
     IsDefined x.file (before ++ k ∷ after) before k s) → ⊥
-definitions_of_multiples law =
+meaning_needs_one_definition law =
     let h = law [] (d_o ∷ []) d2_o [] plain (link_of (d_o ∷ d2_o ∷ []) plain) all_kept refl 0 (entry _f 34 0) refl refl refl in
     let found : Some (entry _f 34 2) ≡ Some h.row = h.found in
     let same : entry _f 34 2 ≡ h.row = cc in
     counts (λ (n : ℕ). n) 2 4 refl (ap (λ (s : Symbol). s.value) same ∙ h.value)
 
 -- addresses of names, with relocation, and where a name is undefined
-addresses_with_relocation : ((forced : List (List ℕ)) (os : List Contents) (o : Choices) (x : Outcome) →
+meaning_needs_no_relocation : ((forced : List (List ℕ)) (os : List Contents) (o : Choices) (x : Outcome) →
     o.keep ≢ Nothing → link forced os o ≡ Ok x → x.report.undefined ≡ [] →
     (name : List ℕ) (row : Symbol) → entry_of x.file.symbols name ≡ Some row → eqb (masked_type row) 0 ≡ false) → ⊥
-addresses_with_relocation law =
+meaning_needs_no_relocation law =
     let bad : true ≡ false = law [] (c_o ∷ []) relocatable (link_of (c_o ∷ []) relocatable) all_kept refl refl _f (entry _f 32 0) refl in
     absurd (cc)
 
-addresses_of_undefined : ((forced : List (List ℕ)) (os : List Contents) (o : Choices) (x : Outcome) →
+meaning_needs_names_defined : ((forced : List (List ℕ)) (os : List Contents) (o : Choices) (x : Outcome) →
     o.keep ≢ Nothing → o.relocatable ≡ false → link forced os o ≡ Ok x →
     (name : List ℕ) (row : Symbol) → entry_of x.file.symbols name ≡ Some row → eqb (masked_type row) 0 ≡ false) → ⊥
-addresses_of_undefined law =
+meaning_needs_names_defined law =
     let bad : true ≡ false = law [] (c_o ∷ []) plain (link_of (c_o ∷ []) plain) all_kept refl refl _f (entry _f 32 0) refl in
     absurd (cc)
 
 -- entries, the entry word and what is missing, where no table is written
-entries_without_table : ((forced : List (List ℕ)) (os : List Contents) (o : Choices) (x : Outcome) → link forced os o ≡ Ok x →
+meaning_needs_a_table_for_names : ((forced : List (List ℕ)) (os : List Contents) (o : Choices) (x : Outcome) → link forced os o ≡ Ok x →
     map (λ s. s.name) (filter is_external x.file.symbols) ≡ externals forced os) → ⊥
-entries_without_table law =
+meaning_needs_a_table_for_names law =
     counts (λ (ns : List (List ℕ)). length ns) [] (_f ∷ []) refl (law [] (c_o ∷ []) plain_s (link_of (c_o ∷ []) plain_s) refl)
 
-entry_without_table : ((forced : List (List ℕ)) (os : List Contents) (o : Choices) (x : Outcome) → link forced os o ≡ Ok x →
+meaning_needs_a_table_for_the_entry : ((forced : List (List ℕ)) (os : List Contents) (o : Choices) (x : Outcome) → link forced os o ≡ Ok x →
     IsEntry x.file.symbols o.entry x.file.header.entry_point x.report.entry_bad) → ⊥
-entry_without_table law = by_case (law [] both (with_entry _f plain_s) (link_of both (with_entry _f plain_s)) refl)
+meaning_needs_a_table_for_the_entry law = by_case (law [] both (with_entry _f plain_s) (link_of both (with_entry _f plain_s)) refl)
   where
     by_case : IsEntry [] (Some _f) 6 None → ⊥
     by_case (inl h) = let bad : None ≡ Some h.0 = h.1 in cc
     by_case (inr h) = counts (λ (n : ℕ). n) 6 0 refl h.1
 
-missing_without_table : ((forced : List (List ℕ)) (os : List Contents) (o : Choices) (x : Outcome) → link forced os o ≡ Ok x →
+meaning_needs_a_table_for_missing_names : ((forced : List (List ℕ)) (os : List Contents) (o : Choices) (x : Outcome) → link forced os o ≡ Ok x →
     (name : List ℕ) → is_among x.report.undefined name ≡ true →
     (row : Symbol) × (entry_of x.file.symbols name ≡ Some row) × (row.type_bits ≡ 32) × (row.value ≡ 0)) → ⊥
-missing_without_table law =
+meaning_needs_a_table_for_missing_names law =
     let h = law [] (c_o ∷ []) plain_s (link_of (c_o ∷ []) plain_s) refl _f refl in
     let bad : None ≡ Some h.0 = h.1 in
     absurd (cc)
 
 -- the sizes of commons, where none are laid out
-size_of_waiting : ((forced : List (List ℕ)) (os : List Contents) (o : Choices) (x : Outcome) → o.keep ≢ Nothing → link forced os o ≡ Ok x →
+meaning_needs_laid_commons : ((forced : List (List ℕ)) (os : List Contents) (o : Choices) (x : Outcome) → o.keep ≢ Nothing → link forced os o ≡ Ok x →
     (name : List ℕ) (size : ℕ) → IsCommon forced os name size → HasSpace x.file os name size) → ⊥
-size_of_waiting law =
+meaning_needs_laid_commons law =
     let h = law [] (x4_o ∷ []) relocatable (link_of (x4_o ∷ []) relocatable) all_kept refl _x 4
     (record { wanted = only_wanted _x 4; sized = refl }) in
     let found : Some (entry _x 32 4) ≡ Some h.row = h.found in
     let same : entry _x 32 4 ≡ h.row = cc in
     counts (λ (n : ℕ). n) 32 36 refl (ap (λ (s : Symbol). s.type_bits) same ∙ h.type_bits)
 
--- a common has no byte more than it wants
-one_byte_more : ((forced : List (List ℕ)) (os : List Contents) (o : Choices) (x : Outcome) → o.keep ≢ Nothing →
-    lays_commons o ≡ true → link forced os o ≡ Ok x →
-    (name : List ℕ) (size : ℕ) → IsCommon forced os name size → HasSpace x.file os name (size + 1)) → ⊥
-one_byte_more law =
-    let h = law [] (x4_o ∷ []) plain (link_of (x4_o ∷ []) plain) all_kept refl refl _x 4
-    (record { wanted = only_wanted _x 4; sized = refl }) in
-    let room : h.row.value + 5 ≤ 4 = h.before in
-    absurd (omega arith)
-
 -- the file of a link without relocation is no object
-object_without_relocation : ((forced : List (List ℕ)) (os : List Contents) (o : Choices) (x : Outcome) → AllByRecursion IsWellFormed os →
+partial_needs_relocation : ((forced : List (List ℕ)) (os : List Contents) (o : Choices) (x : Outcome) → AllByRecursion IsWellFormed os →
     option_fault o.layout o.relocatable o.keep ≡ None → link forced os o ≡ Ok x → IsWellFormed x.file) → ⊥
-object_without_relocation law = let h = law [] (c_o ∷ []) plain (link_of (c_o ∷ []) plain) (refl, tt) refl refl in cc
+partial_needs_relocation law = let h = law [] (c_o ∷ []) plain (link_of (c_o ∷ []) plain) (refl, tt) refl refl in cc
 
 -- a partial link alone: its multiples are reported no more, and what it dropped is not kept
 c_d2_partial : IsPartialLink [] (d_o ∷ d2_o ∷ []) relocatable (link_of (d_o ∷ d2_o ∷ []) relocatable)
 c_d2_partial = record { allowed = refl; relocatable = refl; no_commons = refl; linked = refl }
 
-partial_with_multiples : ((forced : List (List ℕ)) (os : List Contents) (by o : Choices) (x : Outcome) → AllByRecursion IsWellFormed os →
+-- it replaces its objects where another name is forced
+beyond_says : PartialAlwaysReplaces → (let m : Outcome = link_of (d_o ∷ d2_o ∷ []) relocatable in
+    without_multiples (link (_z ∷ []) (m.file ∷ []) plain) ≡ without_multiples (link (_z ∷ []) (d_o ∷ d2_o ∷ []) plain))
+beyond_says law =
+    law [] (_z ∷ []) (d_o ∷ d2_o ∷ []) relocatable plain (link_of (d_o ∷ d2_o ∷ []) relocatable) (refl, (refl, tt)) c_d2_partial
+    (λ name h. h) (λ name h. absurd (cc))
+
+partial_needs_one_definition : ((forced : List (List ℕ)) (os : List Contents) (by o : Choices) (x : Outcome) → AllByRecursion IsWellFormed os →
     IsPartialLink forced os by x → KeepsNoMore o.keep by.keep → link forced (x.file ∷ []) o ≡ link forced os o) → ⊥
-partial_with_multiples law =
+partial_needs_one_definition law =
     let m : Outcome = link_of (d_o ∷ d2_o ∷ []) relocatable in
     counts (λ (r : Result Outcome LinkFault). length (outcome_of r).report.multiples) (link [] (m.file ∷ []) plain)
     (link [] (d_o ∷ d2_o ∷ []) plain) refl
@@ -152,19 +154,19 @@ partial_with_multiples law =
 c_partial : IsPartialLink [] (c_o ∷ []) (with_keep NotL relocatable) (link_of (c_o ∷ []) (with_keep NotL relocatable))
 c_partial = record { allowed = refl; relocatable = refl; no_commons = refl; linked = refl }
 
-partial_keeps_more : ((forced : List (List ℕ)) (os : List Contents) (by o : Choices) (x : Outcome) → AllByRecursion IsWellFormed os →
+partial_needs_kept_locals : ((forced : List (List ℕ)) (os : List Contents) (by o : Choices) (x : Outcome) → AllByRecursion IsWellFormed os →
     IsPartialLink forced os by x → without_multiples (link forced (x.file ∷ []) o) ≡ without_multiples (link forced os o)) → ⊥
-partial_keeps_more law =
+partial_needs_kept_locals law =
     let m : Outcome = link_of (c_o ∷ []) (with_keep NotL relocatable) in
     counts (λ (r : Result Outcome LinkFault). length (outcome_of r).file.symbols)
     (without_multiples (link [] (m.file ∷ []) plain)) (without_multiples (link [] (c_o ∷ []) plain)) refl
     (law [] (c_o ∷ []) (with_keep NotL relocatable) plain m (refl, tt) c_partial)
 
 -- commons that the partial link laid out: a later link that keeps relocation leaves those of the objects as they are
-partial_lays_commons : ((forced : List (List ℕ)) (os : List Contents) (by o : Choices) (x : Outcome) → AllByRecursion IsWellFormed os →
+partial_needs_waiting_commons : ((forced : List (List ℕ)) (os : List Contents) (by o : Choices) (x : Outcome) → AllByRecursion IsWellFormed os →
     option_fault by.layout by.relocatable by.keep ≡ None → by.relocatable ≡ true → link forced os by ≡ Ok x → KeepsNoMore o.keep by.keep →
     without_multiples (link forced (x.file ∷ []) o) ≡ without_multiples (link forced os o)) → ⊥
-partial_lays_commons law =
+partial_needs_waiting_commons law =
     let m : Outcome = link_of (x4_o ∷ []) relocatable_d in
     counts (λ (r : Result Outcome LinkFault). sum_by (λ (s : Symbol). s.type_bits) (outcome_of r).file.symbols)
     (without_multiples (link [] (m.file ∷ []) relocatable)) (without_multiples (link [] (x4_o ∷ []) relocatable)) refl
@@ -174,10 +176,10 @@ z_partial : IsPartialLink (_z ∷ []) [] relocatable (outcome_of (link (_z ∷ [
 z_partial = record { allowed = refl; relocatable = refl; no_commons = refl; linked = refl }
 
 -- names that were forced in the partial link, and are not later
-partial_forces_more : ((own forced : List (List ℕ)) (os : List Contents) (by o : Choices) (x : Outcome) → AllByRecursion IsWellFormed os →
+beyond_needs_forced_names : ((own forced : List (List ℕ)) (os : List Contents) (by o : Choices) (x : Outcome) → AllByRecursion IsWellFormed os →
     IsPartialLink own os by x → KeepsNoMore o.keep by.keep →
     without_multiples (link forced (x.file ∷ []) o) ≡ without_multiples (link forced os o)) → ⊥
-partial_forces_more law =
+beyond_needs_forced_names law =
     let m : Outcome = outcome_of (link (_z ∷ []) [] relocatable) in
     counts (λ (r : Result Outcome LinkFault). length (outcome_of r).file.symbols)
     (without_multiples (link [] (m.file ∷ []) plain)) (without_multiples (link [] [] plain)) refl

@@ -1,28 +1,27 @@
--- The law of instructions at sure places, at samples, and statements near it that do not hold.
-use Rattle.std.proofs.Common.{◌≡◌, ◌≢◌, ℕ, ◌+◌, ◌*◌, ◌/◌, false, true, List, [], ◌∷◌, ◌++◌, drop, Option, Some, None, inl, refl, ap, ◌∙◌, arith}
+-- The law of instructions at sure places, at a sample, and without its premise.
+use Rattle.std.proofs.Common.{◌≡◌, ◌≢◌, ℕ, ◌+◌, ◌*◌, ◌/◌, false, true, List, [], ◌∷◌, ◌++◌, drop, Option, Some, inl, refl, arith}
 use Rattle.std.specs.{Prelude.Ok, Prelude.slice_get, List.AllByRecursion}
 use Rattle.aout_core.specs.{declared.symbol.Symbol.Symbol, declared.symbol.Segment.TheVariants.TextSeg, declared.reloc.Reloc.Reloc}
 use Rattle.aout_core.specs.{Contents.Contents, Words.plus, WellFormed.kind_of, WellFormed.symbol_number}
 use Rattle.link_session.specs.{Starts.total, Sessions.IsObject}
 use Rattle.tool_options.specs.{declared.options.Keep.TheVariants.Nothing, Choices.Choices}
 use Rattle.link_out.specs.{Results.Outcome, function.Link.link}
-use Rattle.link_laws.specs.{relation.Relocated.entry_of, relation.LinkedFrom.IsLinkedFrom}
-use Rattle.link_laws.proofs.LinkedTheorem.{linked_exactly}
+use Rattle.link_laws.specs.{relation.Relocated.entry_of}
 use Rattle.instructions.specs.{declared.operation.Operation.TheVariants.Mov, declared.operation.Operation.TheVariants.Jsr}
 use Rattle.instructions.specs.{declared.mode.Mode.TheVariants.Direct, declared.mode.Mode.TheVariants.Index}
 use Rattle.instructions.specs.{declared.mode.Addressing.Addressing, declared.mode.Addressing.TheVariants.Relative}
 use Rattle.instructions.specs.{declared.operand.Operand.Operand, declared.operand.Operand.TheVariants.General}
 use Rattle.instructions.specs.{declared.operand.Operand.TheVariants.Register, declared.instruction.Instruction.Instruction, Rows.begins}
 use Rattle.instructions.specs.{Rows.row_of, Instructions.instruction_of, Alike.is_cut, UnixLines.call_of}
-use Rattle.suspicions.specs.{declared.evidence.Evidence.Evidence, declared.evidence.Evidence.TheVariants.Names}
-use Rattle.suspicions.specs.{declared.evidence.Evidence.TheVariants.Flow, declared.evidence.Evidence.TheVariants.Promise}
-use Rattle.suspicions.specs.{Trust.is_sure, Reached.is_reached, Suspicions.suspicions, SureLaw.NoneIsSure}
+use Rattle.suspicions.specs.{declared.evidence.Evidence.Evidence}
+use Rattle.suspicions.specs.{declared.evidence.Evidence.TheVariants.Promise}
+use Rattle.suspicions.specs.{Trust.is_sure, Suspicions.suspicions, SureLaw.NoneIsSure}
 use Rattle.laws.specs.{OperandWords.machine_value, OperandPlaces.addressing_of, OperandPlaces.IsOperand}
-use Rattle.laws.specs.{ReachedInstructions.KeepsInstruction, ReachedInstructions.BeginsInstruction}
+use Rattle.laws.specs.{ReachedInstructions.KeepsInstruction}
 use Rattle.laws.proofs.ReachedInstructionLemmas.{reached_instructions_kept}
 use Rattle.conformance.specs.Samples.{sym as entry, object, _f, _count, b_o, main_o, twice_o, count_o, plain}
-use Rattle.conformance.proofs.MachineExamples.{forward, main_good, twice_good, count_good}
-use Rattle.conformance.proofs.{LawExamples.outcome_of, ClauseLemmas.as_object, NearLaws.different, NeededPremises.all_kept}
+use Rattle.conformance.proofs.MachineExamples.{forward, all_good, main_linked, count_good}
+use Rattle.conformance.proofs.{ClauseLemmas.as_object, NearLaws.different, NeededPremises.all_kept, NeededPremises.link_of}
 use Rattle.aout_core.specs.declared.reloc.Kind.TheVariants as kinds
 use Rattle.instructions.specs.declared.field.Field.TheVariants as fields
 use Rattle.instructions.specs.declared.mode.Register.TheVariants as registers
@@ -37,15 +36,6 @@ call_is_sure : is_sure Promise main_o 2 ≡ true
 unfolding row_of begins call_of
 call_is_sure = refl
 
-abbrev x : Outcome
-x = outcome_of (link [] forward plain)
-
-all_good : AllByRecursion IsObject forward
-all_good = (main_good, (twice_good, (count_good, tt)))
-
-main_linked : IsLinkedFrom [] forward plain x
-main_linked = (linked_exactly [] forward plain x all_good).0 refl
-
 abbrev call : Instruction
 call = record {
   row = record { operation = Jsr; base = 0o4000; first = Some fields.Register; second = Some fields.Destination };
@@ -54,10 +44,10 @@ call = record {
 }
 
 -- so the call is in the program, with what its relocation word says
-main_call : KeepsInstruction plain x main_linked.rows forward [] main_o 2 0o4767 (0o177770 ∷ 0o207 ∷ []) call
+reached_instruction_says : KeepsInstruction plain (link_of forward plain) main_linked.rows forward [] main_o 2 0o4767 (0o177770 ∷ 0o207 ∷ []) call
 unfolding row_of begins
-main_call =
-    reached_instructions_kept [] [] main_o (twice_o ∷ count_o ∷ []) plain x all_good
+reached_instruction_says =
+    reached_instructions_kept [] [] main_o (twice_o ∷ count_o ∷ []) plain (link_of forward plain) all_good
     (omega arith, (omega arith, (omega arith, (omega arith, (omega arith, tt))))) Promise main_is_sure main_linked
     2 call_is_sure 0o4767 (0o177770 ∷ 0o207 ∷ []) refl call refl refl
 
@@ -87,11 +77,11 @@ fetch = record {
   second = Some (General Direct registers.R0);
 }
 
-forgotten_pc_bit : FindsItsName (λ k. Unit {0}) → ⊥
+reached_instruction_needs_nothing_suspicious : FindsItsName (λ k. Unit {0}) → ⊥
 unfolding row_of begins call_of
-forgotten_pc_bit law =
+reached_instruction_needs_nothing_suspicious law =
     different 10 8 refl
-    (law [] (b_o ∷ []) forgotten_o (count_o ∷ []) plain (outcome_of (link [] (b_o ∷ forgotten_o ∷ count_o ∷ []) plain)) (
+    (law [] (b_o ∷ []) forgotten_o (count_o ∷ []) plain (link_of (b_o ∷ forgotten_o ∷ count_o ∷ []) plain) (
       as_object b_o refl refl refl refl refl refl refl refl,
       (as_object forgotten_o refl refl refl refl refl refl refl refl, (count_good, tt)),
     ) tt all_kept refl refl
@@ -99,20 +89,7 @@ forgotten_pc_bit law =
     (Some (General Index registers.Pc)) 1 (inl (refl, refl)) Relative refl
     0o177774 4 (record { 0 = 0o30 }) (entry _count 0o40 0) (entry _count 0o43 8) refl refl refl refl refl refl)
 
--- and this is suspicious for sure
+-- and this is reported
 forgotten_is_reported : NoneIsSure (suspicions Promise forgotten_o) → ⊥
 unfolding row_of begins call_of
 forgotten_is_reported none = let e : true ≡ false = none.0 in absurd cc
-
--- places that only names reach: a word with a name may be data
-abbrev named_data_o : Contents
-named_data_o = object (7 ∷ []) (0 ∷ []) [] [] 0 (entry _f 0o42 0 ∷ [])
-
-begin_by_names : ((k : Contents) → NoneIsSure (suspicions Flow k) → (i : ℕ) → is_reached Names k i ≡ true → BeginsInstruction k i) → ⊥
-unfolding row_of begins call_of
-begin_by_names law =
-    let b = law named_data_o (refl, tt) 0 refl in
-    let here : 7 ∷ [] ≡ b.w ∷ b.following = b.here in
-    let word : 7 ≡ b.w = cc in
-    let none : None ≡ Some b.instruction = ap instruction_of word ∙ b.is in
-    absurd cc

@@ -1,3 +1,3 @@
-//! Wrong results that pass all clauses of a definition but one, false statements near the laws, and tables that are computed from the
-//! definitions (in proofs/).
+//! In proofs/: wrong results that pass all clauses of a definition but one, an instance of each law, and the law without a premise, which
+//! is false.
 #![tactic(auto)]

@@ -1,7 +1,7 @@
 //! When what a command prints goes out: how often it is flushed, that a session's answer is flushed before the next line is read,
 //! and that a flush that fails ends a command.
 use crate::fixtures::samples::{C_O, Failing, TestReader, TestWriter};
-use crate::fixtures::words;
+use crate::fixtures::{failed_store, words};
 use aout_core::{File, Wire};
 use std::alloc::{AllocError, Global};
 use std::cell::Cell;
@@ -232,15 +232,17 @@ fn outputs_that_fail_to_be_flushed(rt: HostRuntime) -> Result<(), Fail> {
 }
 
 /// What became of a linked file that is not stored, and the line of its fault.
-static UNSTORED: [(Stored, &[u8]); 2] = [
-    (Stored::NotCreated, b"v7: out: cannot create\n"),
-    (Stored::Failed, b"v7: write error\n"),
-];
+fn unstored() -> [(Stored, &'static [u8]); 2] {
+    [
+        (Stored::NotCreated, b"v7: out: cannot create\n"),
+        (failed_store(), b"v7: write error\n"),
+    ]
+}
 
 #[test]
 fn failing_devices_storing(rt: HostRuntime) -> Result<(), Fail> {
     let arguments = ["ld", "-o", "out", "c.o"].as_slice();
-    for (what, line) in UNSTORED {
+    for (what, line) in unstored() {
         let mut device = TestWriter::whole(Vec::new(rt.alloc()));
         let came = run_failing(rt.alloc(), arguments, "", what, &mut device)?;
         assert!(rt; came.status == 2 && came.error.as_slice() == line);

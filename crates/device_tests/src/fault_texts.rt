@@ -1,6 +1,6 @@
 //! The texts of the faults of files, of lists and of links.
-use crate::fixtures::has_text;
-use aout_core::{ObjectFault, ReadFault, Refused, Wire};
+use crate::fixtures::{device_fault, failed_read, has_text};
+use aout_core::{ObjectFault, ReadFault, Refused};
 use link_out::{LinkFault, OptionFault};
 use link_session::AddFault;
 use std::alloc::AllocError;
@@ -8,14 +8,13 @@ use symtools::ToolFault;
 
 #[test]
 fn fault_texts_of_files(rt: HostRuntime) {
-    let fault = Wire::new([0u8; 0].as_mut_slice()).put(b"x").err();
-    assert!(rt; fault.is_some_and(|fault| has_text(fault, "device fault")));
+    assert!(rt; device_fault().is_some_and(|fault| has_text(fault, "device fault")));
     assert!(rt; has_text(ReadFault::ShortHeader, "short header"));
     assert!(rt; has_text(ReadFault::BadMagic, "bad magic number"));
     assert!(rt; has_text(ReadFault::OddSize, "odd size"));
     assert!(rt; has_text(ReadFault::from(AllocError), "no memory"));
     assert!(rt; has_text(ReadFault::Truncated, "truncated"));
-    assert!(rt; has_text(ReadFault::Device, "read error"));
+    assert!(rt; has_text(failed_read(), "read error"));
     assert!(rt; has_text(ObjectFault::NotAnObject, "not an object"));
     assert!(rt; has_text(ObjectFault::NoRelocation, "no relocation"));
     assert!(rt; has_text(ObjectFault::BadRelocation(1), "bad relocation at word 1"));
@@ -30,7 +29,9 @@ fn fault_texts_of_files(rt: HostRuntime) {
 #[test]
 fn fault_texts(rt: HostRuntime) {
     assert!(rt; has_text(ToolFault::from(AllocError), "no memory"));
-    assert!(rt; has_text(ToolFault::Device, "write error"));
+    assert!(rt;
+        device_fault().is_some_and(|fault| has_text(ToolFault::from(fault), "write error"))
+    );
 }
 
 static ADD_FAULTS: [(AddFault, &str); 4] = [

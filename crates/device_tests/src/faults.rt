@@ -1,13 +1,11 @@
 //! The faults: their lines and texts, and links and loads that meet them.
-use crate::fixtures::samples::{A_O, B_O, Failing, TestReader, TestWriter};
-use crate::fixtures::{TWO_OBJECTS, has_text};
-use crate::links::{in_memory, link};
+use crate::fixtures::samples::{A_O, Failing, TestReader, TestWriter};
+use crate::fixtures::{failed_read, failed_write, has_text};
 use aout_core::{File, ObjectFault, ReadFault, Refused, Wire};
-use link_out::{Keep, LinkFault, Linked};
+use link_out::LinkFault;
 use link_session::AddFault;
 use std::alloc::{AllocError, Global};
 use std::test::Fail;
-use surroundings::{Stored, store_on};
 use v7tools::{CliFault, load};
 
 /// Whether the fault writes this line, over a writer that takes 3 bytes a call.
@@ -24,25 +22,6 @@ fn has_line(alloc: Global, fault: CliFault, line: &str) -> bool {
     writes(alloc, &fault, line)
 }
 
-/// Whether a link without a report is written with no latch on.
-fn is_written(alloc: Global, linked: &Linked, bytes: &[u8]) -> bool {
-    let mut file = in_memory(alloc);
-    let mut report = in_memory(alloc);
-    let is_put = store_on(&linked.file, &mut file) == Stored::Kept
-        && linked.report.write(&mut report).is_ok();
-    let is_latched = file.failed() || report.failed();
-    let file = file.into_inner();
-    let report = report.into_inner();
-    is_put && !is_latched && file.taken() == bytes && report.taken().is_empty()
-}
-
-#[test]
-fn latch_without_error(rt: HostRuntime) -> Result<(), Fail> {
-    let linked = link(rt.alloc(), &[("a.o", &A_O), ("b.o", &B_O)], Keep::Nothing)?;
-    assert!(rt; is_written(rt.alloc(), &linked, &TWO_OBJECTS));
-    Ok(())
-}
-
 /// How many kinds of faults there are.
 const KINDS: u8 = 14;
 
@@ -52,10 +31,7 @@ fn fault_of(kind: u8, path: String) -> (CliFault, &'static str) {
     match kind {
         0 => (CliFault::Usage, "usage"),
         1 => (CliFault::CannotOpen(path), "x.o: cannot open"),
-        2 => (
-            CliFault::BadFile(path, ReadFault::Device),
-            "x.o: read error",
-        ),
+        2 => (CliFault::BadFile(path, failed_read()), "x.o: read error"),
         3 => (
             CliFault::BadObject(path, relocation),
             "x.o: bad relocation at word 65535",
@@ -74,7 +50,7 @@ fn fault_of(kind: u8, path: String) -> (CliFault, &'static str) {
             "symbol number too large",
         ),
         8 => (CliFault::CannotCreate(path), "x.o: cannot create"),
-        9 => (CliFault::WriteFailed, "write error"),
+        9 => (failed_write(), "write error"),
         10 => (CliFault::from(AllocError), "no memory"),
         11 => (CliFault::LongLine, "line too long"),
         12 => (CliFault::ManyLines, "too many lines"),

@@ -7,6 +7,8 @@ mod answers;
 #[cfg(test)]
 mod block_writes;
 #[cfg(test)]
+mod emitting;
+#[cfg(test)]
 mod fault_texts;
 #[cfg(test)]
 mod faults;
@@ -23,6 +25,8 @@ mod lists;
 mod memory_office;
 #[cfg(test)]
 mod pieces;
+#[cfg(test)]
+mod runs;
 #[cfg(test)]
 mod script_calls;
 #[cfg(test)]

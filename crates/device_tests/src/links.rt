@@ -1,8 +1,8 @@
-//! Devices that fail at each place of a link's input, file and report.
-use crate::fixtures::samples::{A_O, B_O, C_O, Failing, G_O, TestReader, TestWriter};
+//! Links of bytes in memory, and devices that fail at each place of an input, or when they are flushed.
+use crate::fixtures::samples::{A_O, B_O, C_O, Failing, TestReader, TestWriter};
 use crate::fixtures::{TWO_OBJECTS, plain, wires};
 use aout_core::{File, ReadFault, Wire, read_file};
-use link_out::{Keep, Linked, Report};
+use link_out::{Keep, Linked};
 use link_session::Forced;
 use std::alloc::{AllocError, Global};
 use std::io::ErrorKind;
@@ -23,13 +23,14 @@ fn failing_reader(place: usize, kind: ErrorKind) -> Wire<TestReader<'static>> {
 
 /// Whether a read of `c.o` answers that its device failed.
 fn fails_to_read(alloc: Global, place: usize, kind: ErrorKind) -> bool {
-    read_file(alloc, &mut failing_reader(place, kind)).err() == Some(ReadFault::Device)
+    let mut reader = failing_reader(place, kind);
+    matches!(read_file(alloc, &mut reader), Err(ReadFault::Device(_)))
 }
 
 /// Whether this fault says that the device of `c.o` failed.
 fn is_device_fault(fault: CliFault) -> bool {
     match fault {
-        CliFault::BadFile(path, ReadFault::Device) => path.as_str() == "c.o",
+        CliFault::BadFile(path, ReadFault::Device(_)) => path.as_str() == "c.o",
         _ => false,
     }
 }
@@ -83,29 +84,15 @@ fn fails_to_store(
     bytes: &[u8],
 ) -> bool {
     let mut out = failing_writer(alloc, place, failing);
-    let is_reported = store_on(file, &mut out) == Stored::Failed && out.failed();
+    let is_reported = matches!(store_on(file, &mut out), Stored::Failed(_)) && out.failed();
     is_reported && Some(out.into_inner().taken()) == bytes.get(..place)
-}
-
-#[test]
-fn writer_fails_everywhere(rt: HostRuntime) -> Result<(), Fail> {
-    let linked = link(rt.alloc(), &[("a.o", &A_O), ("b.o", &B_O)], Keep::Nothing)?;
-    for place in 0..24 {
-        for failing in FAILURES {
-            assert!(rt;
-                fails_to_store(rt.alloc(), &linked.file, place, failing, &TWO_OBJECTS),
-                "{place} bytes"
-            );
-        }
-    }
-    Ok(())
 }
 
 /// Whether a file, and a text, are not stored on a device that takes all and then fails to be flushed.
 fn fails_to_flush(alloc: Global, file: &File, failing: Failing) -> bool {
     let mut out = failing_writer(alloc, 2, failing);
     fails_to_store(alloc, file, TWO_OBJECTS.len(), failing, &TWO_OBJECTS)
-        && store_text_on(b"ab", &mut out) == Stored::Failed
+        && matches!(store_text_on(b"ab", &mut out), Stored::Failed(_))
         && out.into_inner().taken() == b"ab".as_slice()
 }
 
@@ -126,29 +113,5 @@ fn stored_files_are_flushed(rt: HostRuntime) -> Result<(), Fail> {
         assert!(rt; fails_to_flush(alloc, &linked.file, Failing::Fails(kind)));
     }
     assert!(rt; stores(alloc, &linked.file));
-    Ok(())
-}
-
-/// Whether a report cannot be written after so many bytes of these.
-fn fails_to_report(alloc: Global, report: &Report, place: usize, failing: Failing) -> bool {
-    let mut out = failing_writer(alloc, place, failing);
-    let is_reported = report.write(&mut out).is_err();
-    is_reported && Some(out.into_inner().taken()) == REPORT.get(..place)
-}
-
-/// What is reported of `c.o` and `g.o`.
-static REPORT: &[u8] = b"Undefined:\n_f\n_g\n";
-
-#[test]
-fn report_fails_everywhere(rt: HostRuntime) -> Result<(), Fail> {
-    let linked = link(rt.alloc(), &[("c.o", &C_O), ("g.o", &G_O)], Keep::All)?;
-    for place in 0..REPORT.len() {
-        for failing in FAILURES {
-            assert!(rt;
-                fails_to_report(rt.alloc(), &linked.report, place, failing),
-                "{place} bytes"
-            );
-        }
-    }
     Ok(())
 }

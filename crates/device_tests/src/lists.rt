@@ -7,12 +7,17 @@ use std::alloc::Global;
 use std::test::Fail;
 use symtools::{NmOptions, ToolFault, nm, size};
 
+/// Whether it is a fault of the device.
+fn is_device_fault(done: Result<(), ToolFault>) -> bool {
+    matches!(done, Err(ToolFault::Device(_)))
+}
+
 /// Whether nm answers a fault of the device, now and for no files, and has written a prefix of the list.
 fn fails_to_list(alloc: Global, files: &[(String, File)], before: usize, failure: Failing) -> bool {
     let mut out = failing_writer(alloc, before, failure);
-    let is_reported = nm(alloc, files, NmOptions::default(), &mut out) == Err(ToolFault::Device)
+    let is_reported = is_device_fault(nm(alloc, files, NmOptions::default(), &mut out))
         && out.failed()
-        && nm(alloc, &[], NmOptions::default(), &mut out) == Err(ToolFault::Device);
+        && is_device_fault(nm(alloc, &[], NmOptions::default(), &mut out));
     is_reported && Some(out.into_inner().taken()) == S_O_LIST.as_bytes().get(..before)
 }
 
@@ -22,9 +27,9 @@ const SIZE_LINE: &str = "4+0+0 = 4b = 04b\n";
 /// Whether size answers a fault of the device, now and for no files, and has written a prefix of the line.
 fn fails_to_size(alloc: Global, files: &[(String, File)], before: usize, failure: Failing) -> bool {
     let mut out = failing_writer(alloc, before, failure);
-    let is_reported = size(files, &mut out) == Err(ToolFault::Device)
+    let is_reported = is_device_fault(size(files, &mut out))
         && out.failed()
-        && size(&[], &mut out) == Err(ToolFault::Device);
+        && is_device_fault(size(&[], &mut out));
     is_reported && Some(out.into_inner().taken()) == SIZE_LINE.as_bytes().get(..before)
 }
 

@@ -92,9 +92,9 @@ fn failed_writes_are_not_repeated(rt: HostRuntime) -> Result<(), Fail> {
 /// Whether a reader that fails after 20 bytes is refused twice, with no call the second time.
 fn is_latched(alloc: Global, failure: ErrorKind) -> bool {
     let mut wire = Wire::new(TestReader::new(&A_O, 7, 20, failure));
-    let is_refused = read_file(alloc, &mut wire).err() == Some(ReadFault::Device)
+    let is_refused = matches!(read_file(alloc, &mut wire), Err(ReadFault::Device(_)))
         && wire.failed()
-        && read_file(alloc, &mut wire).err() == Some(ReadFault::Device);
+        && matches!(read_file(alloc, &mut wire), Err(ReadFault::Device(_)));
     is_refused && wire.into_inner().calls() == 5
 }
 

@@ -44,7 +44,7 @@ enum Ended {
 /// How a step ended that has this fault.
 fn ended_by(fault: CliFault) -> Ended {
     match fault {
-        CliFault::WriteFailed => Ended::Unwritten,
+        CliFault::WriteFailed(_) => Ended::Unwritten,
         _ => Ended::Failed,
     }
 }

@@ -1,3 +1,2 @@
 pub mod PlainLemmas
 pub mod RemarkLemmas
-pub mod DumpLemmas

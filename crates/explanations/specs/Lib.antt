@@ -1,4 +1,2 @@
 pub mod Said
-pub mod Dumps
-pub mod Inventories
 pub mod internal

@@ -1,6 +1,4 @@
 //! What a file is, in a word or two.
-ghost use Rattle.std.specs.Prelude.{◌≡◌};
-ghost use Rattle.explanations.specs.Inventories.{file_kind, kind_of_form, kind_text};
 
 use aout_core::Header;
 use findings::OtherForm;
@@ -49,9 +47,7 @@ pub enum FileKind {
 }
 
 /// What a file with this header is.
-pub(crate) fn file_kind(header: &Header) -> FileKind
-    ensures { result ≡ file_kind header.now }
-{
+pub(crate) fn file_kind(header: &Header) -> FileKind {
     match header.magic {
         0o405 => FileKind::Overlay,
         0o410 => FileKind::PureProgram,
@@ -62,9 +58,7 @@ pub(crate) fn file_kind(header: &Header) -> FileKind
 }
 
 /// What a file with no magic number of ours is, by its form.
-pub(crate) fn kind_of_form(form: Option<OtherForm>) -> FileKind
-    ensures { result ≡ kind_of_form form }
-{
+pub(crate) fn kind_of_form(form: Option<OtherForm>) -> FileKind {
     match form {
         Some(OtherForm::Elf) => FileKind::Elf,
         Some(OtherForm::Archive | OtherForm::OldArchive | OtherForm::PortableArchive) => {
@@ -81,9 +75,7 @@ pub(crate) fn kind_of_form(form: Option<OtherForm>) -> FileKind
 }
 
 /// The word for a kind.
-pub(crate) fn kind_text(kind: FileKind) -> &'static str
-    ensures { result.now ≡ kind_text kind }
-{
+pub(crate) fn kind_text(kind: FileKind) -> &'static str {
     match kind {
         FileKind::Object => "object",
         FileKind::Program => "program 0407",

@@ -1,7 +1,4 @@
 //! What an inventory says of a file: what it is, its sizes, its symbols, and what is wrong or odd in it.
-ghost use Rattle.std.specs.Prelude.{◌≡◌, filter, length, IfOk};
-ghost use Rattle.findings.specs.Found.{all_found};
-ghost use Rattle.explanations.specs.Inventories.{condition_of, counts_of, damaged_row, file_row, gnu_row, odd_count, other_row, plain_row, refused_row, sizes_in, wants_definition};
 
 use crate::file_kind::{FileKind, file_kind, kind_of_form};
 use aout_core::{File, Header, ReadFault, Symbol};
@@ -46,9 +43,7 @@ pub struct InventoryRow {
 }
 
 /// The sizes in a header.
-fn sizes_in(header: &Header) -> SegmentSizes
-    ensures { result ≡ sizes_in header.now }
-{
+fn sizes_in(header: &Header) -> SegmentSizes {
     SegmentSizes {
         text: header.text_size,
         data: header.data_size,
@@ -56,46 +51,26 @@ fn sizes_in(header: &Header) -> SegmentSizes
     }
 }
 
-/// Whether another object has to define a name: it is undefined, and no common.
-fn wants_definition(symbol: &Symbol) -> bool
-    ensures { result ≡ wants_definition symbol.now }
-{
-    symbol.is_undefined() && symbol.value == 0
-}
-
-/// How many names another object has to define.
-fn undefined_count(symbols: &[Symbol]) -> usize
-    ensures { result ≡ length (filter wants_definition symbols.now) }
-{
-    symbols
-        .iter()
-        .filter(|symbol| wants_definition(symbol))
-        .count()
-}
-
-/// How many symbols there are.
-fn counts_of(symbols: &[Symbol]) -> SymbolCounts
-    ensures { result ≡ counts_of symbols.now }
-{
+/// How many symbols there are, and how many are undefined and no common.
+fn counts_of(symbols: &[Symbol]) -> SymbolCounts {
     SymbolCounts {
         all: symbols.len(),
-        undefined: undefined_count(symbols),
+        undefined: symbols
+            .iter()
+            .filter(|symbol| symbol.is_undefined() && symbol.value == 0)
+            .count(),
     }
 }
 
 /// How many things are odd.
-fn odd_count(alloc: Global, bytes: &[u8], file: &File) -> Result<usize, AllocError>
-    ensures { IfOk result (λ count. count ≡ odd_count bytes.now file.now) }
-{
+fn odd_count(alloc: Global, bytes: &[u8], file: &File) -> Result<usize, AllocError> {
     let sweep = Sweep::new(alloc, file)?;
     let odd = all_odd_of(alloc, Evidence::Flow, bytes, &sweep, true)?;
     Ok(odd.len())
 }
 
 /// That a file is damaged, if anything is wrong, or how many things are odd.
-fn condition_of(wrong: &[Finding], count: usize) -> Condition
-    ensures { result ≡ condition_of (all_found wrong.now) count }
-{
+fn condition_of(wrong: &[Finding], count: usize) -> Condition {
     match wrong {
         [] => Condition::Odd(count),
         [first, ..] => Condition::DamagedAt(first.place),
@@ -103,16 +78,10 @@ fn condition_of(wrong: &[Finding], count: usize) -> Condition
 }
 
 /// The row of an object in the form of GNU's assembler.
-fn gnu_row(header: Option<Header>) -> InventoryRow
-    ensures { result ≡ gnu_row header }
-{
-    let sizes = match header {
-        Some(header) => Some(sizes_in(&header)),
-        None => None,
-    };
+fn gnu_row(header: Option<Header>) -> InventoryRow {
     InventoryRow {
         kind: FileKind::GnuObject,
-        sizes,
+        sizes: header.map(|header| sizes_in(&header)),
         symbols: None,
         condition: Condition::NotExamined,
     }
@@ -124,9 +93,7 @@ pub fn file_row(
     bytes: &[u8],
     file: &File,
     wrong: &[Finding],
-) -> Result<InventoryRow, AllocError>
-    ensures { IfOk result (λ row. row ≡ file_row bytes.now file.now (all_found wrong.now)) }
-{
+) -> Result<InventoryRow, AllocError> {
     let header = file.header();
     if is_of_gnu(alloc, bytes, false)? {
         return Ok(gnu_row(Some(*header)));
@@ -140,9 +107,7 @@ pub fn file_row(
 }
 
 /// The row of bytes that begin as a file, of which this is wrong.
-fn damaged_row(header: Option<Header>, wrong: &[Finding]) -> InventoryRow
-    ensures { result ≡ damaged_row header (all_found wrong.now) }
-{
+fn damaged_row(header: Option<Header>, wrong: &[Finding]) -> InventoryRow {
     let condition = condition_of(wrong, 0);
     let (kind, sizes) = match header {
         Some(header) => (file_kind(&header), Some(sizes_in(&header))),
@@ -157,9 +122,7 @@ fn damaged_row(header: Option<Header>, wrong: &[Finding]) -> InventoryRow
 }
 
 /// The row of what has only a kind.
-pub fn plain_row(kind: FileKind) -> InventoryRow
-    ensures { result ≡ plain_row kind }
-{
+pub fn plain_row(kind: FileKind) -> InventoryRow {
     InventoryRow {
         kind,
         sizes: None,
@@ -169,9 +132,7 @@ pub fn plain_row(kind: FileKind) -> InventoryRow
 }
 
 /// The row of bytes that are not of the Seventh Edition.
-fn other_row(bytes: &[u8]) -> InventoryRow
-    ensures { result ≡ other_row bytes.now }
-{
+fn other_row(bytes: &[u8]) -> InventoryRow {
     plain_row(kind_of_form(other_form(bytes)))
 }
 
@@ -181,9 +142,7 @@ pub fn refused_row(
     bytes: &[u8],
     fault: ReadFault,
     wrong: &[Finding],
-) -> Result<InventoryRow, AllocError>
-    ensures { IfOk result (λ row. row ≡ refused_row fault bytes.now (all_found wrong.now)) }
-{
+) -> Result<InventoryRow, AllocError> {
     let header = header_of(bytes);
     if is_of_gnu(alloc, bytes, true)? {
         return Ok(gnu_row(header));

@@ -25,7 +25,8 @@
 //! - `file_row`, `refused_row`, `plain_row`: what an inventory says of a file, of bytes that do not make one, and of what is not read
 //! - `put_row`: appends the line for it
 //!
-//! docs/OBJECTS.md has the form of a listing, and v7-explain(1) what is said in it.
+//! docs/OBJECTS.md has the form of a listing, and v7-explain(1) what is said in it. Proved: what a listing remarks. Only tested: dumps and
+//! inventories.
 #![tactic(auto)]
 
 mod dump;

@@ -1,6 +1,6 @@
 //! Files as listings, in the form that `read_listing` of `listings` reads.
-ghost use Rattle.std.specs.Prelude.{◌≡◌, [], Ok, IfOk};
-ghost use Rattle.listings.specs.Listing.{listing, with_relocs};
+ghost use Rattle.std.specs.Prelude.{◌≡◌, Ok, IfOk};
+ghost use Rattle.listings.specs.Listing.{listing};
 ghost use Rattle.listings.specs.Reading.{read};
 ghost use Rattle.listings.specs.declared.draft.Addresses.TheVariants.{Compared};
 ghost use Rattle.instructions.specs.declared.unix.Decoder.TheVariants.{Unix};
@@ -24,7 +24,7 @@ pub fn write_explained(
     findings: &Notes,
 ) -> Result<Vec<u8>, AllocError>
     ensures lists { IfOk result (λ v. v.items
-        ≡ listing (explained (starts Unix sweep.now) sweep.now notes.now.lines findings.now.lines)
+        ≡ listing (explained (starts Unix sweep.now) sweep.now notes.now findings.now)
         sweep.now) }
     ensures again { IfOk result (λ v. read Compared v.items ≡ Ok sweep.now) }
 {
@@ -39,10 +39,11 @@ pub fn write_explained(
 /// The listing of a file with its first relocation words alone, without notes.
 ///
 /// Errors: `AllocError` if memory runs out.
-pub fn write_remains(alloc: Global, sweep: &Sweep<'_>, relocs: usize) -> Result<Vec<u8>, AllocError>
-    ensures { IfOk result (λ v. v.items
-        ≡ listing (explained (starts Unix sweep.now) sweep.now [] []) (with_relocs relocs sweep.now)) }
-{
+pub fn write_remains(
+    alloc: Global,
+    sweep: &Sweep<'_>,
+    relocs: usize,
+) -> Result<Vec<u8>, AllocError> {
     let none = Notes::new(alloc);
     let remarks = Explained {
         sweep,

@@ -3,7 +3,7 @@ ghost use Rattle.std.specs.Prelude.{◌≡◌, ◌<◌, ◌≤◌, ◌+◌, ◌*
 ghost use Rattle.texts.specs.Lines.{text_of};
 ghost use Rattle.texts.specs.Texts.{Puts};
 ghost use Rattle.listings.specs.Listing.{remarked, note_lines};
-ghost use Rattle.findings.specs.Found.{Holds};
+ghost use Rattle.explanations.specs.internal.Lines.{Holds};
 ghost use Rattle.instructions.specs.declared.unix.Decoder.TheVariants.{Unix};
 ghost use Rattle.aout_core.specs.declared.symbol.Segment.TheVariants.{TextSeg, DataSeg, BssSeg};
 ghost use Rattle.disassemblies.specs.Listed.{listed_line};
@@ -92,7 +92,7 @@ fn put_list(text: &mut Text, notes: &[Vec<u8>])
 
 /// Appends notes, a line each.
 pub fn put_lines(text: &mut Text, notes: &Notes)
-    ensures { Puts text.old text.new (text_of (note_lines (map printed notes.now.lines))) }
+    ensures { Puts text.old text.new (text_of (note_lines (map printed notes.now))) }
 {
     put_list(text, notes.lines());
 }
@@ -346,7 +346,7 @@ impl Remark for Explained<'_> {
     ghost use Rattle.explanations.specs.Said.{explained};
     ghost use Rattle.explanations.specs.internal.Lines.{explained_lines};
 
-    ghost said = { λ x. explained (starts Unix x.sweep.now) x.sweep.now x.notes.now.lines x.findings.now.lines };
+    ghost said = { λ x. explained (starts Unix x.sweep.now) x.sweep.now x.notes.now x.findings.now };
 
     fn put_notes(&self, text: &mut Text) {
         put_lines(text, self.notes);
@@ -374,5 +374,5 @@ impl Remark for Explained<'_> {
         put_remark(text, &[letter(symbol)]);
     }
 
-    ghost are = { λ x. explained_lines (starts Unix x.sweep.now) x.sweep.now x.notes.now.lines x.findings.now.lines };
+    ghost are = { λ x. explained_lines (starts Unix x.sweep.now) x.sweep.now x.notes.now x.findings.now };
 }

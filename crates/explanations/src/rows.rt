@@ -1,13 +1,8 @@
 //! Rows of eight words, each with its address and its bytes as characters, and labels before them.
-ghost use Rattle.std.specs.Prelude.{◌≡◌, ◌+◌, ◌-◌, ◌*◌, ◌^◌, ◌<◌, ◌≤◌, ◌++◌, false, length};
-ghost use Rattle.std.specs.List.{flat_map};
-ghost use Rattle.texts.specs.Texts.{Puts};
-ghost use Rattle.findings.specs.Found.{Holds};
-ghost use Rattle.explanations.specs.Dumps.{address, character, characters, folded, hex_byte, hex_digit, is_again, labels_at, once_text, range_text, row_text, rows_text, word_text, word_width};
 
 use aout_core::Segment;
 use disassemblies::{NamedFile, put_again, put_labels};
-use std::alloc::Global;
+use std::fmt::{self, Display, Formatter, Write};
 use texts::Text;
 
 /// How many words a row has.
@@ -22,76 +17,34 @@ pub enum Base {
     Hexadecimal,
 }
 
-/// A digit of a hexadecimal number.
-fn hex_digit(number: u8) -> u8
-    requires { number < 16 }
-    ensures { result ≡ hex_digit number }
-{
-    b"0123456789abcdef"[usize::from(number)]
+/// An address of 16 bits in a base.
+#[derive(Clone, Copy)]
+pub(crate) struct Address {
+    pub(crate) base: Base,
+    pub(crate) at: u32,
 }
 
-/// Appends a byte in hexadecimal.
-fn put_hex_byte(text: &mut Text, byte: u8)
-    ensures { Puts text.old text.new (hex_byte byte) }
-{
-    text.put_bytes(&[hex_digit(byte / 16), hex_digit(byte % 16)]);
-}
-
-/// Appends the last 16 bits of an address.
-#[tactic(auto, unfolding(crate::specs::Dumps::address))]
-pub(crate) fn put_address(text: &mut Text, base: Base, at: u32)
-    ensures { Puts text.old text.new (address base at) }
-{
-    match base {
-        Base::Octal => text.put_six_digits(at % 65536),
-        Base::Hexadecimal => {
-            put_hex_byte(text, (at % 65536 / 256) as u8);
-            put_hex_byte(text, (at % 256) as u8);
+impl Display for Address {
+    fn fmt<W: fmt::Write>(&self, f: &mut Formatter<W>) -> fmt::Result {
+        let at = self.at % 65536;
+        match self.base {
+            Base::Octal => write!(f, "{at:06o}"),
+            Base::Hexadecimal => write!(f, "{at:04x}"),
         }
     }
 }
 
 /// Appends a word, with a blank before each of its numbers.
-#[tactic(auto, unfolding(crate::specs::Dumps::word_text))]
-fn put_word(text: &mut Text, base: Base, word: u16)
-    ensures { Puts text.old text.new (word_text base word) }
-{
-    text.put_byte(b' ');
+fn put_word(text: &mut Text, base: Base, word: u16) {
+    let (low, high) = (word % 256, word / 256);
     match base {
-        Base::Octal => text.put_six_digits(u32::from(word)),
-        Base::Hexadecimal => {
-            put_hex_byte(text, (word % 256) as u8);
-            text.put_byte(b' ');
-            put_hex_byte(text, (word / 256) as u8);
-        }
-    }
-}
-
-/// How many bytes the words take that a row of so many words lacks.
-fn lacking(base: Base, count: usize) -> usize
-    requires { count ≤ 8 }
-    ensures { result ≡ word_width base * (8 - count) }
-{
-    let width = match base {
-        Base::Octal => 7,
-        Base::Hexadecimal => 6,
-    };
-    width * (ROW - count)
-}
-
-/// Appends words.
-fn put_words(text: &mut Text, base: Base, words: &[u16])
-    ensures { Puts text.old text.new (flat_map (word_text base) words.now) }
-{
-    for word in words {
-        put_word(text, base, *word);
+        Base::Octal => text.say(format_args!(" {word:06o}")),
+        Base::Hexadecimal => text.say(format_args!(" {low:02x} {high:02x}")),
     }
 }
 
 /// A byte as a character, or a point if it does not print.
-fn character(byte: u8) -> u8
-    ensures { result ≡ character byte }
-{
+fn character(byte: u8) -> u8 {
     if b' ' <= byte && byte < 127 {
         byte
     } else {
@@ -99,63 +52,42 @@ fn character(byte: u8) -> u8
     }
 }
 
-/// Appends the bytes of words as characters, the low byte of each first.
-fn put_characters(text: &mut Text, words: &[u16])
-    ensures { Puts text.old text.new (flat_map characters words.now) }
-{
-    for word in words {
+/// Appends a row: its address, its words, and their bytes as characters, the low byte of each first.
+fn put_row(text: &mut Text, base: Base, at: u32, row: &[u16]) {
+    let width = match base {
+        Base::Octal => 7,
+        Base::Hexadecimal => 6,
+    };
+    text.say(Address { base, at });
+    text.put(" ");
+    for word in row {
+        put_word(text, base, *word);
+    }
+    text.put_blanks(ROW.saturating_sub(row.len()).saturating_mul(width));
+    text.put("  ");
+    for word in row {
         text.put_byte(character((*word % 256) as u8));
         text.put_byte(character((*word / 256) as u8));
     }
-}
-
-/// Appends a row.
-#[tactic(auto, unfolding(crate::specs::Dumps::row_text))]
-fn put_row(text: &mut Text, base: Base, at: u32, row: &[u16])
-    requires { length row.now ≤ 8 }
-    ensures { Puts text.old text.new (row_text base at row.now) }
-{
-    put_address(text, base, at);
-    text.put(" ");
-    put_words(text, base, row);
-    text.put_blanks(lacking(base, row.len()));
-    text.put("  ");
-    put_characters(text, row);
     text.put("\n");
 }
 
-/// Appends that so many rows between these addresses are as the row before them.
-#[tactic(auto, unfolding(crate::specs::Dumps::range_text))]
-fn put_range(text: &mut Text, base: Base, from: u32, to: u32, times: u32)
-    ensures { Puts text.old text.new (range_text base from to times) }
-{
-    text.put("/ ");
-    put_address(text, base, from);
-    text.put(" to ");
-    put_address(text, base, to);
-    put_again(text, times);
-}
-
-/// Appends that the row at an address is as the row before it.
-#[tactic(auto, unfolding(crate::specs::Dumps::once_text))]
-fn put_once(text: &mut Text, base: Base, at: u32)
-    ensures { Puts text.old text.new (once_text base at) }
-{
-    text.put("/ ");
-    put_address(text, base, at);
-    put_again(text, 1);
-}
-
-/// Appends a remark on the rows before an address that are not shown, if there are any.
-fn put_folded(text: &mut Text, base: Base, at: u32, times: u32)
-    requires { 16 * times ≤ at }
-    ensures { Puts text.old text.new (folded base at times) }
-{
+/// Appends a remark on so many rows before an address that are as the row before them, if there are any.
+fn put_folded(text: &mut Text, base: Base, at: u32, times: u32) {
+    let first = Address {
+        base,
+        at: at.wrapping_sub(times.wrapping_mul(16)),
+    };
+    let last = Address {
+        base,
+        at: at.wrapping_sub(16),
+    };
     match times {
-        0 => {}
-        1 => put_once(text, base, at - 16),
-        _ => put_range(text, base, at - 16 * times, at - 16, times),
+        0 => return,
+        1 => text.say(format_args!("/ {last}")),
+        _ => text.say(format_args!("/ {first} to {last}")),
     }
+    put_again(text, times);
 }
 
 /// The symbols of a segment.
@@ -166,29 +98,15 @@ pub(crate) struct Named<'a> {
 }
 
 /// Appends the labels of so many words from an address on.
-pub(crate) fn put_labels_at(text: &mut Text, named: &Named<'_>, at: u32, count: u16)
-    ensures { Puts text.old text.new
-        (labels_at named.now.file.now.symbols named.now.segment at count) }
-{
+pub(crate) fn put_labels_at(text: &mut Text, named: &Named<'_>, at: u32, count: u16) {
     put_labels(text, named.file, named.segment, (at % 65536) as u16, count);
 }
 
-/// The labels of so many words from an address on.
-fn labels_text(alloc: Global, named: &Named<'_>, at: u32, count: u16) -> Text
-    ensures { Holds result (labels_at named.now.file.now.symbols named.now.segment at count) }
-{
-    let mut text = Text::new(alloc);
-    put_labels_at(&mut text, named, at, count);
-    text
-}
-
 /// The labels of a row, which are to be appended to a text. If memory runs out, the text is cut.
-fn row_labels(text: &mut Text, named: &Named<'_>, at: u32, count: usize) -> Vec<u8>
-    requires { count ≤ 8 }
-    ensures { text.new.is_cut ≡ false → (text.old.is_cut ≡ false) × (text.new.bytes ≡ text.old.bytes)
-        × (result.items ≡ labels_at named.now.file.now.symbols named.now.segment at count) }
-{
-    match labels_text(text.allocator(), named, at, count as u16).finish() {
+fn row_labels(text: &mut Text, named: &Named<'_>, at: u32, count: usize) -> Vec<u8> {
+    let mut labels = Text::new(text.allocator());
+    put_labels_at(&mut labels, named, at, (count % 65536) as u16);
+    match labels.finish() {
         Ok(labels) => labels,
         Err(error) => {
             text.cut(error);
@@ -197,44 +115,23 @@ fn row_labels(text: &mut Text, named: &Named<'_>, at: u32, count: usize) -> Vec<
     }
 }
 
-/// Whether a row has no labels and is the same as the last one.
-fn is_again(labels: &[u8], row: &[u16], last: &[u16]) -> bool
-    ensures { result ≡ is_again labels.now row.now last.now }
-{
-    labels.is_empty() && row == last
-}
-
-/// Appends a row, with its labels, after a remark on those before it that are not shown.
-fn put_shown(text: &mut Text, base: Base, at: u32, times: u32, labels: &[u8], row: &[u16])
-    requires less { 16 * times ≤ at }
-    requires few { length row.now ≤ 8 }
-    ensures { Puts text.old text.new
-        (folded base at times ++ (labels.now ++ row_text base at row.now)) }
-{
-    put_folded(text, base, at, times);
-    text.put_bytes(labels);
-    put_row(text, base, at, row);
-}
-
 /// Appends the words from an address on, in rows. Rows without labels that are the same as the row before them are counted in a remark.
-pub(crate) fn put_rows(text: &mut Text, base: Base, named: &Named<'_>, start: u32, words: &[u16])
-    requires { start + 2 * length words.now < 2 ^ 24 }
-    ensures { Puts text.old text.new
-        (rows_text base (labels_at named.now.file.now.symbols named.now.segment) start words.now) }
-{
+pub(crate) fn put_rows(text: &mut Text, base: Base, named: &Named<'_>, start: u32, words: &[u16]) {
     let mut at = start;
     let mut last: &[u16] = &[];
-    let mut times = 0;
+    let mut times = 0u32;
     for row in words.chunks(ROW) {
         let labels = row_labels(text, named, at, row.len());
-        if is_again(&labels, row, last) {
-            times += 1;
+        if labels.is_empty() && row == last {
+            times = times.saturating_add(1);
         } else {
-            put_shown(text, base, at, times, &labels, row);
+            put_folded(text, base, at, times);
+            text.put_bytes(&labels);
+            put_row(text, base, at, row);
             last = row;
             times = 0;
         }
-        at += 16;
+        at = at.wrapping_add(16);
     }
     put_folded(text, base, at, times);
 }

@@ -1,14 +1,14 @@
 -- Bad relocation words: those of text and of data are one list.
 use Rattle.std.proofs.Common.{◌≡◌, ℕ, ◌+◌, ◌*◌, List, [], ◌∷◌, ◌++◌, length, sym, ◌∙◌, ap, arith, append_assoc}
 use Rattle.aout_core.specs.{declared.reloc.Reloc.Reloc, Contents.Contents, WellFormed.word_fault}
-use Rattle.findings.specs.{Found.Found, Texts.bad_word_text, Texts.owner_text, Wrong.fault_kind, Wrong.bad_word, Wrong.bad_words}
+use Rattle.findings.specs.{Found.Found, Wrong.fault_kind, Wrong.bad_word, Wrong.bad_words}
 
 bad_words-append : (c : Contents) (place n : ℕ) (rs ss : List Reloc) →
     bad_words c place n (rs ++ ss) ≡ bad_words c place n rs ++ bad_words c place (n + length rs) ss
 bad_words-append c place n [] ss = let same : n ≡ n + 0 = omega arith in ap (λ (k : ℕ). bad_words c place k ss) same
 bad_words-append c place n (r ∷ rs) ss =
     let first : List Found =
-    bad_word (place + 2 * n) (fault_kind (word_fault c.symbols 0 r)) (λ kind. bad_word_text c.symbols n r kind ++ owner_text c n) in
+    bad_word (place + 2 * n) (fault_kind (word_fault c.symbols 0 r)) in
     let same : n + 1 + length rs ≡ n + length (r ∷ rs) = omega arith in
     ap (λ (l : List Found). first ++ l) (bad_words-append c place (n + 1) rs ss)
     ∙ sym (append_assoc first (bad_words c place (n + 1) rs) (bad_words c place (n + 1 + length rs) ss))

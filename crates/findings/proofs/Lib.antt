@@ -1,4 +1,3 @@
 pub mod BadWordLemmas
-pub mod RemainsLemmas
 pub mod SymbolLemmas
 pub mod WrongLemmas

@@ -4,18 +4,18 @@ use Rattle.std.proofs.Common.{◌∷◌, ◌++◌, take, drop, length, get_or, s
 use Rattle.std.proofs.{lemmas.List.drop_more, lemmas.List.take_more, lemmas.List.length-take, lemmas.Slice.Eq.bytes_eq-Decides}
 use Rattle.std.specs.Prelude.{bytes_eq, Result, Ok, Err, OnOk}
 use Rattle.aout_core.specs.{declared.symbol.Symbol.Symbol, Contents.Contents, WellFormed.first_of, WellFormed.is_external}
-use Rattle.findings.specs.{Found.Found, Odd.first_named_from, Odd.first_named, Odd.odd_symbol, Odd.symbol_at, Odd.odd_symbols}
+use Rattle.findings.specs.{Found.Found, Odd.first_named_from, Odd.first_named, Odd.odd_symbol, Odd.symbol_at, Odd.odd_symbols, Odd.first_alike}
 use Rattle.findings.specs.Odd.{has_name}
 use Rattle.std.proofs.lemmas.Bool.{and_parts}
 
 pub symbols_more : (commons : Bool) (c : Contents) (bytes : List ℕ) (symbols : List Symbol) (i : ℕ) (s : Symbol) (old new whole : List Found) →
     i < length symbols → s ≡ get_or symbols i s →
-    new ≡ old ++ odd_symbol commons c.header bytes (take i c.symbols) i (symbol_at c.header i) s → old ++ odd_symbols commons c bytes i
+    new ≡ old ++ odd_symbol commons c.header bytes (first_alike s (take i c.symbols)) (symbol_at c.header i) s → old ++ odd_symbols commons c bytes i
     (drop i symbols) ≡ whole → new ++ odd_symbols commons c bytes (i + 1) (drop (i + 1) symbols) ≡ whole
 symbols_more commons c bytes symbols i s old new whole inside is put so_far =
     let rest : List Found = odd_symbols commons c bytes (i + 1) (drop (i + 1) symbols) in
     ap (λ (l : List Found). l ++ rest) put
-    ∙ append_assoc old (odd_symbol commons c.header bytes (take i c.symbols) i (symbol_at c.header i) s) rest
+    ∙ append_assoc old (odd_symbol commons c.header bytes (first_alike s (take i c.symbols)) (symbol_at c.header i) s) rest
     ∙ ap (λ (l : List Symbol). old ++ odd_symbols commons c bytes i l)
     (sym (drop_more symbols i s inside ∙ ap (λ (x : Symbol). x ∷ drop (i + 1) symbols) (sym is)))
     ∙ so_far

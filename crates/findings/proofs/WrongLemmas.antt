@@ -6,7 +6,7 @@ use Rattle.aout_core.specs.WellFormed.{is_wanted, kind_of, symbol_number, kind_f
 use Rattle.aout_core.specs.{declared.symbol.Symbol.Symbol, declared.reloc.Reloc.Reloc, declared.reloc.Kind.Kind}
 use Rattle.aout_core.specs.{declared.object.ObjectFault.ObjectFault, Contents.Contents, Encoding.relocation_at}
 use Rattle.findings.specs.Wrong.{fault_kind, bad_word, bad_words, all_bad_words, more_bad_words, wrong_words}
-use Rattle.findings.specs.{declared.finding.FindingKind.FindingKind, Found.Found, Texts.bad_word_text, Texts.owner_text}
+use Rattle.findings.specs.{declared.finding.FindingKind.FindingKind, Found.Found}
 use Rattle.findings.specs.{WrongLaw.WrongWordsLaw, WrongLaw.WrongObjectsLaw}
 use Rattle.aout_core.specs.declared.reloc.Kind.TheVariants as kinds
 
@@ -29,9 +29,9 @@ kind_is_found symbols i (Some kinds.External) number = by (is_wanted (slice_get 
     by true = (λ e. refl, λ e. refl)
     by false = (λ e. absurd cc, λ e. absurd cc)
 
-no_word : (place : ℕ) (o : Option FindingKind) (text : FindingKind → List ℕ) → bad_word place o text ≡ [] → o ≡ None
-no_word place None text e = refl
-no_word place (Some kind) text e = absurd cc
+no_word : (place : ℕ) (o : Option FindingKind) → bad_word place o ≡ [] → o ≡ None
+no_word place None e = refl
+no_word place (Some kind) e = absurd cc
 
 no_faults : (a b : Option ObjectFault) → first_of a b ≡ None → (a ≡ None) × (b ≡ None)
 no_faults None b e = (refl, e)
@@ -40,7 +40,7 @@ no_faults (Some x) b e = absurd cc
 -- what is found of the first relocation word
 abbrev first_found : Contents → ℕ → ℕ → Reloc → List Found
 first_found c place n r =
-    bad_word (place + 2 * n) (fault_kind (word_fault c.symbols 0 r)) (λ kind. bad_word_text c.symbols n r kind ++ owner_text c n)
+    bad_word (place + 2 * n) (fault_kind (word_fault c.symbols 0 r))
 
 shown_none : (c : Contents) (place n i : ℕ) (rs : List Reloc) → bad_words c place n rs ≡ [] → first_bad_word c.symbols i rs ≡ None
 shown_none c place n i [] e = refl
@@ -49,8 +49,7 @@ shown_none c place n i (r ∷ rs) e =
     nothing (first_found c place n r) (bad_words c place (n + 1) rs) e in
     let fine : word_fault c.symbols i r ≡ None =
     (kind_is_found c.symbols i (kind_of r) (symbol_number r)).0
-    (no_word (place + 2 * n) (fault_kind (word_fault c.symbols 0 r))
-    (λ kind. bad_word_text c.symbols n r kind ++ owner_text c n) parts.0) in
+    (no_word (place + 2 * n) (fault_kind (word_fault c.symbols 0 r)) parts.0) in
     ap (λ (o : Option ObjectFault). first_of o (first_bad_word c.symbols (i + 1) rs)) fine ∙ shown_none c place (n + 1) (i + 1) rs parts.1
 
 none_shown : (c : Contents) (place n i : ℕ) (rs : List Reloc) → first_bad_word c.symbols i rs ≡ None → bad_words c place n rs ≡ []
@@ -59,8 +58,7 @@ none_shown c place n i (r ∷ rs) e =
     let parts : (word_fault c.symbols i r ≡ None) × (first_bad_word c.symbols (i + 1) rs ≡ None) =
     no_faults (word_fault c.symbols i r) (first_bad_word c.symbols (i + 1) rs) e in
     let none : fault_kind (word_fault c.symbols 0 r) ≡ None = (kind_is_found c.symbols i (kind_of r) (symbol_number r)).1 parts.0 in
-    ap (λ (o : Option FindingKind). bad_word (place + 2 * n) o (λ kind. bad_word_text c.symbols n r kind ++ owner_text c n)
-    ++ bad_words c place (n + 1) rs) none
+    ap (λ (o : Option FindingKind). bad_word (place + 2 * n) o ++ bad_words c place (n + 1) rs) none
     ∙ none_shown c place (n + 1) (i + 1) rs parts.1
 
 cut_to_none : (xs ys : List Found) → take 16 xs ++ ys ≡ [] → xs ≡ []

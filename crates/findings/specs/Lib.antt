@@ -2,11 +2,5 @@ pub mod Found
 pub mod Segments
 pub mod Odd
 pub mod Wrong
-pub mod Remains
 pub mod WrongLaw
-pub mod Kinds
-pub mod Notes
-pub mod OtherFiles
-pub mod Texts
-pub mod OddTexts
 pub mod internal

@@ -3,7 +3,7 @@
 -- The header comes first, then the relocation words of text and of data, and then the symbols. Each finding has the byte of the file
 -- at which the odd field begins.
 use Rattle.std.specs.Prelude.{ℕ, ◌+◌, ◌-◌, ◌*◌, ◌%◌, Bool, true, false, not, ◌&&◌, ◌||◌, eqb, nat_lt, nat_le, if◌then◌else◌, List, [], ◌∷◌}
-use Rattle.std.specs.Prelude.{◌++◌, take, drop, length, slice_index, bytes_eq, Option, Some, None}
+use Rattle.std.specs.Prelude.{◌++◌, take, drop, length, slice_index, bytes_eq, Option, Some, None, is_some}
 use Rattle.std.specs.List.{list_any}
 use Rattle.aout_core.specs.WellFormed.{is_external, is_undefined, kind_of, masked_type, segment_of}
 use Rattle.aout_core.specs.{declared.header.Header.Header, declared.symbol.Symbol.Symbol, declared.symbol.Segment.Segment}
@@ -14,21 +14,18 @@ use Rattle.texts.specs.Names.{is_printable}
 use Rattle.findings.specs.declared.finding.FindingKind.TheVariants.{IgnoredEntry, IgnoredWord, BytesAfterTable, IgnoredRelocationBits}
 use Rattle.findings.specs.declared.finding.FindingKind.TheVariants.{OutsideReference, EmptyName, UnprintableName, BytesAfterName}
 use Rattle.findings.specs.declared.finding.FindingKind.TheVariants.{RepeatedName, IgnoredTypeBits, UnknownType, OddCommon, OutsideValue}
-use Rattle.findings.specs.OddTexts.{entry_text, unused_text, bytes_after_text, ignored_bits_text, outside_reference_text, symbol_title}
-use Rattle.findings.specs.OddTexts.{empty_name_text, hidden_text, rest_text, repeated_text, type_bits_text, unknown_type_text, common_text}
-use Rattle.findings.specs.OddTexts.{outside_value_text}
 use Rattle.findings.specs.{Found.Found, Found.found_if, Segments.has_address, Segments.segment_meant}
 
 -- the entry point of a file with relocation
 abbrev pub odd_entry : Header → List Found
-odd_entry h = found_if (not (eqb h.entry_point 0) && eqb h.flag 0) 10 IgnoredEntry (entry_text h.entry_point)
+odd_entry h = found_if (not (eqb h.entry_point 0) && eqb h.flag 0) 10 IgnoredEntry
 
 abbrev pub odd_unused : Header → List Found
-odd_unused h = found_if (not (eqb h.unused 0)) 12 IgnoredWord (unused_text h.unused)
+odd_unused h = found_if (not (eqb h.unused 0)) 12 IgnoredWord
 
 -- a file of so many bytes
 abbrev pub odd_rest : Header → ℕ → List Found
-odd_rest h size = found_if (nat_lt (file_length h) size) (file_length h) BytesAfterTable (bytes_after_text (size - file_length h))
+odd_rest h size = found_if (nat_lt (file_length h) size) (file_length h) BytesAfterTable
 
 abbrev pub odd_header : Header → ℕ → List Found
 odd_header h size = odd_entry h ++ odd_unused h ++ odd_rest h size
@@ -39,20 +36,11 @@ ignores_number None = false
 ignores_number (Some External) = false
 ignores_number (Some _) = true
 
--- the relocation word at this byte, of the word at an address
-abbrev pub odd_relocation : ℕ → ℕ → Reloc → List Found
-odd_relocation place address r =
-    found_if (nat_le 0o20 r.0 && ignores_number (kind_of r)) place IgnoredRelocationBits (ignored_bits_text r.0 address)
-
--- a word at an address that refers to an address of a segment, and whose relocation word is at this byte
-abbrev pub odd_target : Header → ℕ → ℕ → Segment → ℕ → List Found
-odd_target h place address segment target =
-    found_if (not (has_address h segment target)) place OutsideReference (outside_reference_text h segment address target)
-
--- a word at an address, whose relocation word is at this byte
+-- a word at an address, whose relocation word is at this byte: bits that are ignored, and an address outside of its segment
 abbrev pub odd_word : Header → ℕ → ℕ → ℕ → Reloc → List Found
 odd_word h place address word r =
-    odd_relocation place address r ++ odd_target h place address (segment_meant (kind_of r)) (target r word address)
+    found_if (nat_le 0o20 r.0 && ignores_number (kind_of r)) place IgnoredRelocationBits
+    ++ found_if (not (has_address h (segment_meant (kind_of r)) (target r word address))) place OutsideReference
 
 -- the words of a segment from number n on, by their relocation words; number 0 has this address, and its relocation word this byte
 abbrev pub odd_words : Header → ℕ → ℕ → List ℕ → ℕ → List Reloc → List Found
@@ -72,51 +60,24 @@ after_name bytes place s = if nat_lt (length bytes) (place + 8) then [] else tak
 abbrev pub has_type : Symbol → Bool
 has_type s = nat_lt (masked_type s) 5 || (eqb (masked_type s) 0o24 || eqb (masked_type s) 0o37)
 
--- of symbol n, whose entry begins at this byte: what is odd of its name
-abbrev pub odd_empty : ℕ → ℕ → Symbol → List Found
-odd_empty n place s = found_if (eqb (length s.name) 0) place EmptyName (empty_name_text (symbol_title n s.name))
-
-abbrev pub odd_hidden : ℕ → ℕ → Symbol → List Found
-odd_hidden n place s = found_if (list_any is_hidden s.name) place UnprintableName (hidden_text (symbol_title n s.name))
-
 abbrev pub is_byte : ℕ → Bool
 is_byte b = not (eqb b 0)
 
-abbrev pub odd_rest_of_name : List ℕ → ℕ → ℕ → Symbol → List Found
-odd_rest_of_name bytes n place s =
-    found_if (list_any is_byte (after_name bytes place s)) place BytesAfterName (rest_text (symbol_title n s.name))
+-- of a symbol whose entry begins at this byte, and whose name an earlier external has or not: what is odd of its name
+abbrev pub odd_name : List ℕ → Bool → ℕ → Symbol → List Found
+odd_name bytes is_again place s =
+    found_if (eqb (length s.name) 0) place EmptyName
+    ++ found_if (list_any is_hidden s.name) place UnprintableName
+    ++ found_if (list_any is_byte (after_name bytes place s)) place BytesAfterName
+    ++ found_if is_again place RepeatedName
 
--- a name that an earlier external has, if there is one, by its number
-abbrev pub odd_repeated : ℕ → ℕ → Symbol → Option ℕ → List Found
-odd_repeated n place s None = []
-odd_repeated n place s (Some first) = found_if true place RepeatedName (repeated_text (symbol_title n s.name) first)
-
--- the number of the first external with the name, if an earlier one has it
-abbrev pub odd_name : List ℕ → ℕ → Option ℕ → ℕ → Symbol → List Found
-odd_name bytes n first place s =
-    odd_empty n place s ++ odd_hidden n place s ++ odd_rest_of_name bytes n place s ++ odd_repeated n place s first
-
--- what is odd of its type word and of its value
-abbrev pub odd_type_bits : ℕ → ℕ → Symbol → List Found
-odd_type_bits n place s =
-    found_if (nat_le 0o100 s.type_bits) (place + 8) IgnoredTypeBits (type_bits_text (symbol_title n s.name) s.type_bits)
-
-abbrev pub odd_type : ℕ → ℕ → Symbol → List Found
-odd_type n place s = found_if (not (has_type s)) (place + 8) UnknownType (unknown_type_text (symbol_title n s.name) s.type_bits)
-
--- a common of an odd size, if these are wanted
-abbrev pub odd_common : Bool → ℕ → ℕ → Symbol → List Found
-odd_common commons n place s =
-    found_if (commons && (is_undefined s && eqb (s.value % 2) 1)) (place + 10) OddCommon (common_text (symbol_title n s.name) s.value)
-
-abbrev pub odd_value : Header → ℕ → ℕ → Symbol → List Found
-odd_value h n place s =
-    found_if (not (has_address h (segment_of s) s.value)) (place + 10) OutsideValue
-    (outside_value_text h (segment_of s) (symbol_title n s.name) s.value)
-
-abbrev pub odd_fields : Bool → Header → ℕ → ℕ → Symbol → List Found
-odd_fields commons h n place s =
-    odd_type_bits n place s ++ odd_type n place s ++ odd_common commons n place s ++ odd_value h n place s
+-- and of its type word and its value; a common of an odd size, if these are wanted
+abbrev pub odd_fields : Bool → Header → ℕ → Symbol → List Found
+odd_fields commons h place s =
+    found_if (nat_le 0o100 s.type_bits) (place + 8) IgnoredTypeBits
+    ++ found_if (not (has_type s)) (place + 8) UnknownType
+    ++ found_if (commons && (is_undefined s && eqb (s.value % 2) 1)) (place + 10) OddCommon
+    ++ found_if (not (has_address h (segment_of s) s.value)) (place + 10) OutsideValue
 
 -- an external has a name; names are equal in eight bytes
 abbrev pub has_name : Symbol → List ℕ → Bool
@@ -134,10 +95,9 @@ first_named name symbols = first_named_from 0 name symbols
 abbrev pub first_alike : Symbol → List Symbol → Option ℕ
 first_alike s earlier = if is_external s then first_named s.name earlier else None
 
--- symbol n, whose entry begins at this byte, and which follows these in the table
-abbrev pub odd_symbol : Bool → Header → List ℕ → List Symbol → ℕ → ℕ → Symbol → List Found
-odd_symbol commons h bytes earlier n place s =
-    odd_name bytes n (first_alike s earlier) place s ++ odd_fields commons h n place s
+-- a symbol whose entry begins at this byte, and which follows these in the table
+abbrev pub odd_symbol : Bool → Header → List ℕ → Option ℕ → ℕ → Symbol → List Found
+odd_symbol commons h bytes first place s = odd_name bytes (is_some first) place s ++ odd_fields commons h place s
 
 abbrev pub symbol_at : Header → ℕ → ℕ
 symbol_at h n = symbols_at h + 12 * n
@@ -146,7 +106,7 @@ symbol_at h n = symbols_at h + 12 * n
 abbrev pub odd_symbols : Bool → Contents → List ℕ → ℕ → List Symbol → List Found
 odd_symbols commons c bytes n [] = []
 odd_symbols commons c bytes n (s ∷ ss) =
-    odd_symbol commons c.header bytes (take n c.symbols) n (symbol_at c.header n) s ++ odd_symbols commons c bytes (n + 1) ss
+    odd_symbol commons c.header bytes (first_alike s (take n c.symbols)) (symbol_at c.header n) s ++ odd_symbols commons c bytes (n + 1) ss
 
 -- all that is odd, with the commons of odd sizes or without them
 abbrev pub odd : Bool → List ℕ → Contents → List Found

@@ -20,17 +20,6 @@ has_address h DataSeg address = nat_le (data_start_in h) address && nat_le addre
 has_address h BssSeg address = nat_le (data_to h) address && nat_le address (bss_to h)
 has_address h _ address = true
 
--- the addresses at which a segment begins and ends; other segments count as text
-abbrev pub segment_from : Header → Segment → ℕ
-segment_from h DataSeg = data_start_in h
-segment_from h BssSeg = data_to h
-segment_from h _ = 0
-
-abbrev pub segment_to : Header → Segment → ℕ
-segment_to h DataSeg = data_to h
-segment_to h BssSeg = bss_to h
-segment_to h _ = h.text_size
-
 -- the segment that a kind of relocation word is for
 abbrev pub segment_meant : Option Kind → Segment
 segment_meant (Some kinds.TextSeg) = TextSeg

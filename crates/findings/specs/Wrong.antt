@@ -6,45 +6,28 @@ use Rattle.aout_core.specs.{declared.object.ObjectFault.ObjectFault, Contents.Co
 use Rattle.aout_core.specs.{WellFormed.word_fault}
 use Rattle.findings.specs.declared.finding.FindingKind.TheVariants.{ShortHeader, BadMagic, OddSize, Truncated, BadRelocation}
 use Rattle.findings.specs.declared.finding.FindingKind.TheVariants.{BadSymbolNumber, MoreBadWords}
-use Rattle.findings.specs.Texts.{short_header_text, bad_magic_text, odd_size_text, odd_table_text, truncated_text, bad_word_text}
-use Rattle.findings.specs.Texts.{owner_text, more_text}
 use Rattle.findings.specs.{declared.finding.FindingKind.FindingKind, Found.Found, Found.found_if}
 use Rattle.aout_core.specs.declared.file.ReadFault.TheVariants as faults
 use Rattle.aout_core.specs.declared.object.ObjectFault.TheVariants as refusals
 
 -- the size of a part, at its word of the header
-abbrev pub odd_size : ℕ → List ℕ → ℕ → List Found
-odd_size place part size = found_if (not (eqb (size % 2) 0)) place OddSize (odd_size_text part size)
-
-abbrev pub odd_table : ℕ → List Found
-odd_table size = found_if (not (eqb (size % 12) 0)) 8 OddSize (odd_table_text size)
+abbrev pub odd_size : ℕ → ℕ → List Found
+odd_size place size = found_if (not (eqb (size % 2) 0)) place OddSize
 
 -- each size that is not whole
 abbrev pub odd_sizes : Header → List Found
 odd_sizes h =
-    odd_size 2 (codes "text") h.text_size
-    ++ odd_size 4 (codes "data") h.data_size
-    ++ odd_size 6 (codes "bss") h.bss_size
-    ++ odd_table h.symbol_size
-
-abbrev pub bad_magic : ℕ → List Found
-bad_magic magic = found_if true 0 BadMagic (bad_magic_text magic)
-
--- of a file with so many bytes
-abbrev pub truncated : Header → ℕ → List Found
-truncated h size = found_if true size Truncated (truncated_text h size)
-
-abbrev pub short_header : ℕ → List Found
-short_header size = found_if true size ShortHeader short_header_text
+    odd_size 2 h.text_size ++ odd_size 4 h.data_size ++ odd_size 6 h.bss_size
+    ++ found_if (not (eqb (h.symbol_size % 12) 0)) 8 OddSize
 
 -- bytes that are not a file, for this reason
 abbrev pub wrong_by : ReadFault → List ℕ → List Found
-wrong_by faults.BadMagic bytes = bad_magic (header_in bytes).magic
+wrong_by faults.BadMagic bytes = found_if true 0 BadMagic
 wrong_by faults.OddSize bytes = odd_sizes (header_in bytes)
-wrong_by _ bytes = truncated (header_in bytes) (length bytes)
+wrong_by _ bytes = found_if true (length bytes) Truncated
 
 abbrev pub wrong_bytes : ReadFault → List ℕ → List Found
-wrong_bytes fault bytes = if nat_lt (length bytes) 16 then short_header (length bytes) else wrong_by fault bytes
+wrong_bytes fault bytes = if nat_lt (length bytes) 16 then found_if true (length bytes) ShortHeader else wrong_by fault bytes
 
 -- a word makes ld refuse it
 abbrev pub is_damaged : Option ObjectFault → Bool
@@ -58,23 +41,22 @@ fault_kind (Some (refusals.BadRelocation _)) = Some BadRelocation
 fault_kind (Some (refusals.BadSymbolNumber _)) = Some BadSymbolNumber
 fault_kind _ = None
 
-abbrev pub bad_word : ℕ → Option FindingKind → (FindingKind → List ℕ) → List Found
-bad_word place None text = []
-bad_word place (Some kind) text = found_if true place kind (text kind)
+abbrev pub bad_word : ℕ → Option FindingKind → List Found
+bad_word place None = []
+bad_word place (Some kind) = found_if true place kind
 
 -- the words from number n on that make ld refuse an object, by their relocation words; that of word 0 is at this byte
 abbrev pub bad_words : Contents → ℕ → ℕ → List Reloc → List Found
 bad_words c place n [] = []
 bad_words c place n (r ∷ rs) =
-    bad_word (place + 2 * n) (fault_kind (word_fault c.symbols 0 r))
-    (λ kind. bad_word_text c.symbols n r kind ++ owner_text c n) ++ bad_words c place (n + 1) rs
+    bad_word (place + 2 * n) (fault_kind (word_fault c.symbols 0 r)) ++ bad_words c place (n + 1) rs
 
 abbrev pub all_bad_words : Contents → List Found
 all_bad_words c = bad_words c (relocation_at c.header) 0 (c.text_reloc ++ c.data_reloc)
 
 -- that there are more than 16, of so many
 abbrev pub more_bad_words : Header → ℕ → List Found
-more_bad_words h count = found_if (nat_lt 16 count) (relocation_at h) MoreBadWords (more_text (count - 16))
+more_bad_words h count = found_if (nat_lt 16 count) (relocation_at h) MoreBadWords
 
 -- the first 16 one by one, and that there are more
 abbrev pub wrong_words : Contents → List Found

@@ -1,74 +1,84 @@
-//! What is found in a file.
-ghost use Rattle.std.specs.Prelude.{◌≡◌, [], ◌∷◌, map};
-ghost use Rattle.texts.specs.Texts.{nothing_written, Puts};
-ghost use Rattle.findings.specs.Notes.{byte_text, finding_text, finding_note, AddsNotes};
+//! What is found in a file. Only tested: what a finding says.
+ghost use Rattle.std.specs.Prelude.{◌≡◌};
 
 use crate::notes::Notes;
 use std::alloc::{AllocError, Global};
+use std::fmt::Display;
 use std::marker::Model;
 use texts::Text;
 
-/// What is wrong or odd. v7-explain(1) lists what is.
+/// What is wrong or odd, each with its number in `v7.h`: 1 to 7 are wrong, 8 to 20 odd, 21 to 29 suspicious. v7-explain(1) lists them.
 #[derive(Clone, Copy, Debug, PartialEq, Eq)]
 pub enum FindingKind {
     /// The file ends in its header.
-    ShortHeader,
+    ShortHeader = 1,
     /// A file begins with another magic number.
-    BadMagic,
+    BadMagic = 2,
     /// A size is not whole.
-    OddSize,
+    OddSize = 3,
     /// The file ends before its header says.
-    Truncated,
+    Truncated = 4,
     /// A relocation word has none of the kinds.
-    BadRelocation,
+    BadRelocation = 5,
     /// A relocation word refers to no undefined external.
-    BadSymbolNumber,
+    BadSymbolNumber = 6,
     /// There are more bad relocation words than are shown.
-    MoreBadWords,
+    MoreBadWords = 7,
     /// The entry point of an object is ignored.
-    IgnoredEntry,
+    IgnoredEntry = 8,
     /// The unused word of the header is not 0.
-    IgnoredWord,
+    IgnoredWord = 9,
     /// Bytes after the table are not read.
-    BytesAfterTable,
+    BytesAfterTable = 10,
     /// Bits 15 to 4 of a relocation word count for an external alone.
-    IgnoredRelocationBits,
+    IgnoredRelocationBits = 11,
     /// A word refers to a segment, and to an address outside of it.
-    OutsideReference,
+    OutsideReference = 12,
     /// A name is empty.
-    EmptyName,
+    EmptyName = 13,
     /// A name has bytes that do not print.
-    UnprintableName,
+    UnprintableName = 14,
     /// Bytes after the NUL of a name are ignored.
-    BytesAfterName,
+    BytesAfterName = 15,
     /// An earlier external has the name, which is an external too.
-    RepeatedName,
+    RepeatedName = 16,
     /// Bits of a type word above 77 are ignored.
-    IgnoredTypeBits,
+    IgnoredTypeBits = 17,
     /// The format does not have a type.
-    UnknownType,
+    UnknownType = 18,
     /// A common has an odd size.
-    OddCommon,
+    OddCommon = 19,
     /// The value of a symbol is outside of its segment.
-    OutsideValue,
+    OutsideValue = 20,
     /// The first word of an instruction is relocated.
-    RelocatedFirstWord,
+    RelocatedFirstWord = 21,
     /// The pc bit of an operand word does not suit its mode.
-    UnsuitablePcBit,
+    UnsuitablePcBit = 22,
     /// An instruction has more words than the text has after it.
-    CutInstruction,
+    CutInstruction = 23,
     /// An instruction leads to a word that begins none.
-    NoInstruction,
+    NoInstruction = 24,
     /// A branch leads out of the text.
-    BranchOutside,
+    BranchOutside = 25,
     /// A branch leads to an operand word of an instruction.
-    BranchWithin,
+    BranchWithin = 26,
     /// An operand refers to what its instruction cannot mean, as a call that leads to a common.
-    UnsuitableReference,
+    UnsuitableReference = 27,
     /// A symbol of text, or a word of kind text, has an address at which no instruction begins.
-    UnsuitableAddress,
+    UnsuitableAddress = 28,
     /// An external is absolute and has an address of the text, and no symbol is of text.
-    AbsoluteText,
+    AbsoluteText = 29,
+}
+
+impl FindingKind {
+    ghost use Rattle.findings.specs.Found.{kind_number};
+
+    /// Its number in `v7.h`.
+    pub fn number(self) -> u32
+        ensures { result ≡ kind_number self }
+    {
+        self as u32
+    }
 }
 
 /// What is found at a byte of a file.
@@ -101,9 +111,8 @@ impl Model for Findings {
 }
 
 impl Findings {
-    ghost use Rattle.std.specs.Prelude.{◌≡◌, ◌++◌, [], false, true, IfOk};
-    ghost use Rattle.texts.specs.Texts.{nothing_written};
-    ghost use Rattle.findings.specs.Found.{all_found, found_as, found_if};
+    ghost use Rattle.std.specs.Prelude.{◌≡◌, [], false, true, IfOk};
+    ghost use Rattle.findings.specs.Found.{all_found, Finds, found_as, found_if};
 
     /// None yet.
     pub fn new(alloc: Global) -> Findings
@@ -122,24 +131,20 @@ impl Findings {
     }
 
     /// An empty text.
-    pub fn text(&self) -> Text
-        ensures { result ≡ nothing_written }
-    {
+    pub fn text(&self) -> Text {
         Text::new(self.allocator())
     }
 
     /// Adds a finding that is sure.
     pub fn find(&mut self, place: usize, kind: FindingKind, text: Text)
-        ensures { self.new.is_cut ≡ false → (self.old.is_cut ≡ false) × (text.is_cut ≡ false)
-            × (self.new.found ≡ self.old.found ++ found_if true place kind text.bytes) }
+        ensures { Finds self.old self.new (found_if true place kind) }
     {
         self.find_as(true, place, kind, text);
     }
 
     /// Adds a finding that is sure or in doubt.
     pub fn find_as(&mut self, is_sure: bool, place: usize, kind: FindingKind, text: Text)
-        ensures { self.new.is_cut ≡ false → (self.old.is_cut ≡ false) × (text.is_cut ≡ false)
-            × (self.new.found ≡ self.old.found ++ found_as is_sure true place kind text.bytes) }
+        ensures { Finds self.old self.new (found_as is_sure true place kind) }
     {
         let text = match text.finish() {
             Ok(text) => text,
@@ -152,6 +157,23 @@ impl Findings {
             text,
         }) {
             self.cut(AllocError::from(error));
+        }
+    }
+
+    /// Adds a finding that is sure, if a condition holds. Its text is what is written; no contract says which.
+    pub fn find_if<D: Display + Drop>(
+        &mut self,
+        holds: bool,
+        place: usize,
+        kind: FindingKind,
+        says: D,
+    )
+        ensures { Finds self.old self.new (found_if holds place kind) }
+    {
+        if holds {
+            let mut text = self.text();
+            text.say(says);
+            self.find(place, kind, text);
         }
     }
 
@@ -175,39 +197,20 @@ impl Findings {
     }
 }
 
-/// Appends a byte of a file.
-pub(crate) fn put_byte(text: &mut Text, place: usize)
-    ensures { Puts text.old text.new (byte_text place) }
-{
-    text.put("byte ");
-    text.put_octal_and_decimal(place as u64);
-}
-
-/// Appends a finding in a line.
-pub fn put_finding_text(text: &mut Text, finding: &Finding)
-    ensures { Puts text.old text.new (finding_text finding.now) }
-{
-    put_byte(text, finding.place);
-    text.put(": ");
+/// Appends a finding in a line: its place and its text.
+pub fn put_finding_text(text: &mut Text, finding: &Finding) {
+    let place = finding.place;
+    text.say(format_args!("byte 0{place:o} ({place}): "));
     text.put_bytes(&finding.text);
 }
 
-/// Adds a finding as a note, after this word.
-fn put_finding(notes: &mut Notes, word: &str, finding: &Finding)
-    ensures { AddsNotes notes.old notes.new (finding_note word.now finding.now ∷ []) }
-{
-    let mut text = notes.begin();
-    text.put(word);
-    text.put(": ");
-    put_finding_text(&mut text, finding);
-    notes.add(text);
-}
-
 /// Adds findings as notes, each after this word.
-pub fn put_findings(notes: &mut Notes, word: &str, findings: &[Finding])
-    ensures { AddsNotes notes.old notes.new (map (finding_note word.now) findings.now) }
-{
+pub fn put_findings(notes: &mut Notes, word: &str, findings: &[Finding]) {
     for finding in findings {
-        put_finding(notes, word, finding);
+        let mut text = notes.begin();
+        text.put(word);
+        text.put(": ");
+        put_finding_text(&mut text, finding);
+        notes.add(text);
     }
 }

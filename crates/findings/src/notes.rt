@@ -1,12 +1,12 @@
-//! Notes on a file, a line each.
-ghost use Rattle.std.specs.Prelude.{◌≡◌, ◌∷◌, []};
-ghost use Rattle.findings.specs.Notes.{note_text, AddsNotes};
+//! Notes on a file, a line each. Only tested: what they say.
+ghost use Rattle.std.specs.Prelude.{◌≡◌, []};
 
 use std::alloc::{AllocError, Global};
+use std::fmt::Display;
 use std::marker::Model;
 use texts::Text;
 
-/// Notes while they are collected. Once memory runs out they are cut, and say nothing.
+/// Notes while they are collected. Once memory runs out they are cut, and `whole` returns the error.
 #[derive(Drop)]
 pub struct Notes {
     list: Vec<Vec<u8>>,
@@ -14,24 +14,19 @@ pub struct Notes {
 }
 
 impl Model for Notes {
-    ghost use Rattle.std.specs.Prelude.{map};
-    ghost use Rattle.std.specs.Option.{is_some};
-    ghost use Rattle.findings.specs.Notes.{Noted};
+    ghost use Rattle.std.specs.Prelude.{ℕ, List, map};
 
-    ghost Value = { Noted };
+    ghost Value = { List (List ℕ) };
 
-    ghost view = { λ n. record { lines = map (λ v. v.items) n.list.items; is_cut = is_some n.refused } };
+    ghost view = { λ n. map (λ v. v.items) n.list.items };
 }
 
 impl Notes {
-    ghost use Rattle.std.specs.Prelude.{◌≡◌, ◌↔◌, ◌++◌, ◌∷◌, [], false, true, map, codes, IsErr, IsTrue};
-    ghost use Rattle.findings.specs.Found.{Holds};
-    ghost use Rattle.findings.specs.Notes.{note_text, AddsNotes};
+    ghost use Rattle.std.specs.Prelude.{◌≡◌, [], map};
 
     /// None yet.
     pub fn new(alloc: Global) -> Notes
-        ensures lines { result.lines ≡ [] }
-        ensures whole { result.is_cut ≡ false }
+        ensures { result ≡ [] }
     {
         Notes {
             list: Vec::new(alloc),
@@ -40,19 +35,14 @@ impl Notes {
     }
 
     /// The text of a note that begins: a blank. The slash of its line is not there yet.
-    pub fn begin(&self) -> Text
-        ensures { Holds result (codes " ") }
-    {
+    pub fn begin(&self) -> Text {
         let mut text = Text::new(*self.list.allocator());
         text.put(" ");
         text
     }
 
     /// Adds a note, which `begin` began.
-    pub fn add(&mut self, note: Text)
-        ensures { self.new.is_cut ≡ false → (self.old.is_cut ≡ false) × (note.is_cut ≡ false)
-            × (self.new.lines ≡ self.old.lines ++ note.bytes ∷ []) }
-    {
+    pub fn add(&mut self, note: Text) {
         let line = match note.finish() {
             Ok(line) => line,
             Err(error) => {
@@ -65,19 +55,15 @@ impl Notes {
         }
     }
 
-    /// Adds a note of these words.
-    pub fn put(&mut self, note: &str)
-        ensures { AddsNotes self.old self.new (note_text note.now ∷ []) }
-    {
+    /// Adds a note.
+    pub fn say<D: Display + Drop>(&mut self, note: D) {
         let mut text = self.begin();
-        text.put(note);
+        text.say(note);
         self.add(text);
     }
 
     /// An error if they are cut: out of memory.
-    pub fn whole(&self) -> Result<(), AllocError>
-        ensures { IsErr result ↔ IsTrue self.now.is_cut }
-    {
+    pub fn whole(&self) -> Result<(), AllocError> {
         match self.refused {
             Some(error) => Err(error),
             None => Ok(()),
@@ -86,7 +72,7 @@ impl Notes {
 
     /// The notes so far.
     pub fn lines(&self) -> &[Vec<u8>]
-        ensures { map (λ v. v.items) result.now ≡ self.now.lines }
+        ensures { map (λ v. v.items) result.now ≡ self.now }
     {
         &self.list
     }

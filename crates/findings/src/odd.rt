@@ -1,76 +1,22 @@
-//! What is odd of a file, and not refused.
-ghost use Rattle.std.specs.Prelude.{◌≡◌, ◌+◌, ◌*◌, ◌%◌, ◌^◌, ◌<◌, ◌≤◌, ◌&&◌, not, Some, None, length, take};
-ghost use Rattle.aout_core.specs.WellFormed.{is_external};
-ghost use Rattle.std.specs.Prelude.{if◌then◌else◌, bytes_eq, is_some, IfOk, OnOk, List, ℕ, false};
+//! What is odd of a file, and not refused. Only tested: the texts of the findings.
+ghost use Rattle.std.specs.Prelude.{◌≡◌, ◌+◌, ◌*◌, ◌^◌, ◌<◌, ◌≤◌, ◌&&◌, not, None, Some, length, take};
+ghost use Rattle.std.specs.Prelude.{if◌then◌else◌, bytes_eq, is_some, IfOk, OnOk, List, ℕ};
 ghost use Rattle.std.specs.List.{list_any};
 ghost use Rattle.std.specs.BTreeMap.{get};
 ghost use Rattle.std.specs.Cmp.Lexicographic.{slice_cmp};
 ghost use Rattle.std.specs.Ordering.{nat_cmp};
-ghost use Rattle.texts.specs.Texts.{Puts};
-ghost use Rattle.findings.specs.Found.{all_found, Finds, Holds};
+ghost use Rattle.aout_core.specs.WellFormed.{is_external};
+ghost use Rattle.findings.specs.Found.{all_found, Finds};
 ghost use Rattle.findings.specs.Segments.{segment_meant};
-ghost use Rattle.findings.specs.OddTexts.{symbol_title, range_text, common_size_text, value_text, referring_text};
-ghost use Rattle.findings.specs.OddTexts.{entry_text, unused_text, bytes_after_text, ignored_bits_text};
-ghost use Rattle.findings.specs.OddTexts.{outside_reference_text, repeated_text, type_bits_text, unknown_type_text};
-ghost use Rattle.findings.specs.OddTexts.{common_text, outside_value_text};
-ghost use Rattle.findings.specs.Odd.{odd_entry, odd_unused, odd_rest, odd_header, ignores_number, odd_relocation};
-ghost use Rattle.findings.specs.Odd.{odd_target, odd_word, odd_words, is_hidden, after_name, is_byte, has_type};
-ghost use Rattle.findings.specs.Odd.{odd_empty, odd_hidden, odd_rest_of_name, odd_repeated, odd_name, odd_type_bits};
-ghost use Rattle.findings.specs.Odd.{odd_type, odd_common, odd_value, odd_fields, has_name, first_alike, odd_symbol, symbol_at};
-ghost use Rattle.findings.specs.Odd.{odd_symbols, odd};
+ghost use Rattle.findings.specs.Odd.{after_name, first_alike, has_name, has_type, ignores_number, is_byte, is_hidden, odd, odd_fields};
+ghost use Rattle.findings.specs.Odd.{odd_header, odd_name, odd_symbol, odd_symbols, odd_word, odd_words, symbol_at};
 
 use crate::finding::{Finding, FindingKind, Findings};
-use crate::places::{FilePlaces, has_address, range_of, segment_name, symbol_at};
+use crate::places::{FilePlaces, Title, has_address, range_of, segment_name, symbol_at};
 use aout_core::{File, Header, Kind, Name, Reloc, Segment, Symbol};
 use std::alloc::{AllocError, Global};
 use std::collections::BTreeMap;
-use texts::{Text, is_printable};
-
-/// Appends where a segment lies.
-#[tactic(auto, unfolding(crate::specs::OddTexts::range_text))]
-fn put_range(text: &mut Text, header: &Header, segment: Segment)
-    ensures { Puts text.old text.new (range_text header.now segment) }
-{
-    let range = range_of(header, segment);
-    text.put(segment_name(segment));
-    text.put(" lies from ");
-    text.put_six_digits(range.start);
-    text.put(" to ");
-    text.put_six_digits(range.end);
-}
-
-/// Appends the value of a common, and what it means.
-#[tactic(auto, unfolding(crate::specs::OddTexts::common_size_text))]
-fn put_common_size(text: &mut Text, size: u16)
-    ensures { Puts text.old text.new (common_size_text size) }
-{
-    text.put_six_digits(u32::from(size));
-    text.put(": a common of ");
-    text.put_decimal(u64::from(size));
-    text.put(" bytes, rounded up to even");
-}
-
-/// Appends a value of a segment.
-#[tactic(auto, unfolding(crate::specs::OddTexts::value_text))]
-fn put_value(text: &mut Text, segment: Segment, value: u16)
-    ensures { Puts text.old text.new (value_text segment value) }
-{
-    text.put("of ");
-    text.put(segment_name(segment));
-    text.put(" has value ");
-    text.put_six_digits(u32::from(value));
-}
-
-/// Appends that the word at an address is for a segment.
-#[tactic(auto, unfolding(crate::specs::OddTexts::referring_text))]
-fn put_referring(text: &mut Text, segment: Segment, address: u16)
-    ensures { Puts text.old text.new (referring_text segment address) }
-{
-    text.put("the word at ");
-    text.put_six_digits(u32::from(address));
-    text.put(" is of kind ");
-    text.put(segment_name(segment));
-}
+use texts::is_printable;
 
 /// The segment that a kind of relocation word is for.
 fn segment_meant(kind: Option<Kind>) -> Segment
@@ -84,45 +30,11 @@ fn segment_meant(kind: Option<Kind>) -> Segment
     }
 }
 
-/// A symbol, its number, and the place of its entry in the file.
-#[derive(Clone, Copy)]
-struct Numbered<'a> {
-    symbol: &'a Symbol,
-    number: usize,
-    place: usize,
-}
-
-/// Appends what a finding calls symbol `number`: `symbol 3 _f`. (own choice)
-#[tactic(auto, unfolding(crate::specs::OddTexts::symbol_title))]
-pub fn put_symbol_title(text: &mut Text, number: usize, symbol: &Symbol)
-    ensures { Puts text.old text.new (symbol_title number symbol.now.name) }
+/// Whether the bits of a relocation word above 17 are ignored.
+fn ignores_number(kind: Option<Kind>) -> bool
+    ensures { result ≡ ignores_number kind }
 {
-    text.put("symbol ");
-    text.put_decimal(number as u64);
-    text.put(" ");
-    text.put_printable_name(symbol.name.as_bytes());
-}
-
-/// A text that begins with what a finding calls a symbol.
-fn titled(findings: &Findings, at: &Numbered<'_>) -> Text
-    ensures { Holds result (symbol_title at.now.number at.now.symbol.now.name) }
-{
-    let mut text = findings.text();
-    put_symbol_title(&mut text, at.number, at.symbol);
-    text
-}
-
-/// Adds an empty name.
-#[tactic(auto, unfolding(crate::specs::OddTexts::empty_name_text))]
-fn find_empty_name(findings: &mut Findings, at: &Numbered<'_>)
-    ensures { Finds findings.old findings.new
-        (odd_empty at.now.number at.now.place at.now.symbol.now) }
-{
-    if at.symbol.name.as_bytes().is_empty() {
-        let mut text = titled(findings, at);
-        text.put(" has an empty name");
-        findings.find(at.place, FindingKind::EmptyName, text);
-    }
+    !matches!(kind, None | Some(Kind::External))
 }
 
 /// Whether a name has a byte that does not print.
@@ -131,19 +43,6 @@ fn has_hidden(name: &[u8]) -> bool
 {
     name.iter()
         .any(|byte| !is_printable(*byte) && *byte != b'\\')
-}
-
-/// Adds a name with bytes that do not print.
-#[tactic(auto, unfolding(crate::specs::OddTexts::hidden_text))]
-fn find_hidden(findings: &mut Findings, at: &Numbered<'_>)
-    ensures { Finds findings.old findings.new
-        (odd_hidden at.now.number at.now.place at.now.symbol.now) }
-{
-    if has_hidden(at.symbol.name.as_bytes()) {
-        let mut text = titled(findings, at);
-        text.put(" has bytes in its name that do not print");
-        findings.find(at.place, FindingKind::UnprintableName, text);
-    }
 }
 
 /// Whether a byte is not NUL.
@@ -166,82 +65,6 @@ fn has_rest(bytes: &[u8], place: usize, symbol: &Symbol) -> bool
     has_byte(&bytes[place + used..end])
 }
 
-/// Adds bytes after the NUL of a name.
-#[tactic(auto, unfolding(crate::specs::OddTexts::rest_text))]
-fn find_rest_of_name(findings: &mut Findings, at: &Numbered<'_>, bytes: &[u8])
-    requires { at.now.place < 2 ^ 32 }
-    ensures { Finds findings.old findings.new
-        (odd_rest_of_name bytes.now at.now.number at.now.place at.now.symbol.now) }
-{
-    if has_rest(bytes, at.place, at.symbol) {
-        let mut text = titled(findings, at);
-        text.put(" has bytes after the NUL of its name, which are ignored");
-        findings.find(at.place, FindingKind::BytesAfterName, text);
-    }
-}
-
-/// A text that an earlier external has the name.
-#[tactic(auto, unfolding(crate::specs::OddTexts::repeated_text))]
-fn repeated_text(findings: &Findings, at: &Numbered<'_>, first: usize) -> Text
-    ensures { Holds result
-        (repeated_text (symbol_title at.now.number at.now.symbol.now.name) first) }
-{
-    let mut text = titled(findings, at);
-    text.put(" has the name of symbol ");
-    text.put_decimal(first as u64);
-    text.put("; names are equal in eight bytes");
-    text
-}
-
-/// Adds a name that an earlier external has, if there is one, by its number.
-fn find_repeated(findings: &mut Findings, at: &Numbered<'_>, first: Option<usize>)
-    ensures { Finds findings.old findings.new
-        (odd_repeated at.now.number at.now.place at.now.symbol.now first) }
-{
-    if let Some(first) = first {
-        let text = repeated_text(findings, at, first);
-        findings.find(at.place, FindingKind::RepeatedName, text);
-    }
-}
-
-/// Adds what is odd of a name, which an earlier external has first, if one has it.
-fn find_name(findings: &mut Findings, at: &Numbered<'_>, bytes: &[u8], first: Option<usize>)
-    requires { at.now.place < 2 ^ 32 }
-    ensures { Finds findings.old findings.new
-        (odd_name bytes.now at.now.number first at.now.place at.now.symbol.now) }
-{
-    find_empty_name(findings, at);
-    find_hidden(findings, at);
-    find_rest_of_name(findings, at, bytes);
-    find_repeated(findings, at, first);
-}
-
-/// A text that bits of a type word are ignored.
-#[tactic(auto, unfolding(crate::specs::OddTexts::type_bits_text))]
-fn type_bits_text(findings: &Findings, at: &Numbered<'_>, bits: u16) -> Text
-    ensures { Holds result
-        (type_bits_text (symbol_title at.now.number at.now.symbol.now.name) bits) }
-{
-    let mut text = titled(findings, at);
-    text.put(" has type ");
-    text.put_six_digits(u32::from(bits));
-    text.put(", of which the bits above 77 are ignored");
-    text
-}
-
-/// Adds bits of the type word that are ignored.
-fn find_type_bits(findings: &mut Findings, at: &Numbered<'_>)
-    requires { at.now.place < 2 ^ 32 }
-    ensures { Finds findings.old findings.new
-        (odd_type_bits at.now.number at.now.place at.now.symbol.now) }
-{
-    let bits = at.symbol.type_bits;
-    if bits >= 0o100 {
-        let text = type_bits_text(findings, at, bits);
-        findings.find(at.place + 8, FindingKind::IgnoredTypeBits, text);
-    }
-}
-
 /// Whether the format has a type like that of a symbol.
 fn has_type(symbol: &Symbol) -> bool
     ensures { result ≡ has_type symbol.now }
@@ -250,108 +73,100 @@ fn has_type(symbol: &Symbol) -> bool
     bits < 5 || bits == 0o24 || bits == 0o37
 }
 
-/// A text that the format does not have a type.
-#[tactic(auto, unfolding(crate::specs::OddTexts::unknown_type_text))]
-fn unknown_type_text(findings: &Findings, at: &Numbered<'_>) -> Text
-    ensures { Holds result (unknown_type_text
-        (symbol_title at.now.number at.now.symbol.now.name) at.now.symbol.now.type_bits) }
-{
-    let mut text = titled(findings, at);
-    text.put(" has type ");
-    text.put_six_digits(u32::from(at.symbol.type_bits));
-    text.put(", which the format does not have; it is taken as absolute");
-    text
-}
-
-/// Adds a type that the format does not have.
-fn find_type(findings: &mut Findings, at: &Numbered<'_>)
-    requires { at.now.place < 2 ^ 32 }
-    ensures { Finds findings.old findings.new
-        (odd_type at.now.number at.now.place at.now.symbol.now) }
-{
-    if !has_type(at.symbol) {
-        let text = unknown_type_text(findings, at);
-        findings.find(at.place + 8, FindingKind::UnknownType, text);
-    }
-}
-
-/// A text that a common has an odd size.
-#[tactic(auto, unfolding(crate::specs::OddTexts::common_text))]
-fn common_text(findings: &Findings, at: &Numbered<'_>, size: u16) -> Text
-    ensures { Holds result
-        (common_text (symbol_title at.now.number at.now.symbol.now.name) size) }
-{
-    let mut text = titled(findings, at);
-    text.put(" is undefined with value ");
-    put_common_size(&mut text, size);
-    text
-}
-
-/// Adds a common of an odd size, if these are wanted.
-fn find_common(findings: &mut Findings, at: &Numbered<'_>, commons: bool)
-    requires { at.now.place < 2 ^ 32 }
-    ensures { Finds findings.old findings.new
-        (odd_common commons at.now.number at.now.place at.now.symbol.now) }
-{
-    let size = at.symbol.value;
-    if commons && at.symbol.is_undefined() && size % 2 == 1 {
-        let text = common_text(findings, at, size);
-        findings.find(at.place + 10, FindingKind::OddCommon, text);
-    }
-}
-
-/// A text that a value lies outside of its segment.
-#[tactic(auto, unfolding(crate::specs::OddTexts::outside_value_text))]
-fn outside_value_text(
-    findings: &Findings,
-    at: &Numbered<'_>,
-    header: &Header,
-    segment: Segment,
-    value: u16,
-) -> Text
-    ensures { Holds result (outside_value_text header.now segment
-        (symbol_title at.now.number at.now.symbol.now.name) value) }
-{
-    let mut text = titled(findings, at);
-    text.put(" ");
-    put_value(&mut text, segment, value);
-    text.put(", and ");
-    put_range(&mut text, header, segment);
-    text
-}
-
-/// Adds a value that lies outside of its segment.
-fn find_value(findings: &mut Findings, at: &Numbered<'_>, header: &Header)
-    requires { at.now.place < 2 ^ 32 }
-    ensures { Finds findings.old findings.new
-        (odd_value header.now at.now.number at.now.place at.now.symbol.now) }
-{
-    let segment = at.symbol.segment();
-    let value = at.symbol.value;
-    if !has_address(header, segment, value) {
-        let text = outside_value_text(findings, at, header, segment, value);
-        findings.find(at.place + 10, FindingKind::OutsideValue, text);
-    }
-}
-
-/// Adds what is odd of a type word and of a value.
-fn find_fields(findings: &mut Findings, at: &Numbered<'_>, header: &Header, commons: bool)
-    requires { at.now.place < 2 ^ 32 }
-    ensures { Finds findings.old findings.new
-        (odd_fields commons header.now at.now.number at.now.place at.now.symbol.now) }
-{
-    find_type_bits(findings, at);
-    find_type(findings, at);
-    find_common(findings, at, commons);
-    find_value(findings, at, header);
-}
-
 /// A file, the bytes that it was read from, and whether commons of odd sizes are wanted.
 #[derive(Clone, Copy)]
 struct Source<'a> {
     bytes: &'a [u8],
     file: &'a File,
     commons: bool,
+}
+
+/// Adds what is odd of the name of a symbol, which an earlier external has first, if one has it.
+fn find_name(
+    findings: &mut Findings,
+    bytes: &[u8],
+    place: usize,
+    first: Option<usize>,
+    number: usize,
+    symbol: &Symbol,
+)
+    requires { place < 2 ^ 32 }
+    ensures { Finds findings.old findings.new (odd_name bytes.now (is_some first) place symbol.now) }
+{
+    use FindingKind::*;
+    let title = Title { number, symbol };
+    let name = symbol.name.as_bytes();
+    let earlier = first.unwrap_or(0);
+    findings.find_if(
+        name.is_empty(),
+        place,
+        EmptyName,
+        format_args!("{title} has an empty name"),
+    );
+    findings.find_if(
+        has_hidden(name),
+        place,
+        UnprintableName,
+        format_args!("{title} has bytes in its name that do not print"),
+    );
+    findings.find_if(
+        has_rest(bytes, place, symbol),
+        place,
+        BytesAfterName,
+        format_args!("{title} has bytes after the NUL of its name, which are ignored"),
+    );
+    findings.find_if(
+        first.is_some(),
+        place,
+        RepeatedName,
+        format_args!("{title} has the name of symbol {earlier}; names are equal in eight bytes"),
+    );
+}
+
+/// Adds what is odd of the type and the value of a symbol.
+fn find_fields(
+    findings: &mut Findings,
+    header: &Header,
+    commons: bool,
+    place: usize,
+    number: usize,
+    symbol: &Symbol,
+)
+    requires { place < 2 ^ 32 }
+    ensures { Finds findings.old findings.new (odd_fields commons header.now place symbol.now) }
+{
+    use FindingKind::*;
+    let title = Title { number, symbol };
+    let (bits, value, segment) = (symbol.type_bits, symbol.value, symbol.segment());
+    let (label, range) = (segment_name(segment), range_of(header, segment));
+    findings.find_if(
+        bits >= 0o100,
+        place + 8,
+        IgnoredTypeBits,
+        format_args!("{title} has type {bits:06o}, of which the bits above 77 are ignored"),
+    );
+    findings.find_if(
+        !has_type(symbol),
+        place + 8,
+        UnknownType,
+        format_args!(
+            "{title} has type {bits:06o}, which the format does not have; it is taken as absolute"
+        ),
+    );
+    findings.find_if(
+        commons && symbol.is_undefined() && value % 2 == 1,
+        place + 10,
+        OddCommon,
+        format_args!(
+            "{title} is undefined with value {value:06o}: a common of {value} bytes, rounded up to even"
+        ),
+    );
+    findings.find_if(
+        !has_address(header, segment, value),
+        place + 10,
+        OutsideValue,
+        format_args!("{title} of {label} has value {value:06o}, and {label} {range}"),
+    );
 }
 
 /// Adds what is odd of a symbol, whose name an earlier one has first, if one has it.
@@ -364,18 +179,13 @@ fn find_symbol(
 )
     requires few { number < 65536 }
     requires first { first ≡ first_alike symbol.now (take number source.now.file.now.symbols) }
-    ensures { Finds findings.old findings.new (odd_symbol source.now.commons
-        source.now.file.now.header source.now.bytes.now (take number source.now.file.now.symbols)
-        number (symbol_at source.now.file.now.header number) symbol.now) }
+    ensures { Finds findings.old findings.new (odd_symbol source.now.commons source.now.file.now.header source.now.bytes.now
+        (first_alike symbol.now (take number source.now.file.now.symbols)) (symbol_at source.now.file.now.header number) symbol.now) }
 {
     let header = source.file.header();
-    let at = Numbered {
-        symbol,
-        number,
-        place: symbol_at(header, number),
-    };
-    find_name(findings, &at, source.bytes, first);
-    find_fields(findings, &at, header, source.commons);
+    let place = symbol_at(header, number);
+    find_name(findings, source.bytes, place, first, number, symbol);
+    find_fields(findings, header, source.commons, place, number, symbol);
 }
 
 /// The number that was noted first with a name, which is noted if none was.
@@ -431,97 +241,36 @@ fn find_symbols(findings: &mut Findings, source: &Source<'_>)
     }
 }
 
-/// A word at an address, and its relocation word, which has this place in the file.
-#[derive(Clone, Copy)]
-struct Relocated {
+/// Adds what is odd of a word at an address, whose relocation word has a place in the file.
+fn find_word(
+    findings: &mut Findings,
+    header: &Header,
+    place: usize,
     address: u16,
     word: u16,
     reloc: Reloc,
-    place: usize,
-}
-
-/// Whether the bits of a relocation word above 17 are ignored.
-fn ignores_number(kind: Option<Kind>) -> bool
-    ensures { result ≡ ignores_number kind }
-{
-    !matches!(kind, None | Some(Kind::External))
-}
-
-/// A text that bits of a relocation word are ignored.
-#[tactic(auto, unfolding(crate::specs::OddTexts::ignored_bits_text))]
-fn ignored_bits_text(findings: &Findings, at: Relocated) -> Text
-    ensures { Holds result (ignored_bits_text at.reloc.0 at.address) }
-{
-    let mut text = findings.text();
-    text.put("relocation word ");
-    text.put_six_digits(u32::from(at.reloc.0));
-    text.put(" of the word at ");
-    text.put_six_digits(u32::from(at.address));
-    text.put(": bits above 17 are ignored");
-    text
-}
-
-/// Adds bits of a relocation word that are ignored.
-fn find_relocation(findings: &mut Findings, at: Relocated)
-    ensures { Finds findings.old findings.new (odd_relocation at.place at.address at.reloc) }
-{
-    let bits = at.reloc.0;
-    if bits >= 0o20 && ignores_number(at.reloc.kind()) {
-        let text = ignored_bits_text(findings, at);
-        findings.find(at.place, FindingKind::IgnoredRelocationBits, text);
-    }
-}
-
-/// A text that a word refers to an address outside of its segment.
-#[tactic(auto, unfolding(crate::specs::OddTexts::outside_reference_text))]
-fn outside_reference_text(
-    findings: &Findings,
-    header: &Header,
-    at: Relocated,
-    segment: Segment,
-    target: u16,
-) -> Text
-    ensures { Holds result (outside_reference_text header.now segment at.address target) }
-{
-    let mut text = findings.text();
-    put_referring(&mut text, segment, at.address);
-    text.put(" and refers to ");
-    text.put_six_digits(u32::from(target));
-    text.put("; ");
-    put_range(&mut text, header, segment);
-    text
-}
-
-/// Adds a word that refers to an address outside of its segment.
-fn find_target(
-    findings: &mut Findings,
-    header: &Header,
-    at: Relocated,
-    segment: Segment,
-    target: u16,
 )
-    ensures { Finds findings.old findings.new
-        (odd_target header.now at.place at.address segment target) }
+    ensures { Finds findings.old findings.new (odd_word header.now place address word reloc) }
 {
-    if !has_address(header, segment, target) {
-        let text = outside_reference_text(findings, header, at, segment, target);
-        findings.find(at.place, FindingKind::OutsideReference, text);
-    }
-}
-
-/// Adds what is odd of a word.
-fn find_word(findings: &mut Findings, header: &Header, at: Relocated)
-    ensures { Finds findings.old findings.new
-        (odd_word header.now at.place at.address at.word at.reloc) }
-{
-    let segment = segment_meant(at.reloc.kind());
-    find_relocation(findings, at);
-    find_target(
-        findings,
-        header,
-        at,
-        segment,
-        at.reloc.target(at.word, at.address),
+    let segment = segment_meant(reloc.kind());
+    let (label, range) = (segment_name(segment), range_of(header, segment));
+    let target = reloc.target(word, address);
+    let bits = reloc.0;
+    findings.find_if(
+        bits >= 0o20 && ignores_number(reloc.kind()),
+        place,
+        FindingKind::IgnoredRelocationBits,
+        format_args!(
+            "relocation word {bits:06o} of the word at {address:06o}: bits above 17 are ignored"
+        ),
+    );
+    findings.find_if(
+        !has_address(header, segment, target),
+        place,
+        FindingKind::OutsideReference,
+        format_args!(
+            "the word at {address:06o} is of kind {label} and refers to {target:06o}; {label} {range}"
+        ),
     );
 }
 
@@ -543,82 +292,16 @@ fn find_words(findings: &mut Findings, header: &Header, contents: &Contents<'_>)
         contents.now.start contents.now.words.now 0 contents.now.relocs.now) }
 {
     for (number, reloc) in contents.relocs.iter().enumerate() {
-        let at = Relocated {
-            address: contents.start.wrapping_add((2 * number) as u16),
-            word: contents.words[number],
-            reloc: *reloc,
-            place: contents.place + 2 * number,
-        };
-        find_word(findings, header, at);
-    }
-}
-
-/// A text that an entry point is ignored.
-#[tactic(auto, unfolding(crate::specs::OddTexts::entry_text))]
-fn entry_text(findings: &Findings, entry: u16) -> Text
-    ensures { Holds result (entry_text entry) }
-{
-    let mut text = findings.text();
-    text.put("the entry point of an object, ");
-    text.put_six_digits(u32::from(entry));
-    text.put(", is ignored");
-    text
-}
-
-/// Adds an entry point that is ignored.
-fn find_entry(findings: &mut Findings, header: &Header)
-    ensures { Finds findings.old findings.new (odd_entry header.now) }
-{
-    let entry = header.entry_point;
-    if entry != 0 && header.flag == 0 {
-        let text = entry_text(findings, entry);
-        findings.find(10, FindingKind::IgnoredEntry, text);
-    }
-}
-
-/// A text that an unused word is ignored.
-#[tactic(auto, unfolding(crate::specs::OddTexts::unused_text))]
-fn unused_text(findings: &Findings, unused: u16) -> Text
-    ensures { Holds result (unused_text unused) }
-{
-    let mut text = findings.text();
-    text.put("the unused word, ");
-    text.put_six_digits(u32::from(unused));
-    text.put(", is ignored");
-    text
-}
-
-/// Adds an unused word that is ignored.
-fn find_unused(findings: &mut Findings, header: &Header)
-    ensures { Finds findings.old findings.new (odd_unused header.now) }
-{
-    let unused = header.unused;
-    if unused != 0 {
-        let text = unused_text(findings, unused);
-        findings.find(12, FindingKind::IgnoredWord, text);
-    }
-}
-
-/// A text that so many bytes are after the table.
-#[tactic(auto, unfolding(crate::specs::OddTexts::bytes_after_text))]
-fn bytes_after_text(findings: &Findings, more: usize) -> Text
-    ensures { Holds result (bytes_after_text more) }
-{
-    let mut text = findings.text();
-    text.put_octal_and_decimal(more as u64);
-    text.put(" bytes after the symbol table are not read");
-    text
-}
-
-/// Adds bytes after the table of a file of so many bytes.
-fn find_rest(findings: &mut Findings, header: &Header, size: usize)
-    ensures { Finds findings.old findings.new (odd_rest header.now size) }
-{
-    let end = FilePlaces::of(header).end;
-    if size > end {
-        let more = size - end;
-        let text = bytes_after_text(findings, more);
-        findings.find(end, FindingKind::BytesAfterTable, text);
+        let address = contents.start.wrapping_add((2 * number) as u16);
+        let word = contents.words[number];
+        find_word(
+            findings,
+            header,
+            contents.place + 2 * number,
+            address,
+            word,
+            *reloc,
+        );
     }
 }
 
@@ -626,9 +309,30 @@ fn find_rest(findings: &mut Findings, header: &Header, size: usize)
 fn find_ignored(findings: &mut Findings, header: &Header, size: usize)
     ensures { Finds findings.old findings.new (odd_header header.now size) }
 {
-    find_entry(findings, header);
-    find_unused(findings, header);
-    find_rest(findings, header, size);
+    let (entry, unused, end) = (
+        header.entry_point,
+        header.unused,
+        FilePlaces::of(header).end,
+    );
+    let more = size.saturating_sub(end);
+    findings.find_if(
+        entry != 0 && header.flag == 0,
+        10,
+        FindingKind::IgnoredEntry,
+        format_args!("the entry point of an object, {entry:06o}, is ignored"),
+    );
+    findings.find_if(
+        unused != 0,
+        12,
+        FindingKind::IgnoredWord,
+        format_args!("the unused word, {unused:06o}, is ignored"),
+    );
+    findings.find_if(
+        size > end,
+        end,
+        FindingKind::BytesAfterTable,
+        format_args!("0{more:o} ({more}) bytes after the symbol table are not read"),
+    );
 }
 
 /// Adds what is odd of a file, which the bytes begin with.

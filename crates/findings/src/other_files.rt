@@ -1,7 +1,6 @@
-//! What a file is that is not an a.out file of the Seventh Edition.
-ghost use Rattle.std.specs.Prelude.{◌≡◌, ◌≤◌, if◌then◌else◌, nat_lt, length, None, Some, IfOk, option_map};
+//! What a file is that is not an a.out file of the Seventh Edition. Only tested: all of it but the header.
+ghost use Rattle.std.specs.Prelude.{◌≡◌, ◌≤◌, if◌then◌else◌, nat_lt, length, None, Some};
 ghost use Rattle.aout_core.specs.Decoding.{header_in};
-ghost use Rattle.findings.specs.OtherFiles.{form_text, has_number, has_owner, has_sum, has_symbols, is_core, is_of_gnu, is_of_gnu_refused, is_of_number, is_of_text, is_swapped, is_tape, is_text, known_form, likeness, other_form};
 
 use aout_core::{Header, is_magic};
 use gnu_objects::{Locals, Options, Refusal, convert};
@@ -20,16 +19,12 @@ pub fn header_of(bytes: &[u8]) -> Option<Header>
 }
 
 /// Whether a text may have a byte.
-fn is_of_text(byte: u8) -> bool
-    ensures { result ≡ is_of_text byte }
-{
+fn is_of_text(byte: u8) -> bool {
     (8 <= byte && byte <= b'\n') || byte == 12 || byte == b'\r' || (b' ' <= byte && byte != 127)
 }
 
 /// Whether bytes are those of a text.
-fn is_text(bytes: &[u8]) -> bool
-    ensures { result ≡ is_text bytes.now }
-{
+fn is_text(bytes: &[u8]) -> bool {
     bytes.iter().all(|byte| is_of_text(*byte))
 }
 
@@ -59,9 +54,7 @@ pub enum OtherForm {
 }
 
 /// The form of a file that begins with the bytes of another one.
-fn known_form(bytes: &[u8]) -> Option<OtherForm>
-    ensures { result ≡ known_form bytes.now }
-{
+fn known_form(bytes: &[u8]) -> Option<OtherForm> {
     match bytes {
         [] => Some(OtherForm::Empty),
         [0x7f, b'E', b'L', b'F', ..] => Some(OtherForm::Elf),
@@ -74,9 +67,7 @@ fn known_form(bytes: &[u8]) -> Option<OtherForm>
 }
 
 /// Whether a file begins with a magic number of ours with its bytes swapped.
-fn is_swapped(bytes: &[u8]) -> bool
-    ensures { result ≡ is_swapped bytes.now }
-{
+fn is_swapped(bytes: &[u8]) -> bool {
     match bytes {
         [low, high, ..] => is_magic(u16::from(*high) + 256 * u16::from(*low)),
         _ => false,
@@ -84,9 +75,7 @@ fn is_swapped(bytes: &[u8]) -> bool
 }
 
 /// Whether a number of a header of tar may have a byte.
-fn is_of_number(byte: u8) -> bool
-    ensures { result ≡ is_of_number byte }
-{
+fn is_of_number(byte: u8) -> bool {
     byte == b' ' || (b'0' <= byte && byte <= b'7')
 }
 
@@ -94,7 +83,6 @@ fn is_of_number(byte: u8) -> bool
 fn has_number(bytes: &[u8], start: usize, end: usize) -> bool
     requires ordered { start ≤ end }
     requires inside { end ≤ length bytes.now }
-    ensures { result ≡ has_number bytes.now start end }
 {
     bytes[start..end].iter().all(|byte| is_of_number(*byte))
 }
@@ -102,7 +90,6 @@ fn has_number(bytes: &[u8], start: usize, end: usize) -> bool
 /// Whether a header of tar has the mode, the user and the group.
 fn has_owner(bytes: &[u8]) -> bool
     requires { 512 ≤ length bytes.now }
-    ensures { result ≡ has_owner bytes.now }
 {
     has_number(bytes, 100, 106) && has_number(bytes, 108, 114) && has_number(bytes, 116, 122)
 }
@@ -110,22 +97,17 @@ fn has_owner(bytes: &[u8]) -> bool
 /// Whether a header of tar has the size, the time and the sum.
 fn has_sum(bytes: &[u8]) -> bool
     requires { 512 ≤ length bytes.now }
-    ensures { result ≡ has_sum bytes.now }
 {
     has_number(bytes, 124, 135) && has_number(bytes, 136, 147) && has_number(bytes, 148, 154)
 }
 
 /// Whether a file begins with a header of tar.
-fn is_tape(bytes: &[u8]) -> bool
-    ensures { result ≡ is_tape bytes.now }
-{
+fn is_tape(bytes: &[u8]) -> bool {
     bytes.len() >= 512 && has_owner(bytes) && has_sum(bytes)
 }
 
 /// Whether a file has the size that a core file says.
-fn is_core(bytes: &[u8]) -> bool
-    ensures { result ≡ is_core bytes.now }
-{
+fn is_core(bytes: &[u8]) -> bool {
     match bytes.get(0o412..0o416) {
         Some([data_low, data_high, stack_low, stack_high]) => {
             let data = usize::from(*data_low) + 256 * usize::from(*data_high);
@@ -137,9 +119,7 @@ fn is_core(bytes: &[u8]) -> bool
 }
 
 /// The form of a file with no magic number of ours, if it is known.
-pub fn other_form(bytes: &[u8]) -> Option<OtherForm>
-    ensures { result ≡ other_form bytes.now }
-{
+pub fn other_form(bytes: &[u8]) -> Option<OtherForm> {
     if let Some(form) = known_form(bytes) {
         return Some(form);
     }
@@ -159,9 +139,7 @@ pub fn other_form(bytes: &[u8]) -> Option<OtherForm>
 }
 
 /// A form in words.
-fn form_text(form: OtherForm) -> &'static str
-    ensures { result.now ≡ form_text form }
-{
+fn form_text(form: OtherForm) -> &'static str {
     match form {
         OtherForm::Empty => "the file is empty",
         OtherForm::Elf => "this is an ELF file, of another system",
@@ -183,19 +161,12 @@ fn form_text(form: OtherForm) -> &'static str
 }
 
 /// What a file with no magic number of ours is, if it is known.
-pub fn likeness(bytes: &[u8]) -> Option<&'static str>
-    ensures { option_map (λ text. text.now) result ≡ likeness bytes.now }
-{
-    match other_form(bytes) {
-        Some(form) => Some(form_text(form)),
-        None => None,
-    }
+pub fn likeness(bytes: &[u8]) -> Option<&'static str> {
+    other_form(bytes).map(form_text)
 }
 
 /// Whether a refusal by `convert` is one of an object in the form of GNU's assembler. Of some refusals it is one only if `is_odd`.
-fn is_of_gnu_refused(refusal: Refusal, is_odd: bool) -> bool
-    ensures { result ≡ is_of_gnu_refused is_odd refusal }
-{
+fn is_of_gnu_refused(refusal: Refusal, is_odd: bool) -> bool {
     match refusal {
         Refusal::Linked(_)
         | Refusal::TooManySymbols(_)
@@ -211,9 +182,7 @@ fn is_of_gnu_refused(refusal: Refusal, is_odd: bool) -> bool
 }
 
 /// Whether the header of a file says that it has symbols.
-fn has_symbols(bytes: &[u8]) -> bool
-    ensures { result ≡ has_symbols bytes.now }
-{
+fn has_symbols(bytes: &[u8]) -> bool {
     match header_of(bytes) {
         Some(header) => header.symbol_size > 0,
         None => false,
@@ -224,9 +193,7 @@ fn has_symbols(bytes: &[u8]) -> bool
 /// A file without symbols has both forms, and is not recognized, and neither is one of another magic than 0407.
 ///
 /// An error: out of memory.
-pub fn is_of_gnu(alloc: Global, bytes: &[u8], is_odd: bool) -> Result<bool, AllocError>
-    ensures { IfOk result (λ is_so. is_so ≡ is_of_gnu is_odd bytes.now) }
-{
+pub fn is_of_gnu(alloc: Global, bytes: &[u8], is_odd: bool) -> Result<bool, AllocError> {
     if !has_symbols(bytes) {
         return Ok(false);
     }

@@ -2,11 +2,12 @@
 ghost use Rattle.std.specs.Prelude.{◌≡◌, ◌+◌, ◌^◌, ◌<◌, ◌&&◌, nat_le};
 ghost use Rattle.aout_core.specs.Addresses.{data_start_in};
 ghost use Rattle.aout_core.specs.Encoding.{relocation_at, symbols_at, file_length};
-ghost use Rattle.findings.specs.Segments.{data_to, bss_to, has_address, segment_from, segment_to};
+ghost use Rattle.findings.specs.Segments.{data_to, bss_to, has_address};
 ghost use Rattle.findings.specs.Odd.{symbol_at};
-ghost use Rattle.findings.specs.OddTexts.{segment_name};
 
-use aout_core::{Header, Segment};
+use aout_core::{Header, Segment, Symbol};
+use std::fmt::{self, Display, Formatter, Write};
+use texts::Printable;
 
 /// The bytes of a file at which its parts begin, and the first after them.
 #[derive(Clone, Copy)]
@@ -114,10 +115,7 @@ impl Segments {
 }
 
 /// Where a segment of a file with this header lies, for a note.
-pub(crate) fn range_of(header: &Header, segment: Segment) -> Range
-    ensures start { result.start ≡ segment_from header.now segment }
-    ensures end { result.end ≡ segment_to header.now segment }
-{
+pub(crate) fn range_of(header: &Header, segment: Segment) -> Range {
     let segments = Segments::of(header);
     match segment {
         Segment::DataSeg => segments.data,
@@ -127,9 +125,7 @@ pub(crate) fn range_of(header: &Header, segment: Segment) -> Range
 }
 
 /// A segment by name.
-pub(crate) fn segment_name(segment: Segment) -> &'static str
-    ensures { result.now ≡ segment_name segment }
-{
+pub(crate) fn segment_name(segment: Segment) -> &'static str {
     match segment {
         Segment::DataSeg => "data",
         Segment::BssSeg => "bss",
@@ -147,5 +143,41 @@ pub(crate) fn has_address(header: &Header, segment: Segment, address: u16) -> bo
         Segment::DataSeg => segments.data.has(address),
         Segment::BssSeg => segments.bss.has(address),
         Segment::Undefined | Segment::Absolute | Segment::Other => true,
+    }
+}
+
+/// Where a segment lies, in words.
+impl Display for Range {
+    fn fmt<W: fmt::Write>(&self, f: &mut Formatter<W>) -> fmt::Result {
+        let (start, end) = (self.start, self.end);
+        write!(f, "lies from {start:06o} to {end:06o}")
+    }
+}
+
+/// The name of a symbol in a format; an empty one is `\000`.
+#[derive(Clone, Copy)]
+pub(crate) struct SymbolName<'a>(pub(crate) &'a Symbol);
+
+impl Display for SymbolName<'_> {
+    fn fmt<W: fmt::Write>(&self, f: &mut Formatter<W>) -> fmt::Result {
+        let name = self.0.name.as_bytes();
+        write!(
+            f,
+            "{}",
+            Printable(if name.is_empty() { b"\0" } else { name })
+        )
+    }
+}
+
+/// What a finding calls a symbol: `symbol 3 _f`. (own choice)
+#[derive(Clone, Copy)]
+pub struct Title<'a> {
+    pub number: usize,
+    pub symbol: &'a Symbol,
+}
+
+impl Display for Title<'_> {
+    fn fmt<W: fmt::Write>(&self, f: &mut Formatter<W>) -> fmt::Result {
+        write!(f, "symbol {} {}", self.number, SymbolName(self.symbol))
     }
 }

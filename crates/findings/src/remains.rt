@@ -1,9 +1,6 @@
-//! What is there of a file that ends early.
-ghost use Rattle.std.specs.Prelude.{◌≡◌, ◌<◌, ◌≤◌, ◌++◌, length, replicate, IfOk, OnOk};
-ghost use Rattle.texts.specs.Texts.{Puts};
-ghost use Rattle.findings.specs.Remains.{bytes_there, bytes_under, counted, decode_there, header_there, items_missing, missing_parts, missing_text, relocs_missing, relocs_there, size_there};
+//! What is there of a file that ends early: its words and its symbols that are whole. Only tested: all of it.
+ghost use Rattle.std.specs.Prelude.{◌<◌, ◌≤◌, length};
 
-use crate::finding::put_byte;
 use crate::other_files::header_of;
 use crate::places::FilePlaces;
 use aout_core::{File, Header, ReadFault, decode_file};
@@ -13,16 +10,12 @@ use texts::Text;
 /// How many of so many bytes are those of whole items of this width in a part that begins at a place and has this size.
 fn size_there(count: usize, from: usize, size: u16, width: usize) -> u16
     requires { 0 < width }
-    ensures { result ≡ size_there count from size width }
 {
     (count.saturating_sub(from) / width * width).min(usize::from(size)) as u16
 }
 
 /// The header with the sizes of what so many bytes have.
-#[tactic(auto, unfolding(crate::specs::Remains::header_there))]
-fn header_there(header: &Header, count: usize) -> Header
-    ensures { result ≡ header_there header.now count }
-{
+fn header_there(header: &Header, count: usize) -> Header {
     let places = FilePlaces::of(header);
     Header {
         text_size: size_there(count, places.text, header.text_size, 2),
@@ -33,16 +26,12 @@ fn header_there(header: &Header, count: usize) -> Header
 }
 
 /// How many relocation words there are in so many bytes of a file with this header; if there are more, symbols follow.
-pub fn relocs_there(header: &Header, count: usize) -> usize
-    ensures { result ≡ relocs_there header.now count }
-{
+pub fn relocs_there(header: &Header, count: usize) -> usize {
     count.saturating_sub(FilePlaces::of(header).relocation) / 2
 }
 
 /// Appends so many zeros.
-fn put_zeros(bytes: &mut Vec<u8>, count: usize) -> Result<(), AllocError>
-    ensures { OnOk result (bytes.new.items ≡ bytes.old.items ++ replicate count 0) }
-{
+fn put_zeros(bytes: &mut Vec<u8>, count: usize) -> Result<(), AllocError> {
     for _ in 0..count {
         bytes.push(0)?;
     }
@@ -52,7 +41,6 @@ fn put_zeros(bytes: &mut Vec<u8>, count: usize) -> Result<(), AllocError>
 /// The whole words after a header, and zeros.
 fn bytes_under(alloc: Global, header: &Header, bytes: &[u8]) -> Result<Vec<u8>, AllocError>
     requires { 16 ≤ length bytes.now }
-    ensures { IfOk result (λ v. v.items ≡ bytes_under header.now bytes.now) }
 {
     let mut there = Vec::new(alloc);
     there.extend_from_slice(&header.to_bytes())?;
@@ -64,9 +52,7 @@ fn bytes_under(alloc: Global, header: &Header, bytes: &[u8]) -> Result<Vec<u8>, 
 /// The file of what is there of a file that ends early. Relocation words that are missing are 0. (own choice)
 ///
 /// Errors: `AllocError` if memory runs out. No file is there of fewer than 16 bytes, with another magic number, or of odd sizes.
-pub fn decode_there(alloc: Global, bytes: &[u8]) -> Result<Result<File, ReadFault>, AllocError>
-    ensures { IfOk result (λ read. read ≡ decode_there bytes.now) }
-{
+pub fn decode_there(alloc: Global, bytes: &[u8]) -> Result<Result<File, ReadFault>, AllocError> {
     let Some(header) = header_of(bytes) else {
         return Ok(Err(ReadFault::ShortHeader));
     };
@@ -76,52 +62,27 @@ pub fn decode_there(alloc: Global, bytes: &[u8]) -> Result<Result<File, ReadFaul
 }
 
 /// How many items of this width are missing in a part.
-#[tactic(auto, unfolding(crate::specs::Remains::items_missing))]
-fn items_missing(size: u16, there: u16, width: u16) -> u64
+fn items_missing(size: u16, there: u16, width: u16) -> u16
     requires { 0 < width }
-    ensures { result ≡ items_missing size there width }
 {
-    u64::from(size.saturating_sub(there) / width)
+    size.saturating_sub(there) / width
 }
 
 /// How many relocation words are missing in so many bytes of a file with this header.
-#[tactic(auto, unfolding(crate::specs::Remains::relocs_missing))]
-fn relocs_missing(header: &Header, count: usize) -> u64
-    ensures { result ≡ relocs_missing header.now count }
-{
+fn relocs_missing(header: &Header, count: usize) -> usize {
     let places = FilePlaces::of(header);
-    ((places.symbols - places.relocation) / 2).saturating_sub(relocs_there(header, count)) as u64
-}
-
-/// Appends how many items of a part are missing.
-fn put_count(text: &mut Text, before: &str, count: u64)
-    ensures { Puts text.old text.new (counted before.now count) }
-{
-    text.put(before);
-    text.put_decimal(count);
-}
-
-/// Appends what is missing of the parts of a file of so many bytes.
-#[tactic(auto, unfolding(crate::specs::Remains::missing_parts))]
-fn put_missing_parts(text: &mut Text, header: &Header, there: &Header, count: usize)
-    ensures { Puts text.old text.new (missing_parts header.now there.now count) }
-{
-    let text_words = items_missing(header.text_size, there.text_size, 2);
-    let data_words = items_missing(header.data_size, there.data_size, 2);
-    let symbols = items_missing(header.symbol_size, there.symbol_size, 12);
-    put_count(text, "; missing words: ", text_words);
-    put_count(text, " of text, ", data_words);
-    put_count(text, " of data, ", relocs_missing(header, count));
-    put_count(text, " of relocation; missing symbols: ", symbols);
+    ((places.symbols - places.relocation) / 2).saturating_sub(relocs_there(header, count))
 }
 
 /// Appends where a file of so many bytes ends, and what of its parts is missing.
-#[tactic(auto, unfolding(crate::specs::Remains::missing_text))]
-pub fn put_missing(text: &mut Text, header: &Header, count: usize)
-    ensures { Puts text.old text.new (missing_text header.now count) }
-{
+pub fn put_missing(text: &mut Text, header: &Header, count: usize) {
     let there = header_there(header, count);
-    text.put("the file ends at ");
-    put_byte(text, count);
-    put_missing_parts(text, header, &there, count);
+    let words = items_missing(header.text_size, there.text_size, 2);
+    let data = items_missing(header.data_size, there.data_size, 2);
+    let relocs = relocs_missing(header, count);
+    let symbols = items_missing(header.symbol_size, there.symbol_size, 12);
+    text.say(format_args!(
+        "the file ends at byte 0{count:o} ({count}); missing words: {words} of text, {data} of data, {relocs} of relocation; \
+         missing symbols: {symbols}"
+    ));
 }

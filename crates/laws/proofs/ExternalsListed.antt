@@ -18,8 +18,28 @@ use Rattle.link_laws.specs.{relation.Refusals.CommonsTake, relation.LinkedFrom.I
 use Rattle.link_out.proofs.RowLemmas.{rows_kept-others}
 use Rattle.symtools.specs.{SymbolLines.letter, NmLists.is_shown, NmLists.arranged, NmLists.shown, NmLists.nm_text}
 use Rattle.laws.specs.Listings.{listed_locals, lines, state_letter, IsListedOnce}
-use Rattle.laws.proofs.NameListLemmas.{AreOnce, new_once}
+use Rattle.std.proofs.{lemmas.Bool.or_left, lemmas.Bool.or_right}
+use Rattle.tool_options.specs.NameLists.{new_names}
+use Rattle.tool_options.proofs.NameListLemmas.{is_among-append}
+use Rattle.link_session.proofs.UpdateLemmas.{never_new, own_name}
 use Rattle.laws.proofs.{ArrangedLemmas.arranged_one, ShownLemmas.no_local, ShownLemmas.all_apart, ShownLemmas.one_file}
+
+-- lists of names without a repetition
+
+-- no name stands twice
+abbrev AreOnce : List (List ℕ) → Type 0
+AreOnce [] = Unit {0}
+AreOnce (n ∷ ns) = (is_among ns n ≡ false) × AreOnce ns
+
+-- a list of new names has each of them once
+new_once : (seen xs : List (List ℕ)) → AreOnce (new_names seen xs)
+new_once seen [] = tt
+new_once seen (x ∷ xs) = by_test (is_among seen x) (new_once (seen ++ x ∷ []) xs)
+  where
+    by_test : (t : Bool) → AreOnce (new_names (seen ++ x ∷ []) xs) →
+        AreOnce (cond t (new_names (seen ++ x ∷ []) xs) (x ∷ new_names (seen ++ x ∷ []) xs))
+    by_test true rest = rest
+    by_test false rest = search (rules, never_new, is_among-append, or_right, or_left, own_name)
 
 -- kept locals are no externals
 

@@ -1,21 +1,19 @@
 -- Linking preserves instructions.
 use Rattle.std.proofs.Common.{rules, ◌≡◌, ℕ, zero, suc, ◌+◌, ◌*◌, ◌/◌, ◌%◌, ◌<◌, ◌≤◌, Bool, true, false, eqb, if◌then◌else◌, List, [], ◌∷◌}
-use Rattle.std.proofs.Common.{◌++◌, length, drop, drop-drop, Some, refl, sym, ◌∙◌, ap, subst, append_assoc, arith}
+use Rattle.std.proofs.Common.{◌++◌, length, drop, Some, refl, sym, ◌∙◌, ap, subst, arith}
 use Rattle.std.proofs.lemmas.Option.{slice_get_within}
-use Rattle.std.proofs.{lemmas.List.length-drop, lemmas.List.Sums.sum_by-append, lemmas.Bool.eqb-true}
+use Rattle.std.proofs.{lemmas.List.Sums.sum_by-append, lemmas.Bool.eqb-true}
 use Rattle.std.specs.{Prelude.slice_get, Prelude.not, List.AllByRecursion}
 use Rattle.aout_core.specs.{declared.symbol.Symbol.Symbol, declared.symbol.Segment.TheVariants.TextSeg, declared.reloc.Reloc.Reloc}
 use Rattle.aout_core.specs.{Contents.Contents, Contents.IsWord}
 use Rattle.link_session.specs.{Starts.size_of, Starts.total, Sessions.IsObject}
-use Rattle.link_session.proofs.{ListLemmas.all_split}
 use Rattle.tool_options.specs.Choices.{Choices}
 use Rattle.link_out.specs.Results.{Outcome}
 use Rattle.link_laws.specs.relation.Relocated.{IsRelocated}
 use Rattle.link_laws.specs.relation.LinkedFrom.{IsLinkedFrom}
-use Rattle.instructions.specs.{Lines.lines, Relocated.is_relocated}
-use Rattle.instructions.proofs.AlikeLemmas.{Pairs, Same, get_from, BeginAlike, begin_alike}
-use Rattle.laws.specs.Instructions.{HasWholeText, IsLinkedWord, AreLinesOf, InstructionsAreKept, TextsAreKept}
-use Rattle.laws.proofs.LoadedLemmas.{whole_words}
+use Rattle.instructions.specs.{Relocated.is_relocated}
+use Rattle.instructions.proofs.AlikeLemmas.{Pairs, Same, get_from}
+use Rattle.laws.specs.Instructions.{IsLinkedWord}
 
 -- an object has a relocation word for each word of its text
 pub relocs_by : (b : Bool) (words relocs size : ℕ) → b ≡ true → 2 * words ≡ size → 2 * relocs ≡ (if b then size else 0) → relocs ≡ words
@@ -78,60 +76,3 @@ module _ (forced : List (List ℕ)) (os : List Contents) (o : Choices) (x : Outc
       ap (λ (ys : List Contents). total TextSeg ys) e ∙ sum_by-append (size_of TextSeg) before (k ∷ after)
       ∙ ap (λ (m : ℕ). total TextSeg before + m) (sum_by-append (size_of TextSeg) (k ∷ []) after) in
       omega (arith, l.holds.text_words, is.fits.text)
-
-  begins : (before : List Contents) (k : Contents) (after : List Contents) → os ≡ before ++ k ∷ after → IsObject k → HasWholeText k →
-      BeginAlike (IsLinkedWord x.file l.rows os before k) 0 (lines k.text_words) (lines (drop (total TextSeg before / 2) x.file.text_words))
-      (drop (length k.text_words) (drop (total TextSeg before / 2) x.file.text_words))
-  begins before k after e is has =
-      let vs : List ℕ = drop (total TextSeg before / 2) x.file.text_words in
-      begin_alike (IsLinkedWord x.file l.rows os before k) (λ place. is_relocated (slice_get k.text_reloc place))
-      (length k.text_words) (length vs) 0 k.text_words vs
-      (omega (arith, text_within before k after e is, length-drop (total TextSeg before / 2) x.file.text_words)) (omega arith) (omega arith)
-      (linked_pairs before k after e is) (linked_same before k after e is has.words) has.whole
-
-  -- the texts of the objects from k on
-  texts_from : (before after : List Contents) → os ≡ before ++ after → AllByRecursion IsObject before →
-      AllByRecursion IsObject after → AllByRecursion HasWholeText after →
-      AreLinesOf x.file l.rows os before after (lines (drop (total TextSeg before / 2) x.file.text_words))
-  texts_from before [] e first later whole = search (rules, append_nothing, whole_words, dropped)
-    where
-      append_nothing : (xs : List Contents) → xs ++ [] ≡ xs
-      append_nothing [] = refl
-      append_nothing (k ∷ ks) = ap (λ rest. k ∷ rest) (append_nothing ks)
-
-      dropped : (ws : List ℕ) (n : ℕ) → length ws ≤ n → drop n ws ≡ []
-      dropped [] zero h = refl
-      dropped [] (suc n) h = refl
-      dropped (w ∷ ws) zero h = absurd (omega arith)
-      dropped (w ∷ ws) (suc n) h = dropped ws n (omega arith)
-  texts_from before (k ∷ after) e first later whole =
-      let b = begins before k after e later.0 whole.0 in
-      let even : 2 * (total TextSeg before / 2) ≡ total TextSeg before = whole_words TextSeg tt before first in
-      let sum : total TextSeg (before ++ k ∷ []) ≡ total TextSeg before + (0 + k.header.text_size) =
-      sum_by-append (size_of TextSeg) before (k ∷ []) in
-      let next : total TextSeg before / 2 + length k.text_words ≡ total TextSeg (before ++ k ∷ []) / 2 = omega (arith, later.0.fits.text) in
-      let there : drop (length k.text_words) (drop (total TextSeg before / 2) x.file.text_words)
-      ≡ drop (total TextSeg (before ++ k ∷ []) / 2) x.file.text_words =
-      drop-drop (length k.text_words) (total TextSeg before / 2) x.file.text_words ∙ ap (λ n. drop n x.file.text_words) next in
-      let more = texts_from (before ++ k ∷ []) after (e ∙ sym (append_assoc before (k ∷ []) after))
-      (all_append before k first later.0) later.1 whole.1 in (
-        b.front,
-        (
-          lines (drop (total TextSeg (before ++ k ∷ []) / 2) x.file.text_words),
-          (b.all ∙ ap (λ ws. b.front ++ lines ws) there, (b.alike, more)),
-        ),
-      )
-    where
-      all_append : (xs : List Contents) (k : Contents) → AllByRecursion IsObject xs → IsObject k → AllByRecursion IsObject (xs ++ k ∷ [])
-      all_append [] k none is = (is, tt)
-      all_append (y ∷ xs) k some is = (some.0, all_append xs k some.1 is)
-
--- for `instruction_law`: decoded from where the text of an object begins, the file has its lines
-pub instructions_kept : InstructionsAreKept
-instructions_kept forced before k after o x all has l =
-    let b = begins forced (before ++ k ∷ after) o x all l before k after refl (all_split IsObject before (k ∷ after) all).1.0 has in
-    search rules
-
--- and decoded from its beginning, it has those of all objects in order
-pub texts_kept : TextsAreKept
-texts_kept forced os o x all whole l = texts_from forced os o x all l [] os refl tt all whole

@@ -8,23 +8,7 @@ pub mod ByteLemmas
 pub mod CoreLemmas
 pub mod LoadedLemmas
 pub mod OperandLemmas
-pub mod NameListLemmas
-pub mod ReorderedMentions
-pub mod ReorderedDefinitions
-pub mod ReorderedLinks
-pub mod ReorderedAdditions
-pub mod ReorderedMeanings
-mod FrameBlocks
-mod FrameParts
-mod FrameStates
-mod FrameLinks
-pub mod FrameBytes
-mod FrameValues
-mod FrameWords
 mod InstructionLemmas
-mod IsomorphismLists
-mod IsomorphismPlaces
-mod IsomorphismLemmas
 pub mod InstructionPlaceLemmas
 pub mod OperandPlaceLemmas
 pub mod ReachedInstructionLemmas
@@ -39,3 +23,7 @@ pub mod UndoLemmas
 pub mod SameDiskLemmas
 pub mod MapWordLemmas
 pub mod MapPlaceLemmas
+pub mod BuildObjects
+pub mod BuildSounds
+pub mod BuildRuns
+pub mod BuildLemmas

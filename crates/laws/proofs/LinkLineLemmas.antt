@@ -1,4 +1,5 @@
 -- What `ld` does with the files that a session has left, and what a line of the session did.
+use Rattle.aout_core.specs.Refusals.{device_fault}
 use Rattle.std.proofs.Common.{rules}
 use Rattle.std.proofs.Common.{◌≡◌, ℕ, List, [], ◌∷◌, ◌++◌, Option, Some, None, Result, Ok, Err, refl, sym, ap, ◌∙◌, inl, inr, subst, ◌⊎◌}
 use Rattle.std.specs.Prelude.{IfSome, String, string_bytes}
@@ -34,11 +35,11 @@ use Rattle.v7tools.specs.declared.fault.CliFault.TheVariants as faults
 -- ---- the files that ld opened are those that are left
 
 -- the files gave what is at their paths
-abbrev AreGiven : Disk → List Opened → Type 0
+abbrev pub AreGiven : Disk → List Opened → Type 0
 AreGiven disk found = AllByRecursion (λ (f : Opened). IfSome (disk f.0) (λ bytes. f.1 ≡ Some bytes)) found
 
 -- files that a run opened are those on the disk
-given : (disk : Disk) (found : List Opened) (events : List Event) → IsOn disk (opens found ++ events) → AreGiven disk found
+pub given : (disk : Disk) (found : List Opened) (events : List Event) → IsOn disk (opens found ++ events) → AreGiven disk found
 given disk [] events h = tt
 given disk (f ∷ fs) events h = (h.0, given disk fs events h.1)
 
@@ -91,7 +92,7 @@ refused_link o k p r (inl h) e memory = search rules
 
 -- ---- what ld did
 
-all_openings : (found : List Opened) → AllByRecursion IsOpening (opens found)
+pub all_openings : (found : List Opened) → AllByRecursion IsOpening (opens found)
 all_openings [] = tt
 all_openings (f ∷ fs) = (tt, all_openings fs)
 
@@ -101,7 +102,7 @@ Reason cause fault = (cli_text fault ≡ link_text cause) ⊎ CannotRead fault
 
 reason : (cause : LinkFault) (fault : CliFault) →
     (let answer : Result Outcome Refusal = Err (not_linked cause) in IsTrueOf (said_by fault) answer) → Reason cause fault
-reason cause (faults.BadFile path reads.Device) h = inr tt
+reason cause (faults.BadFile path (reads.Device _)) h = inr tt
 reason cause (faults.BadFile path reads.ShortHeader) h = absurd (cc)
 reason cause (faults.BadFile path reads.BadMagic) h = absurd (cc)
 reason cause (faults.BadFile path reads.OddSize) h = absurd (cc)
@@ -122,12 +123,12 @@ module _ {W E : Type 0} (out_contents : W → Option (List ℕ)) (error_contents
 
   module _ (l : Run W E) (forced : List (List ℕ)) (o : Choices) (q : List ℕ) (paths : List (List ℕ)) where
     -- ld was run by its arguments, whatever came of it
-    record LdRan : Type 0 where
-      result : Result ℕ CliFault
-      output : String Global
-      at : string_bytes output ≡ q
-      ran : IsLinkRun out_contents forced o output paths (Some l.earlier) (Some (l.earlier ++ l.events)) result l.output_before l.output_after
-      ends : Ends error_contents result l.status l.error_before l.error_after
+    pub record LdRan : Type 0 where
+      pub result : Result ℕ CliFault
+      pub output : String Global
+      pub at : string_bytes output ≡ q
+      pub ran : IsLinkRun out_contents forced o output paths (Some l.earlier) (Some (l.earlier ++ l.events)) result l.output_before l.output_after
+      pub ends : Ends error_contents result l.status l.error_before l.error_after
 
     module _ (result : Result ℕ CliFault) (ends : Ends error_contents result l.status l.error_before l.error_after) where
       by_call : (call : Call) → IsLink forced o q paths call →
@@ -141,7 +142,7 @@ module _ {W E : Type 0} (out_contents : W → Option (List ℕ)) (error_contents
       }
       by_call _ same run = absurd same
 
-      by_words : (asks : AsksToLink l.words forced o q paths) →
+      pub by_words : (asks : AsksToLink l.words forced o q paths) →
           RunsWords out_contents l.words l.script (Some l.earlier) (Some (l.earlier ++ l.events)) result l.output_before l.output_after → LdRan
       by_words asks (inl h) =
           let memory : h.fault ≡ faults.Memory refused =
@@ -167,7 +168,7 @@ module _ {W E : Type 0} (out_contents : W → Option (List ℕ)) (error_contents
     found_left found more events all =
         same_found l.disk found left all (given l.disk found more (subst (λ (es : List Event). IsOn l.disk es) events on_disk)) there
 
-    bytes_say : (found : List Opened) (answer : Result Linked CliFault) (more : List Event) → l.events ≡ opens found ++ more →
+    pub bytes_say : (found : List Opened) (answer : Result Linked CliFault) (more : List Event) → l.events ≡ opens found ++ more →
         IsLinkOfFiles forced o (paths_of left) found answer → IsLinkOfBytes forced o (bytes_of left) answer
     bytes_say found answer more events h =
         subst (λ (k : Option (List (List ℕ × List ℕ))). IfSome k (λ bytes. IsLinkOfBytes forced o bytes answer))
@@ -193,7 +194,7 @@ module _ {W E : Type 0} (out_contents : W → Option (List ℕ)) (error_contents
         (it : Result ℕ CliFault) → result ≡ it →
         Reports out_contents (report_names made.report) it l.output_before l.output_after → Ended
     reported made same report events (Err fault) is h =
-        inr (inr (failed CannotWrite faults.WriteFailed (is ∙ ap (λ (f : CliFault). Err f) h.write_failed) tt))
+        inr (inr (failed CannotWrite (faults.WriteFailed device_fault) (is ∙ ap (λ (f : CliFault). Err f) h.write_failed) tt))
     reported made same report events (Ok status) is h = search rules
 
     stored_by : (output : String Global) → string_bytes output ≡ q → (made : Linked) → outcome_of made ≡ did.outcome → (what : Stored) →
@@ -201,17 +202,17 @@ module _ {W E : Type 0} (out_contents : W → Option (List ℕ)) (error_contents
         ReportsIf out_contents what output (report_names made.report) result l.output_before l.output_after → Ended
     stored_by output at made same Kept events h = search rules
     stored_by output at made same NotCreated events h = inr (inr (failed CannotWrite (faults.CannotCreate output) h.0 tt))
-    stored_by output at made same Failed events h = inr (inr (failed CannotWrite faults.WriteFailed h.0 tt))
+    stored_by output at made same (Failed _) events h = inr (inr (failed CannotWrite (faults.WriteFailed device_fault) h.0 tt))
 
     no_reason : (fault : CliFault) → (let answer : Result Outcome Refusal = Ok did.outcome in IsTrueOf (said_by fault) answer) → CannotRead fault
     no_reason faults.Usage h = absurd h
     no_reason (faults.CannotOpen path) h = tt
-    no_reason (faults.BadFile path reads.Device) h = tt
+    no_reason (faults.BadFile path (reads.Device _)) h = tt
     no_reason (faults.BadFile path (reads.Memory _)) h = absurd h
     no_reason (faults.NotAdded path (adds.Memory _)) h = absurd h
     no_reason (faults.NotLinked (links.Memory _)) h = absurd h
     no_reason (faults.CannotCreate path) h = absurd h
-    no_reason faults.WriteFailed h = absurd h
+    no_reason (faults.WriteFailed _) h = absurd h
     no_reason (faults.Memory _) h = tt
     no_reason faults.LongLine h = absurd h
     no_reason faults.ManyLines h = absurd h

@@ -1,31 +1,45 @@
 -- What words of a linked program find, beside what they find in their objects.
-use Rattle.std.proofs.Common.{rules, ◌≡◌, ◌≢◌, ℕ, ◌+◌, ◌-◌, ◌%◌, ◌<◌, ◌≤◌, Bool, true, false, cond, eqb, List, [], ◌∷◌, ◌++◌, Some, None}
+use Rattle.std.proofs.Common.{rules, ◌≡◌, ◌≢◌, ℕ, ◌+◌, ◌-◌, ◌*◌, ◌%◌, ◌<◌, ◌≤◌, Bool, true, false, cond, List, [], ◌∷◌, ◌++◌, Some, None}
 use Rattle.std.proofs.Common.{refl, sym, ◌∙◌, ap, subst, arith}
-use Rattle.std.proofs.{lemmas.List.Sums.sum_by-append, lemmas.Option.same_Some}
+use Rattle.std.proofs.{lemmas.List.Sums.sum_by-append}
 use Rattle.std.specs.{Prelude.slice_get, Prelude.Ok, List.AllByRecursion}
 use Rattle.aout_core.specs.declared.symbol.Segment.TheVariants.{Undefined, Absolute, TextSeg, DataSeg, BssSeg, Other}
 use Rattle.aout_core.specs.{declared.header.Header.Header, declared.symbol.Symbol.Symbol, declared.symbol.Segment.Segment}
 use Rattle.aout_core.specs.{declared.reloc.Reloc.Reloc, declared.reloc.Kind.Kind, Contents.Contents, Words.plus, WellFormed.kind_of}
-use Rattle.aout_core.specs.{WellFormed.symbol_number}
+use Rattle.aout_core.specs.WellFormed.{is_pc_relative, symbol_number}
 use Rattle.link_session.specs.{declared.state.State.State, declared.state.State.TheVariants.Defined}
-use Rattle.link_session.specs.{declared.state.State.TheVariants.Wanted, Starts.size_of, Starts.total, Sessions.IsObject, Mentions.mentions}
+use Rattle.link_session.specs.{declared.state.State.TheVariants.Wanted, Starts.size_of, Starts.total, Starts.own, Sessions.IsObject, Mentions.mentions}
 use Rattle.link_session.specs.{Mentions.names_by_first_mention, States.state, Cells.segment_words, Cells.segment_relocs}
 use Rattle.tool_options.specs.{NameLists.is_among, declared.options.Keep.TheVariants.Nothing, Choices.Choices}
 use Rattle.link_out.specs.function.Plans.{Plan, plan}
 use Rattle.link_out.specs.function.Finals.{final_by}
 use Rattle.link_out.specs.{Results.Outcome, function.Tables.external_row, function.Link.link}
-use Rattle.link_laws.specs.relation.Relocated.{move_in, entry_of, address_in, external_type, HoldsObjects}
-use Rattle.link_laws.specs.WordsAndNames.{IsDefined}
+use Rattle.link_laws.specs.relation.Relocated.{move_in, entry_of, address_in, HoldsObjects}
 use Rattle.link_laws.proofs.{RelocatedLemmas.objects_fill, ExternalLemmas.entry_in_table, ExternalLemmas.row_address}
-use Rattle.link_laws.proofs.{SegmentLemmas.HasWords, DefinedLemmas.definitions_hold, LinkedTheorem.linked_exactly}
+use Rattle.link_laws.proofs.{SegmentLemmas.HasWords, LinkedTheorem.linked_exactly}
 use Rattle.link_out.proofs.OutcomeLemmas.{made_file}
-use Rattle.laws.specs.Operands.{FindsMore, FindsName, segment_meant, Calls, Defines, is_usable_in, Arrives}
-use Rattle.laws.specs.{Core.Space, Core.is_in, CoreLaws.IsPlace, CoreLaws.IsLoaded}
+use Rattle.laws.specs.{Operands.operand, Operands.segment_meant, Operands.is_usable_in, Core.Space, Core.is_in, Core.IsWordAt}
+use Rattle.laws.specs.{CoreLaws.space_of, CoreLaws.IsPlace, CoreLaws.IsLoaded}
 use Rattle.laws.proofs.CoreLemmas.{within_back}
 use Rattle.laws.proofs.LoadedLemmas.{address_of, place_at, words_loaded, words_of_rows}
 use Rattle.aout_core.specs.declared.reloc.Kind.TheVariants as kinds
 
--- sums
+-- word i of a segment of k, which is w with relocation word r, finds in the program so much more than it does in k
+pub record FindsMore (file : Contents) (os before : List Contents) (k : Contents) (segment : Segment) (i w : ℕ)
+    (r : Reloc) (more : ℕ) : Type 0 where
+  pub address : ℕ
+  pub place : IsPlace file.header os before k segment (2 * i) address
+  pub word : ℕ
+  pub is_there : IsWordAt file (space_of segment) address word
+  pub finds : operand (is_pc_relative r) address word ≡ plus more (operand (is_pc_relative r) (own k segment + 2 * i) w)
+
+-- a word that refers to a name finds more, by the value of the name's external symbol
+pub record FindsName (file : Contents) (os before : List Contents) (k : Contents) (segment : Segment) (i w : ℕ) (r : Reloc) : Type 0 where
+  pub symbol : Symbol
+  pub row : Symbol
+  pub named : slice_get k.symbols (symbol_number r) ≡ Some symbol
+  pub found : entry_of file.symbols symbol.name ≡ Some row
+  pub more : FindsMore file os before k segment i w r row.value
 
 -- a word that is loaded finds more by what was added to it
 module _ (file : Contents) (rows : List Symbol) (os before : List Contents) (k : Contents) where
@@ -80,7 +94,7 @@ address_found forced before k after o x good others linked segment i w r ew er k
     let l = words_loaded forced before k after o x good others linked segment i w r ew er in
     search rules
 
--- for `operand_law`: the same by the value of the name in the file's table
+-- the same by the value of the name in the file's table
 pub names_found : (forced : List (List ℕ)) (before : List Contents) (k : Contents) (after : List Contents) (o : Choices) (x : Outcome) →
     AllByRecursion IsObject (before ++ k ∷ after) → o.keep ≢ Nothing → o.relocatable ≡ false → link forced (before ++ k ∷ after) o ≡ Ok x →
     (segment : Segment) (i w : ℕ) (r : Reloc) → slice_get (segment_words segment k) i ≡ Some w →
@@ -93,7 +107,7 @@ names_found forced before k after o x good others unkept linked segment i w r ew
 
 -- segments
 
--- for `operand_law`: a word that refers to a segment finds it where it was moved
+-- a word that refers to a segment finds it where it was moved
 pub segments_found : (forced : List (List ℕ)) (before : List Contents) (k : Contents) (after : List Contents) (o : Choices) (x : Outcome) →
     AllByRecursion IsObject (before ++ k ∷ after) → link forced (before ++ k ∷ after) o ≡ Ok x →
     (segment : Segment) (i w : ℕ) (r : Reloc) → slice_get (segment_words segment k) i ≡ Some w →
@@ -126,15 +140,6 @@ module _ (h : Header) (os before : List Contents) (k : Contents) where
   any_place Undefined n = record { sum = refl; symbol = unmoved (total Undefined before) n (no_space Undefined (λ c. refl) before) }
   any_place Absolute n = record { sum = refl; symbol = unmoved (total Absolute before) n (no_space Absolute (λ c. refl) before) }
   any_place Other n = record { sum = refl; symbol = unmoved (total Other before) n (no_space Other (λ c. refl) before) }
-
--- a definition gives its value
-pub defined_address : (row : Symbol) (segment : Segment) → row.type_bits ≡ external_type segment → address_in row ≡ row.value
-defined_address row TextSeg e = ap (λ (t : ℕ). cond (eqb (t % 32) 0) 0 row.value) e
-defined_address row DataSeg e = ap (λ (t : ℕ). cond (eqb (t % 32) 0) 0 row.value) e
-defined_address row BssSeg e = ap (λ (t : ℕ). cond (eqb (t % 32) 0) 0 row.value) e
-defined_address row Undefined e = ap (λ (t : ℕ). cond (eqb (t % 32) 0) 0 row.value) e
-defined_address row Absolute e = ap (λ (t : ℕ). cond (eqb (t % 32) 0) 0 row.value) e
-defined_address row Other e = ap (λ (t : ℕ). cond (eqb (t % 32) 0) 0 row.value) e
 
 -- a byte of an object is in its segment of the program
 pub byte_in : (forced : List (List ℕ)) (os : List Contents) (o : Choices) (x : Outcome) → AllByRecursion IsObject os →
@@ -170,26 +175,3 @@ byte_in forced os o x good linked front c back all space segment there n inside 
     by_segment DataSeg has h = search (rules, within_back, address_of, over, under, sum)
     by_segment BssSeg has h = search (rules, within_back, address_of, over_commons, under_commons, sum)
     by_segment _ has h = absurd (omega arith)
-
--- for `operand_law`: if no name is multiply defined, a call of a name arrives at its definition
-pub calls_arrive : (forced : List (List ℕ)) (os : List Contents) (o : Choices) (x : Outcome) →
-    AllByRecursion IsObject os → o.keep ≢ Nothing → link forced os o ≡ Ok x → x.report.multiples ≡ [] →
-    (before : List Contents) (k : Contents) (after : List Contents) → os ≡ before ++ k ∷ after →
-    (front : List Contents) (c : Contents) (back : List Contents) → os ≡ front ++ c ∷ back →
-    (from to : Segment) (i n : ℕ) (name : List ℕ) → Calls k from i name → Defines c name to n →
-    (space : Space) → is_usable_in x.file.header.magic to space ≡ true → Arrives x.file space os before k from i front c to n
-calls_arrive forced os o x good others linked once before k after all front c back other from to i n name call d space usable =
-    let finds : FindsAddress x.file os before k from i call.w call.r =
-    subst (λ (ys : List Contents). FindsAddress x.file ys before k from i call.w call.r) (sym all)
-    (address_found forced before k after o x (subst (λ (ys : List Contents). AllByRecursion IsObject ys) all good) others
-    (ap (λ (ys : List Contents). link forced ys o) (sym all) ∙ linked) from i call.w call.r call.word call.reloc call.kind) in
-    let is : IsDefined x.file os front c d.symbol =
-    subst (λ (ys : List Contents). IsDefined x.file ys front c d.symbol) (sym other)
-    (definitions_hold forced front c back o x others (ap (λ (ys : List Contents). link forced ys o) (sym other) ∙ linked)
-    once d.number d.symbol d.is_there d.outer d.inner) in
-    let there : IsPlace x.file.header os front c to n (address_of x.file.header os front c to n) =
-    any_place x.file.header os front c to n in
-    search (rules, same_Some, address_of, byte_in, defined_address, wrapped)
-  where
-    wrapped : (a : ℕ) → plus (a % 65536) 0 ≡ a % 65536
-    wrapped a = omega arith

@@ -23,10 +23,10 @@ use Rattle.instructions.specs.{declared.instruction.Instruction.Instruction, Ope
 use Rattle.instructions.proofs.AlikeLemmas.{get_inside}
 use Rattle.laws.specs.OperandPlaces.{addressing_of, within_text, kind_meant, IsNamedByte, IsAddress, HasOperand, IsOperand}
 use Rattle.laws.specs.OperandPlaces.{OperandsAreThere, IsDirect, JumpsArrive, PointersToSegments, PointersToNames}
-use Rattle.laws.specs.{Core.Space, Core.of_instructions, Core.of_data, Core.IsWordAt, Operands.operand, Operands.FindsMore}
+use Rattle.laws.specs.{Core.Space, Core.of_instructions, Core.of_data, Core.IsWordAt, Operands.operand}
 use Rattle.laws.specs.{Operands.segment_meant, Operands.Defines, OperandWords.machine_value, OperandWords.moves_instructions}
 use Rattle.laws.specs.{OperandWords.space_used}
-use Rattle.laws.proofs.OperandLemmas.{loaded_finds, address_found, names_found, segments_found, any_place, byte_in}
+use Rattle.laws.proofs.OperandLemmas.{FindsMore, loaded_finds, address_found, names_found, segments_found, any_place, byte_in}
 use Rattle.laws.proofs.{InstructionLemmas.relocs_long, InstructionLemmas.reloc_inside, LoadedLemmas.address_of, LoadedLemmas.words_there}
 use Rattle.laws.proofs.{LoadedLemmas.words_of_rows}
 use Rattle.aout_core.specs.declared.symbol.Segment.TheVariants as segs

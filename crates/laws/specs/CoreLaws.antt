@@ -1,39 +1,19 @@
 -- What a link puts at which address of the core. (exec(2), ld(1))
 --
 -- Each word of each object is loaded, relocated, at the address that a symbol of its place has. The bss of objects and the commons are
--- zeros. The core has nothing else, and no two segments of it share an address. A link that keeps no symbols has no table to look
--- names up in; its words follow the rows of the relation of linking, and are those of a link that keeps symbols.
-use Rattle.std.specs.Prelude.{◌≡◌, ◌≢◌, ℕ, ◌+◌, ◌*◌, ◌%◌, ◌<◌, ◌≤◌, ◌⊎◌, true, cond, List, ◌∷◌, ◌++◌, Some, Ok, slice_get}
+-- zeros.
+use Rattle.std.specs.Prelude.{◌≡◌, ◌≢◌, ℕ, ◌+◌, ◌*◌, ◌%◌, ◌<◌, true, cond, List, ◌∷◌, ◌++◌, Some, Ok, slice_get}
 use Rattle.std.specs.List.{AllByRecursion}
 use Rattle.aout_core.specs.WellFormed.{kind_of, is_pc_relative, symbol_number}
 use Rattle.aout_core.specs.{declared.header.Header.Header, declared.symbol.Symbol.Symbol, declared.symbol.Segment.Segment}
 use Rattle.aout_core.specs.{declared.symbol.Segment.TheVariants.TextSeg, declared.symbol.Segment.TheVariants.BssSeg}
-use Rattle.aout_core.specs.{declared.reloc.Reloc.Reloc, Contents.Contents, Words.plus, Words.minus, Strip.stripped}
+use Rattle.aout_core.specs.{declared.reloc.Reloc.Reloc, Contents.Contents, Words.plus, Words.minus}
 use Rattle.link_session.specs.{Starts.total, Starts.own, Sessions.IsObject, Cells.segment_words, Cells.segment_relocs}
-use Rattle.tool_options.specs.{declared.options.Keep.Keep, declared.options.Keep.TheVariants.Nothing}
-use Rattle.tool_options.specs.{declared.options.Layout.TheVariants.Split, Choices.Choices, Choices.lays_commons}
+use Rattle.tool_options.specs.{declared.options.Keep.TheVariants.Nothing, Choices.Choices, Choices.lays_commons}
 use Rattle.link_out.specs.{Results.Outcome, function.Link.link}
 use Rattle.link_laws.specs.relation.Relocated.{base_in, move_in, entry_of, IsAdded}
-use Rattle.link_laws.specs.{relation.LinkedFrom.IsLinkedFrom, CommonsAndLayouts.IsCommon}
-use Rattle.laws.specs.Core.{Space, of_instructions, of_data, has_segment, is_in, core, IsWordAt}
-
--- no two segments share an address of a space, whatever the file
-abbrev pub SegmentsAreApart : Type 0
-SegmentsAreApart =
-    (h : Header) (space : Space) (one two : Segment) (address : ℕ) → is_in h space one address ≡ true →
-    is_in h space two address ≡ true → one ≡ two
-
--- but for split spaces, the two spaces are one
-abbrev pub SpacesAreOne : Type 0
-SpacesAreOne = (forced : List (List ℕ)) (os : List Contents) (o : Choices) (x : Outcome) → o.layout ≢ Split → link forced os o ≡ Ok x →
-    (address : ℕ) → core x.file of_instructions address ≡ core x.file of_data address
-
--- if the text fits into a space, each address fits
-abbrev pub AddressesFit : Type 0
-AddressesFit =
-    (forced : List (List ℕ)) (os : List Contents) (o : Choices) (x : Outcome) → link forced os o ≡ Ok x →
-    x.file.header.text_size ≤ 65535 →
-    (space : Space) (address byte : ℕ) → core x.file space address ≡ Some byte → address < 65535
+use Rattle.link_laws.specs.CommonsAndEntries.{IsCommon}
+use Rattle.laws.specs.Core.{Space, of_instructions, of_data, core, IsWordAt}
 
 -- the space in which a segment is always found
 abbrev pub space_of : Segment → Space
@@ -63,24 +43,6 @@ WordsAreLoaded = (forced : List (List ℕ)) (before : List Contents) (k : Conten
     (segment : Segment) (i w : ℕ) (r : Reloc) → slice_get (segment_words segment k) i ≡ Some w →
     slice_get (segment_relocs segment k) i ≡ Some r → IsLoaded x.file x.file.symbols (before ++ k ∷ after) before k segment i w r
 
--- in any link, by the rows of the relation of linking
-abbrev pub WordsOfRowsAreLoaded : Type 0
-WordsOfRowsAreLoaded =
-    (forced : List (List ℕ)) (before : List Contents) (k : Contents) (after : List Contents) (o : Choices) (x : Outcome) →
-    AllByRecursion IsObject (before ++ k ∷ after) → (l : IsLinkedFrom forced (before ++ k ∷ after) o x) →
-    (segment : Segment) (i w : ℕ) (r : Reloc) → slice_get (segment_words segment k) i ≡ Some w →
-    slice_get (segment_relocs segment k) i ≡ Some r → IsLoaded x.file l.rows (before ++ k ∷ after) before k segment i w r
-
--- links that differ only in the symbols that they keep load the same
-abbrev pub KeepChangesNothing : Type 0
-KeepChangesNothing = (forced : List (List ℕ)) (os : List Contents) (o : Choices) (keep : Keep) (x y : Outcome) →
-    link forced os o ≡ Ok x → link forced os (record o { keep = keep }) ≡ Ok y → (space : Space) (address : ℕ) →
-    core y.file space address ≡ core x.file space address
-
--- a file loads the same if it is stripped
-abbrev pub StrippedIsLoaded : Type 0
-StrippedIsLoaded = (file : Contents) (space : Space) (address : ℕ) → core (stripped file) space address ≡ core file space address
-
 -- each byte of an object's bss is a zero at its place
 pub record IsZero (file : Contents) (os before : List Contents) (k : Contents) (n : ℕ) : Type 0 where
   pub address : ℕ
@@ -99,24 +61,3 @@ CommonsAreZero =
     lays_commons o ≡ true → link forced os o ≡ Ok x →
     (name : List ℕ) (size : ℕ) → IsCommon forced os name size → (row : Symbol) →
     entry_of x.file.symbols name ≡ Some row → (n : ℕ) → n < size → core x.file of_data (row.value + n) ≡ Some 0
-
--- the low or the high byte of a word of some object
-pub record IsOfWord (h : Header) (os : List Contents) (space : Space) (address : ℕ) : Type 0 where
-  pub before : List Contents
-  pub k : Contents
-  pub after : List Contents
-  pub all : os ≡ before ++ k ∷ after
-  pub segment : Segment
-  pub «in» : has_segment h.magic segment space ≡ true
-  pub i : ℕ
-  pub w : ℕ
-  pub word : slice_get (segment_words segment k) i ≡ Some w
-  pub at : (address ≡ base_in h (total BssSeg os) segment + total segment before + 2 * i)
-      ⊎ (address ≡ base_in h (total BssSeg os) segment + total segment before + 2 * i + 1)
-
--- each byte of the core is of a word of an object, or a zero of bss
-abbrev pub NothingElse : Type 0
-NothingElse =
-    (forced : List (List ℕ)) (os : List Contents) (o : Choices) (x : Outcome) → AllByRecursion IsObject os →
-    link forced os o ≡ Ok x → (space : Space) (address byte : ℕ) → core x.file space address ≡ Some byte →
-    IsOfWord x.file.header os space address ⊎ ((is_in x.file.header space BssSeg address ≡ true) × (byte ≡ 0))

@@ -3,9 +3,6 @@ pub mod Listings
 pub mod Core
 pub mod CoreLaws
 pub mod Operands
-pub mod Orders
-pub mod Isomorphism
-pub mod Frame
 pub mod Instructions
 pub mod OperandWords
 pub mod OperandPlaces
@@ -14,3 +11,4 @@ pub mod CleanPrograms
 pub mod Disks
 pub mod SessionsByCommands
 pub mod Maps
+pub mod Builds

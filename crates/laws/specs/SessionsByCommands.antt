@@ -5,9 +5,9 @@
 -- left after some lines are those that were added and not withdrawn, with the bytes that were read there. Nothing is assumed of the
 -- disk during the session, and files may change between the session and `ld`, but for those that are left.
 use Rattle.std.specs.Prelude.{◌≡◌, ◌≢◌, ◌⊎◌, ℕ, Bool, true, eqb, List, [], ◌∷◌, ◌++◌, map, Option, Some, None, String, Vec, codes, decimal}
-use Rattle.std.specs.Prelude.{string_bytes}
+use Rattle.std.specs.Prelude.{IsTrue, string_bytes}
 use Rattle.std.specs.{declared.alloc.Global.Global, List.AllByRecursion}
-use Rattle.aout_core.specs.{declared.file.ReadFault.TheVariants.Device, Contents.Contents}
+use Rattle.aout_core.specs.{declared.file.ReadFault.TheVariants.Device, Contents.Contents, Refusals.device_fault, Refusals.refused}
 use Rattle.link_session.specs.{Edits.without_last, Sessions.nothing_kept}
 use Rattle.link_out.specs.{function.Reports.line, Inputs.bad_file}
 use Rattle.tool_options.specs.Choices.{Choices}
@@ -16,8 +16,8 @@ use Rattle.surroundings.specs.{Emits.PutsUnless, declared.nodes.Node.Node, decla
 use Rattle.command_words.specs.declared.words.Call.TheVariants.{Ld, Session}
 use Rattle.command_words.specs.Scripts.{Asked, to_add, to_withdraw, to_link}
 use Rattle.v7tools.specs.FaultTexts.{cause_text, fault_line, no_memory}
-use Rattle.v7tools.specs.SessionRuns.{AreFirst, AreLines, Chains, answers_of, events_of, lines_asked, worst}
-use Rattle.v7tools.specs.{CommandRuns.AsksFor, CommandRuns.Performs, LineRuns.LineRun, declared.fault.CliFault.CliFault}
+use Rattle.v7tools.specs.SessionRuns.{AreFirst, AreLines, Chains, StopsAfter, answers_of, events_of, lines_asked, worst}
+use Rattle.v7tools.specs.{CommandRuns.AsksFor, CommandRuns.Performs, LineRuns.IsLineOf, LineRuns.LineRun, declared.fault.CliFault.CliFault}
 use Rattle.laws.specs.{Disks.Disk, Disks.IsOn, Disks.Run, Disks.EndsWell, Disks.Writes}
 use Rattle.link_session.specs.Undo as undo
 use Rattle.v7tools.specs.declared.fault.CliFault.TheVariants as faults
@@ -90,7 +90,7 @@ IsKnown _ = Unit {0}
 
 -- the answer to a line is not that memory ran out, nor that a device failed
 abbrev pub IsUndisturbed : Asked → List ℕ → Type 0
-IsUndisturbed (to_add path) answer = (answer ≢ line no_memory) × (answer ≢ line (cause_text path (bad_file Device)))
+IsUndisturbed (to_add path) answer = (answer ≢ line no_memory) × (answer ≢ line (cause_text path (bad_file (Device device_fault))))
 IsUndisturbed (to_link path) answer = answer ≢ line no_memory
 IsUndisturbed _ answer = Unit {0}
 
@@ -116,13 +116,13 @@ IsOpening _ = ⊥
 abbrev pub CannotRead : CliFault → Type 0
 CannotRead (faults.Memory _) = Unit {0}
 CannotRead (faults.CannotOpen path) = Unit {0}
-CannotRead (faults.BadFile path Device) = Unit {0}
+CannotRead (faults.BadFile path (Device _)) = Unit {0}
 CannotRead _ = ⊥
 
 -- no file could be made at a path, or a device failed while it or the report was written
 abbrev pub CannotWrite : CliFault → Type 0
 CannotWrite (faults.CannotCreate path) = Unit {0}
-CannotWrite faults.WriteFailed = Unit {0}
+CannotWrite (faults.WriteFailed _) = Unit {0}
 CannotWrite _ = ⊥
 
 -- the arguments ask ld for a link of the files at these paths into the file at `out`
@@ -140,6 +140,16 @@ module _ {W E : Type 0} (out_contents : W → Option (List ℕ)) (error_contents
       Performs out_contents error_contents r.words r.script
       (record { asked = Some r.earlier; output = r.output_before; error = r.error_before })
       (record { asked = Some (r.earlier ++ r.events); output = r.output_after; error = r.error_after }) r.status
+
+  -- ---- a fault
+
+  -- standard error got this line; only a prefix of it if that device failed
+  abbrev pub Says : Run W E → List ℕ → Type 0
+  Says r text = PutsUnless r.error_after.has_failed (error_contents r.error_before.device) (error_contents r.error_after.device) text
+
+  -- a run ended with such a fault
+  abbrev pub FailsBy : (CliFault → Type 0) → Run W E → Type 0
+  FailsBy IsSuch r = (r.status ≡ 2) × (fault : CliFault) × IsSuch fault × Says r (fault_line fault)
 
   -- ---- a session and its lines
 
@@ -164,11 +174,49 @@ module _ {W E : Type 0} (out_contents : W → Option (List ℕ)) (error_contents
     pub part : List ℕ
     pub answers : Writes out_contents r (answers_of runs ++ part)
 
-  -- each session, whatever ends it, answers lines of its script, one after another
+  -- memory ran out before a line was read: nothing was asked of the system, and nothing written
+  pub record NeverBegan (r : Run W E) (runs : List LineRun) : Type 0 where
+    pub none : runs ≡ []
+    pub asked : r.events ≡ []
+    pub silent : r.output_after ≡ r.output_before
+    pub fails : FailsBy (λ fault. fault ≡ faults.Memory refused) r
+
+  -- the lines are all of the script, and nothing else was asked or answered; the largest of their statuses is that of the session
+  pub record EndedWell (r : Run W E) (runs : List LineRun) : Type 0 where
+    pub lines : AreLines r.script (lines_asked runs) None
+    pub events : r.events ≡ events_of runs
+    pub answers : Writes out_contents r (answers_of runs)
+    pub status : r.status ≡ worst runs
+
+  -- after the lines the script gave no further one, which is the fault; nothing else was asked or answered
+  pub record StoppedAfter (r : Run W E) (runs : List LineRun) : Type 0 where
+    pub events : r.events ≡ events_of runs
+    pub answers : Writes out_contents r (answers_of runs)
+    pub fails : FailsBy (StopsAfter r.script (lines_asked runs)) r
+
+  -- the next line of the script was run too, on what those before it left, and only a prefix of its answer could be written
+  pub record BrokeOff (o : Choices) (kept : undo.Kept) (r : Run W E) (runs : List LineRun) : Type 0 where
+    pub last : LineRun
+    pub is_run : IsLineOf o kept last last.line
+    pub first : AreFirst r.script (lines_asked runs ++ last.line ∷ [])
+    pub events : r.events ≡ events_of runs ++ last.events
+    pub part : List ℕ
+    pub rest : List ℕ
+    pub split : last.answer ≡ part ++ rest
+    pub wrote : Writes out_contents r (answers_of runs ++ part)
+    pub failed : IsTrue r.output_after.has_failed
+    pub fails : FailsBy (λ fault. fault ≡ faults.WriteFailed device_fault) r
+
+  -- how a session ended after the lines that it answered, which left this
+  abbrev pub EndedAfter : Choices → undo.Kept → Run W E → List LineRun → Type 0
+  EndedAfter o kept r runs = NeverBegan r runs ⊎ (EndedWell r runs ⊎ (StoppedAfter r runs ⊎ BrokeOff o kept r runs))
+
+  -- each session answers lines of its script, one after another: all of them, or those up to one that the script does not give or whose
+  -- answer cannot be written
   abbrev pub AnswersLaw : Type 0
   AnswersLaw =
       (forced : List (List ℕ)) (o : Choices) (r : Run W E) → AsksFor r.words (Session o forced) → DoesPerform r →
-      (runs : List LineRun) × AnsweredLines forced o r runs
+      (runs : List LineRun) × (answered : AnsweredLines forced o r runs) × EndedAfter o answered.kept r runs
 
   -- each session that ends well is the run of all lines of its script
   abbrev pub LinesLaw : Type 0
@@ -184,14 +232,6 @@ module _ {W E : Type 0} (out_contents : W → Option (List ℕ)) (error_contents
     pub performs : DoesPerform r
     pub on_disk : IsOn r.disk r.events
     pub there : AreThere r.disk left
-
-  -- standard error got this line; only a prefix of it if that device failed
-  abbrev pub Says : Run W E → List ℕ → Type 0
-  Says r text = PutsUnless r.error_after.has_failed (error_contents r.error_before.device) (error_contents r.error_after.device) text
-
-  -- a run ended with such a fault
-  abbrev pub FailsBy : (CliFault → Type 0) → Run W E → Type 0
-  FailsBy IsSuch r = (r.status ≡ 2) × (fault : CliFault) × IsSuch fault × Says r (fault_line fault)
 
   -- ld opened the files that are left and stored at q the file that the line stored; the line answered what ld wrote, and after that a
   -- line with its path and the status of ld, and has that status too

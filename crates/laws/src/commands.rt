@@ -1,4 +1,5 @@
 //! Laws of commands, over the definitions of what they do. Each law is the contract of a function with an empty body.
+ghost use Rattle.laws.specs.Builds.{BuildsLaw, OnceLaw, ElsewhereLaw};
 ghost use Rattle.laws.specs.SessionsByCommands.{AnswersLaw, LinesLaw, LinkLineLaw, RefusedLineLaw, SameDiskLaw, UndoLaw};
 
 use std::io::Write;
@@ -6,7 +7,9 @@ use std::io::Write;
 /// A link in a session is a link by `ld` of the files that are left: those that were added before it and not withdrawn. (own choice)
 ///
 /// - `lines`: a session that ends well is the run of the lines of its script, one after another.
-/// - `answers`: any session, whatever ends it, answered the first lines of its script, one after another. The other clauses are about these.
+/// - `answers`: any session, whatever ends it, answered the first lines of its script, one after another: all of them; or those before
+///   one that the script does not give, or for which memory ran out; or those before one whose answer could not be written whole. The
+///   other clauses are about these.
 /// - `linked`: take a line `link P` that stored its file, and any `ld -o Q` with the options and the `-u` of the session, of the files
 ///   that are left, on a disk that has the bytes which the session read. It opens these files and stores in Q what the line stored in
 ///   P, the line answered what it writes, and after that `linked P` with its status, and has that status too. Or memory ran out, an
@@ -31,4 +34,22 @@ pub fn session_law<W: Write, E: Write>()
 /// `withdrew P` between. It asks of the system what that asks, and opens P between, and it ends with the same status.
 pub fn undo_law<W: Write, E: Write>()
     ensures { UndoLaw W.contents E.contents }
+{}
+
+/// A build is determined by its files. It is a list of steps, each an `ld -r` of files and of what earlier steps stored, which ended with
+/// status 0 or 1, and a last `ld`, with or without `-r`. (ld(1), the options `-r` and `-d`)
+///
+/// - `builds`: take two builds, on one disk or on two, whose last commands have the same options and the same `-u`, and stand for files with
+///   the same bytes in the same order, at any paths. They store the same bytes, write the same report, and have the same status. Or both
+///   are refused: neither stores or writes anything, and they write the same line to standard error if all files are objects that a
+///   session accepts. Or memory ran out, an input could not be read, or the file or the report not written. Each step has to be without
+///   `-d`, to keep the locals that the last command keeps, and to force no other names than that, and no name of the files may be
+///   multiply defined.
+/// - `once`: so a build does what one `ld` does with all its files, as they were before the build.
+/// - `elsewhere`: the steps change no file but those at which they store. So if they store over none of the files, that `ld` may run on the
+///   disk that the build leaves.
+pub fn build_law<W: Write, E: Write>()
+    ensures builds { BuildsLaw W.contents E.contents }
+    ensures once { OnceLaw W.contents E.contents }
+    ensures elsewhere { ElsewhereLaw W.contents E.contents }
 {}

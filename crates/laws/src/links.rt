@@ -1,56 +1,23 @@
-//! Laws of loaded programs, lists and orders. Each law is the contract of a function with an empty body.
-ghost use Rattle.laws.specs.CoreLaws.{SegmentsAreApart, SpacesAreOne, AddressesFit, WordsAreLoaded, WordsOfRowsAreLoaded, KeepChangesNothing, StrippedIsLoaded, BssIsZero, CommonsAreZero, NothingElse};
-ghost use Rattle.laws.specs.Operands.{NamesAreFound, SegmentsAreFound, CallsArrive};
-ghost use Rattle.laws.specs.Instructions.{InstructionsAreKept, TextsAreKept, InstructionsAreThere};
+//! Laws of loaded programs, lists and maps. Each law is the contract of a function with an empty body.
+ghost use Rattle.laws.specs.CoreLaws.{WordsAreLoaded, BssIsZero, CommonsAreZero};
+ghost use Rattle.laws.specs.Instructions.{InstructionsAreThere};
 ghost use Rattle.laws.specs.OperandPlaces.{OperandsAreThere, JumpsArrive, PointersToSegments, PointersToNames};
 ghost use Rattle.laws.specs.ReachedInstructions.{ReachedInstructionsAreKept, SurePlacesBegin};
 ghost use Rattle.laws.specs.CleanPrograms.{CleanObjectsMakeCleanPrograms};
 ghost use Rattle.laws.specs.Listings.{UndefinedAreListed, UndefinedLines, RowLines, ExternalsAreListed, SizesAreSums};
-ghost use Rattle.laws.specs.Isomorphism.{PlacesAreApart, PlacesAreLoaded, BytesHavePlaces, OrdersAreRenumbered, LinksAreIsomorphic};
 ghost use Rattle.laws.specs.Maps.{AddressesAreOfTheFile, NoWordIsMissing, WordsLeadToTheirName};
-ghost use Rattle.laws.specs.Orders.{OrderAddsAlike, OrderLinksAlike, OrderRefusesAlike, OrderKeepsSizes, OrderReportsAlike, OrderKeepsMeanings, OrderKeepsReferents};
 
 /// Which byte is at which address when a linked file is loaded: `core` of specs/Core, for the space of instructions and that of
 /// data, which are one unless spaces are split. (exec(2), a.out(5))
 ///
-/// - `apart`: no two segments of a file share an address of a space.
-/// - `one`: unless spaces are split, both spaces have the same bytes.
-/// - `fit`: each address is below 65,535 if text has at most 65,535 bytes; a session accepts no more.
 /// - `words`: in a link that keeps symbols, each word of each object is loaded, the low byte first, after those of the objects before
 ///   it, and is relocated by the linked file's own table. Its address is the value that a symbol at its place would have.
-/// - `rows`: in any link, also with `-s`, the same by the rows of the relation of linking.
-/// - `kept`: links that differ only in which symbols they keep load the same bytes, so `-s` changes nothing.
-/// - `stripped`: a stripped file loads the same bytes.
 /// - `bss`: each byte of each object's bss is a zero, at the address that a symbol at its place would have.
 /// - `commons`: in a link that keeps symbols and lays out commons, each byte of a common is a zero, from the value of its symbol on.
-/// - `nothing`: the core has no other bytes: each is of a word of an object, or a zero of bss.
 pub fn core_law()
-    ensures apart { SegmentsAreApart }
-    ensures one { SpacesAreOne }
-    ensures fit { AddressesFit }
     ensures words { WordsAreLoaded }
-    ensures rows { WordsOfRowsAreLoaded }
-    ensures kept { KeepChangesNothing }
-    ensures stripped { StrippedIsLoaded }
     ensures bss { BssIsZero }
     ensures commons { CommonsAreZero }
-    ensures nothing { NothingElse }
-{}
-
-/// What a word of a linked program finds: the word, or, if the pc bit of its relocation word is set, the address after the word plus the
-/// word. Both are modulo 65,536. An instruction finds the same if the pc bit suits its mode. (ld(1))
-///
-/// - `names`: in a link without `-r` that keeps symbols, a word that refers to a name finds what it finds in its object, plus the
-///   name's value.
-/// - `segments`: a word that refers to a segment of its object finds what it finds in its object, plus how far that segment moved.
-///   An absolute word finds the same as there.
-/// - `calls`: in a link that keeps symbols, and if no name is multiply defined, a call finds the definition of its name, in whatever
-///   object that is: in a space that has its segment, or in any space if it is absolute. A call looks in the space of instructions.
-///   So with split spaces it finds what is defined in text, or absolute.
-pub fn operand_law()
-    ensures names { NamesAreFound }
-    ensures segments { SegmentsAreFound }
-    ensures calls { CallsArrive }
 {}
 
 /// Linking preserves instructions: wherever an instruction begins in the text of an object, it is in the linked text too, if its first
@@ -67,16 +34,10 @@ pub fn operand_law()
 ///   `-r` the operand is then so far beyond the value of the name, and if no name is multiply defined, so far beyond its definition.
 /// - `jumps`: so in a link that keeps symbols, and if no name is multiply defined, `jmp` and `jsr` of a name by modes 37 and 67 reach
 ///   its definition in the space of instructions. With split spaces a byte is there only if it is of text.
-/// - `kept`: if no line of a sweep from the start of an object's text begins with a relocated word, and no instruction is cut, then the
-///   file's text, decoded from where the text of the object begins, has the lines of the object first, with as many words each.
-/// - `texts`: if this is so for all objects, the file's text, decoded from its beginning, has the lines of the objects in order, and
-///   no others.
 pub fn instruction_law()
     ensures instructions { InstructionsAreThere }
     ensures operands { OperandsAreThere }
     ensures jumps { JumpsArrive }
-    ensures kept { InstructionsAreKept }
-    ensures texts { TextsAreKept }
 {}
 
 /// What it means for a program that nothing is suspicious for sure in an object: that `v7-explain` reports nothing odd of its instructions
@@ -137,48 +98,6 @@ pub fn listing_law()
     ensures rows { RowLines }
     ensures externals { ExternalsAreListed }
     ensures sizes { SizesAreSums }
-{}
-
-/// The order of the objects changes the addresses in a program, and not what it means. The law compares links of the same objects in any
-/// two orders, and `isomorphism_law` the bytes that they load. (ld(1))
-///
-/// - `adds`: a session accepts all objects in both orders, or in neither. The first object that it refuses, and the limit that this
-///   object would exceed, may differ.
-/// - `links`: if it accepts all, there is a link without `-r` in both orders, or the same fault.
-/// - `refuses`: without `-r`, the link of all of them is refused in both orders with the same fault, or in neither.
-/// - `sizes`: two links have the same sizes of text, data, bss and table, so their headers differ at most in the entry point.
-/// - `reports`: two links report the same reserved names, and the same undefined names in some order.
-/// - `meanings`: if no name is multiply defined, each name means the same in links without `-r` that keep symbols, in two layouts too:
-///   the same symbol of the same object, a common of the same size, or nothing in the objects.
-/// - `referents`: so each word refers to the same: to a segment of its own object, or to what its name means.
-pub fn order_law()
-    ensures adds { OrderAddsAlike }
-    ensures links { OrderLinksAlike }
-    ensures refuses { OrderRefusesAlike }
-    ensures sizes { OrderKeepsSizes }
-    ensures reports { OrderReportsAlike }
-    ensures meanings { OrderKeepsMeanings }
-    ensures referents { OrderKeepsReferents }
-{}
-
-/// Links of the same objects load the same program at other addresses. A place is a byte of an object's text, data or bss, or of a
-/// common that is rounded up to an even size. The first three clauses are about any link that keeps symbols and lays out its commons.
-/// (ld(1), exec(2))
-///
-/// - `apart`: no two places are loaded at one address of a space.
-/// - `loaded`: at the address of each place there is a byte, in each space that has its segment.
-/// - `placed`: each byte that is loaded is at the address of a place.
-/// - `numbers`: the objects of two orders can be paired by their numbers, so that each pair has two equal objects.
-/// - `same`: compares two links of the same objects in any two orders and any two layouts. Both keep symbols and no relocation, and in
-///   one of them no name is multiply defined. By any such pairs they have the same places. A place has the same byte in both, unless
-///   its word is relocated. What a relocated word finds by its pc bit differs as the addresses of what the word refers to: a segment
-///   of its object, the definition of a name, a common, the end of a segment if the linker defines the name so, or nothing.
-pub fn isomorphism_law()
-    ensures apart { PlacesAreApart }
-    ensures loaded { PlacesAreLoaded }
-    ensures placed { BytesHavePlaces }
-    ensures numbers { OrdersAreRenumbered }
-    ensures same { LinksAreIsomorphic }
 {}
 
 /// The map of a link is a map of the linked file. The objects are such as a session accepts. (ld(1); maps: own choice)

@@ -1,16 +1,30 @@
--- The records of findings, one finding after another.
-use Rattle.std.proofs.Common.{◌≡◌, ℕ, ◌+◌, Option, List, [], ◌∷◌, ◌++◌, length, ap, ◌∙◌, append_assoc, length-append}
+-- What is remarked, by what is found.
+use Rattle.std.proofs.Common.{◌≡◌, ℕ, List, [], true, Option, Some, None, Result, Ok, Err, IfOk, subst, sym}
+use Rattle.std.specs.declared.alloc.AllocError.{AllocError}
+use Rattle.aout_core.specs.{Contents.Contents, Decoding.decode, WellFormed.first_object_fault, declared.file.ReadFault.ReadFault}
 use Rattle.aout_core.specs.declared.header.Header.{Header}
-use Rattle.findings.specs.Found.{Found}
-use Rattle.library_calls.specs.{RemarkAnswers.records_from, declared.remarks_call.RemarkRecord.RemarkRecord}
+use Rattle.findings.specs.{Found.Found, Found.all_found, Wrong.wrong_bytes, Wrong.wrong_in, declared.finding.Finding.Finding}
+use Rattle.suspicions.specs.{Suspicions.all_odd, declared.evidence.Evidence.TheVariants.Flow}
+use Rattle.library_calls.specs.{RemarkAnswers.IsRemarked, RemarkAnswers.IsRemarkedBy, RemarkAnswers.Output, RemarkAnswers.header_by}
+use Rattle.library_calls.specs.{RemarkAnswers.odd_by, RemarkAnswers.remarked_by, RemarkAnswers.remarks_in, RemarkAnswers.wrong_by}
+use Rattle.library_calls.specs.{declared.remarks_call.RemarkRecord.RemarkRecord, declared.remarks_call.Remarks.Remarks}
 
--- its record
-pub record_put : (h : Option Header) (old new : List RemarkRecord) (texts more : List ℕ) (r : RemarkRecord) (f : Found) (fs all : List Found) →
-    new ≡ old ++ r ∷ [] → r ∷ [] ≡ records_from h (length texts) (f ∷ []) → more ≡ texts ++ f.text →
-    old ++ records_from h (length texts) (f ∷ fs) ≡ records_from h 0 all → new ++ records_from h (length more) fs ≡ records_from h 0 all
-record_put h old new texts more r f fs all grown is longer before =
-    let size : length more ≡ length texts + length f.text = ap length longer ∙ length-append texts f.text in
-    ap (λ (l : List RemarkRecord). l ++ records_from h (length more) fs) (grown ∙ ap (λ (l : List RemarkRecord). old ++ l) is)
-    ∙ append_assoc old (records_from h (length texts) (f ∷ [])) (records_from h (length more) fs)
-    ∙ ap (λ (n : ℕ). old ++ (records_from h (length texts) (f ∷ []) ++ records_from h n fs)) size
-    ∙ before
+pub by_findings : (h : Option Header) (wrong odd : List Finding) (found more : List Found) (r : Result Remarks AllocError) →
+    all_found wrong ≡ found → all_found odd ≡ more → IfOk r (λ x. remarks_in x ≡ remarked_by h wrong odd) →
+    IfOk r (λ x. IsRemarkedBy h found more (remarks_in x))
+by_findings h wrong odd found more (Ok x) a b e = record { wrong = wrong; odd = odd; are_wrong = a; are_odd = b; remarked = e }
+by_findings h wrong odd found more (Err error) a b e = tt
+
+abbrev By : List ℕ → Output RemarkRecord → Result Contents ReadFault → Type 0
+By bytes x read = IsRemarkedBy (header_by read) (wrong_by bytes read) (odd_by bytes read) x
+
+-- the bytes begin with a file, or do not
+pub file_remarked : (bytes : List ℕ) (c : Contents) (x : Output RemarkRecord) → decode bytes ≡ Ok c →
+    IsRemarkedBy (Some c.header) (wrong_in (first_object_fault c) c) (all_odd Flow true bytes c) x → IsRemarked bytes x
+file_remarked bytes c x is h = subst (By bytes x) (sym is) h
+
+pub bytes_remarked : (bytes : List ℕ) (fault : ReadFault) (x : Output RemarkRecord) → decode bytes ≡ Err fault →
+    IsRemarkedBy None (wrong_bytes fault bytes) [] x → IsRemarked bytes x
+bytes_remarked bytes fault x is h = subst (By bytes x) (sym is) h
+
+pub ruleset by_decoding = (file_remarked, bytes_remarked)

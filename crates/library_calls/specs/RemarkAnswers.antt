@@ -1,49 +1,17 @@
 -- What a call remarks of a file: what is wrong and odd in it, as records with their texts. (own choice)
 --
--- Each record has the place of its text among all texts, which are one after another.
-use Rattle.std.specs.Prelude.{ℕ, ◌+◌, ◌-◌, ◌/◌, true, ◌||◌, nat_le, nat_lt, if◌then◌else◌, List, [], ◌∷◌, ◌++◌, length, Option, Some, None}
+-- Each record has the place of its text among all texts, which are one after another. What a text says is in no definition.
+use Rattle.std.specs.Prelude.{◌≡◌, ℕ, ◌+◌, ◌-◌, ◌/◌, true, ◌||◌, nat_le, nat_lt, if◌then◌else◌, List, [], ◌∷◌, ◌++◌, length, Option, Some, None}
 use Rattle.std.specs.Prelude.{Result, Ok, Err}
 use Rattle.std.specs.List.{flat_map}
 use Rattle.aout_core.specs.Encoding.{relocation_at, symbols_at, file_length}
 use Rattle.aout_core.specs.declared.header.Header.{Header}
 use Rattle.aout_core.specs.{Contents.Contents, Decoding.decode, WellFormed.first_object_fault, declared.file.ReadFault.ReadFault}
-use Rattle.findings.specs.{Found.Found, Wrong.wrong_bytes, Wrong.wrong_in, declared.finding.FindingKind.FindingKind}
+use Rattle.findings.specs.{Found.Found, Found.all_found, Found.kind_number, Wrong.wrong_bytes, Wrong.wrong_in}
+use Rattle.findings.specs.declared.finding.Finding.{Finding}
 use Rattle.suspicions.specs.{Suspicions.all_odd, declared.evidence.Evidence.TheVariants.Flow}
 use Rattle.library_calls.specs.declared.remarks_call.Located.{Located}
 use Rattle.library_calls.specs.{declared.remarks_call.RemarkRecord.RemarkRecord, declared.remarks_call.Remarks.Remarks}
-use Rattle.findings.specs.declared.finding.FindingKind.TheVariants as kinds
-
--- what is wrong has 1 to 7, what is odd 8 to 20, and what is suspicious 21 to 29
-abbrev pub kind_number : FindingKind → ℕ
-kind_number kinds.ShortHeader = 1
-kind_number kinds.BadMagic = 2
-kind_number kinds.OddSize = 3
-kind_number kinds.Truncated = 4
-kind_number kinds.BadRelocation = 5
-kind_number kinds.BadSymbolNumber = 6
-kind_number kinds.MoreBadWords = 7
-kind_number kinds.IgnoredEntry = 8
-kind_number kinds.IgnoredWord = 9
-kind_number kinds.BytesAfterTable = 10
-kind_number kinds.IgnoredRelocationBits = 11
-kind_number kinds.OutsideReference = 12
-kind_number kinds.EmptyName = 13
-kind_number kinds.UnprintableName = 14
-kind_number kinds.BytesAfterName = 15
-kind_number kinds.RepeatedName = 16
-kind_number kinds.IgnoredTypeBits = 17
-kind_number kinds.UnknownType = 18
-kind_number kinds.OddCommon = 19
-kind_number kinds.OutsideValue = 20
-kind_number kinds.RelocatedFirstWord = 21
-kind_number kinds.UnsuitablePcBit = 22
-kind_number kinds.CutInstruction = 23
-kind_number kinds.NoInstruction = 24
-kind_number kinds.BranchOutside = 25
-kind_number kinds.BranchWithin = 26
-kind_number kinds.UnsuitableReference = 27
-kind_number kinds.UnsuitableAddress = 28
-kind_number kinds.AbsoluteText = 29
 
 -- ---- the part of a file that a byte is in, and the word or the symbol there
 
@@ -68,20 +36,20 @@ located_if None place = elsewhere
 located_if (Some h) place = located_in h place
 
 -- the texts, one after another
-abbrev pub texts_of : List Found → List ℕ
-texts_of found = flat_map (λ (f : Found). f.text) found
+abbrev pub texts_of : List Finding → List ℕ
+texts_of findings = flat_map (λ (f : Finding). f.text.items) findings
 
 -- the records of these, whose texts begin at this place of all texts
-abbrev pub records_from : Option Header → ℕ → List Found → List RemarkRecord
+abbrev pub records_from : Option Header → ℕ → List Finding → List RemarkRecord
 records_from h at [] = []
 records_from h at (f ∷ fs) = record {
   place = f.place;
   text = at;
-  text_size = length f.text;
+  text_size = length f.text.items;
   kind = kind_number f.kind;
   part = (located_if h f.place).part;
   word = (located_if h f.place).word;
-} ∷ records_from h (at + length f.text) fs
+} ∷ records_from h (at + length f.text.items) fs
 
 -- ---- what is remarked
 
@@ -104,20 +72,28 @@ pub record Output (A : Type 0) : Type 0 where
   pub records : List A
 
 -- 1 if something is wrong
-abbrev pub status_by : List Found → ℕ
+abbrev pub status_by : List Finding → ℕ
 status_by [] = 0
 status_by (f ∷ fs) = 1
 
-abbrev pub remarked_by : Option Header → List Found → List Found → Output RemarkRecord
+abbrev pub remarked_by : Option Header → List Finding → List Finding → Output RemarkRecord
 remarked_by h wrong odd = record {
   status = status_by wrong;
   bytes = texts_of (wrong ++ odd);
   records = records_from h 0 (wrong ++ odd);
 }
 
+-- these are found, each with some text, and remarked
+pub record IsRemarkedBy (h : Option Header) (found more : List Found) (x : Output RemarkRecord) : Type 0 where
+  pub wrong : List Finding
+  pub odd : List Finding
+  pub are_wrong : all_found wrong ≡ found
+  pub are_odd : all_found odd ≡ more
+  pub remarked : x ≡ remarked_by h wrong odd
+
 -- what is wrong in the bytes, and then what is odd in the file that they begin with
-abbrev pub remarked_in : List ℕ → Output RemarkRecord
-remarked_in bytes = remarked_by (header_by (decode bytes)) (wrong_by bytes (decode bytes)) (odd_by bytes (decode bytes))
+abbrev pub IsRemarked : List ℕ → Output RemarkRecord → Type 0
+IsRemarked bytes x = IsRemarkedBy (header_by (decode bytes)) (wrong_by bytes (decode bytes)) (odd_by bytes (decode bytes)) x
 
 abbrev pub remarks_in : Remarks → Output RemarkRecord
 remarks_in x = record { status = x.status; bytes = x.texts.items; records = x.records.items }

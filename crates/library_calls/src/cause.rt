@@ -143,7 +143,7 @@ fn read_number(fault: ReadFault) -> u32
         ReadFault::BadMagic => 12,
         ReadFault::OddSize => 13,
         // a device is never read
-        ReadFault::Device | ReadFault::Truncated => 14,
+        ReadFault::Device(_) | ReadFault::Truncated => 14,
         ReadFault::Memory(_) => 50,
     }
 }

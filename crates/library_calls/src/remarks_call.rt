@@ -2,17 +2,16 @@
 ghost use Rattle.std.specs.Prelude.{◌≡◌, ◌∷◌, ◌<◌, ◌^◌, [], IfOk, IfErr, None, Some, true};
 ghost use Rattle.aout_core.specs.Refusals.{refused};
 ghost use Rattle.aout_core.specs.WellFormed.{first_object_fault};
-ghost use Rattle.findings.specs.Found.{all_found, found_in};
-ghost use Rattle.findings.specs.Wrong.{wrong_in};
+ghost use Rattle.findings.specs.Wrong.{wrong_bytes, wrong_in};
 ghost use Rattle.suspicions.specs.Suspicions.{all_odd};
 ghost use Rattle.suspicions.specs.declared.evidence.Evidence.TheVariants.{Flow};
-ghost use Rattle.library_calls.specs.RemarkAnswers.{at_word, kind_number, located_in, located_if, records_from, remarked_by, remarked_in, remarks_in, status_by, texts_of};
+ghost use Rattle.library_calls.specs.RemarkAnswers.{IsRemarked, IsRemarkedBy, at_word, located_in, located_if, records_from, remarked_by, remarks_in, status_by, texts_of};
 ghost use Rattle.library_calls.specs.declared.cause.Cause.TheVariants.{Memory};
 
 use crate::cause::Cause;
-use aout_core::{File, Header, decode_file, object_fault};
+use aout_core::{File, Header, ReadFault, decode_file, object_fault};
 use disassemblies::Sweep;
-use findings::{FilePlaces, Finding, FindingKind, wrong_bytes, wrong_in};
+use findings::{FilePlaces, Finding, wrong_bytes, wrong_in};
 use std::alloc::{AllocError, Global};
 use suspicions::{Evidence, all_odd_of};
 
@@ -48,42 +47,6 @@ pub struct Remarks {
     /// The texts of the records, one after another.
     pub texts: Vec<u8>,
     pub records: Vec<RemarkRecord>,
-}
-
-fn kind_number(kind: FindingKind) -> u32
-    ensures { result ≡ kind_number kind }
-{
-    match kind {
-        FindingKind::ShortHeader => 1,
-        FindingKind::BadMagic => 2,
-        FindingKind::OddSize => 3,
-        FindingKind::Truncated => 4,
-        FindingKind::BadRelocation => 5,
-        FindingKind::BadSymbolNumber => 6,
-        FindingKind::MoreBadWords => 7,
-        FindingKind::IgnoredEntry => 8,
-        FindingKind::IgnoredWord => 9,
-        FindingKind::BytesAfterTable => 10,
-        FindingKind::IgnoredRelocationBits => 11,
-        FindingKind::OutsideReference => 12,
-        FindingKind::EmptyName => 13,
-        FindingKind::UnprintableName => 14,
-        FindingKind::BytesAfterName => 15,
-        FindingKind::RepeatedName => 16,
-        FindingKind::IgnoredTypeBits => 17,
-        FindingKind::UnknownType => 18,
-        FindingKind::OddCommon => 19,
-        FindingKind::OutsideValue => 20,
-        FindingKind::RelocatedFirstWord => 21,
-        FindingKind::UnsuitablePcBit => 22,
-        FindingKind::CutInstruction => 23,
-        FindingKind::NoInstruction => 24,
-        FindingKind::BranchOutside => 25,
-        FindingKind::BranchWithin => 26,
-        FindingKind::UnsuitableReference => 27,
-        FindingKind::UnsuitableAddress => 28,
-        FindingKind::AbsoluteText => 29,
-    }
 }
 
 /// The word of this index.
@@ -130,14 +93,14 @@ fn located_if(header: &Option<Header>, place: usize) -> Located
 
 /// The record of a finding whose text begins at this place of all texts.
 fn record_of(header: &Option<Header>, finding: &Finding, text: usize) -> RemarkRecord
-    ensures { result ∷ [] ≡ records_from header.now text (found_in finding.now ∷ []) }
+    ensures { result ∷ [] ≡ records_from header.now text (finding.now ∷ []) }
 {
     let at = located_if(header, finding.place);
     RemarkRecord {
         place: finding.place,
         text,
         text_size: finding.text.len(),
-        kind: kind_number(finding.kind),
+        kind: finding.kind.number(),
         part: at.part,
         word: at.word,
     }
@@ -152,9 +115,9 @@ fn put_records(
 ) -> Result<(), AllocError>
     requires texts { texts.old.items ≡ [] }
     requires records { records.old.items ≡ [] }
-    ensures texts { IfOk result (λ _. texts.new.items ≡ texts_of (all_found findings.now)) }
+    ensures texts { IfOk result (λ _. texts.new.items ≡ texts_of findings.now) }
     ensures records { IfOk result (λ _.
-        records.new.items ≡ records_from header.now 0 (all_found findings.now)) }
+        records.new.items ≡ records_from header.now 0 findings.now) }
 {
     for finding in findings {
         records.push(record_of(header, finding, texts.len()))?;
@@ -165,7 +128,7 @@ fn put_records(
 
 /// 1 if there is a finding.
 fn status_by(wrong: &[Finding]) -> u8
-    ensures { result ≡ status_by (all_found wrong.now) }
+    ensures { result ≡ status_by wrong.now }
 {
     match wrong {
         [] => 0,
@@ -181,7 +144,7 @@ fn remarks_by(
     odd: Vec<Finding>,
 ) -> Result<Remarks, AllocError>
     ensures { IfOk result (λ x.
-        remarks_in x ≡ remarked_by header.now (all_found wrong.items) (all_found odd.items)) }
+        remarks_in x ≡ remarked_by header.now wrong.items odd.items) }
 {
     let status = status_by(&wrong);
     let mut found = wrong;
@@ -198,10 +161,11 @@ fn remarks_by(
 }
 
 /// The remarks on a file that is in these bytes.
+#[tactic(auto, using(crate::proofs::RemarkLemmas::by_findings))]
 fn file_remarks(alloc: Global, bytes: &[u8], file: &File) -> Result<Remarks, AllocError>
-    ensures { IfOk result (λ x. remarks_in x ≡ remarked_by (Some file.now.header)
+    ensures { IfOk result (λ x. IsRemarkedBy (Some file.now.header)
         (wrong_in (first_object_fault file.now) file.now)
-        (all_odd Flow true bytes.now file.now)) }
+        (all_odd Flow true bytes.now file.now) (remarks_in x)) }
 {
     let wrong = wrong_in(alloc, file, object_fault(file))?;
     let sweep = Sweep::new(alloc, file)?;
@@ -209,19 +173,26 @@ fn file_remarks(alloc: Global, bytes: &[u8], file: &File) -> Result<Remarks, All
     remarks_by(alloc, &Some(*file.header()), wrong, odd)
 }
 
+/// The remarks on bytes that do not begin with a file.
+#[tactic(auto, using(crate::proofs::RemarkLemmas::by_findings))]
+fn refused_remarks(alloc: Global, bytes: &[u8], fault: ReadFault) -> Result<Remarks, AllocError>
+    ensures { IfOk result (λ x. IsRemarkedBy None (wrong_bytes fault bytes.now) [] (remarks_in x)) }
+{
+    let wrong = wrong_bytes(alloc, bytes, fault)?;
+    remarks_by(alloc, &None, wrong, Vec::new(alloc))
+}
+
 /// What is wrong and odd in the file that the bytes begin with, or what is wrong with bytes that do not begin with a file, as
 /// v7-explain(1) tells it. (a.out(5), own choice)
 ///
 /// An error: `Memory`, 50, if memory runs out.
+#[tactic(auto, using(crate::proofs::RemarkLemmas::by_decoding))]
 pub fn remarks_of(alloc: Global, bytes: &[u8]) -> Result<Remarks, Cause>
-    ensures ok { IfOk result (λ x. remarks_in x ≡ remarked_in bytes.now) }
+    ensures ok { IfOk result (λ x. IsRemarked bytes.now (remarks_in x)) }
     ensures err { IfErr result (λ cause. cause ≡ Memory refused) }
 {
     match decode_file(alloc, bytes)? {
         Ok(file) => Ok(file_remarks(alloc, bytes, &file)?),
-        Err(fault) => {
-            let wrong = wrong_bytes(alloc, bytes, fault)?;
-            Ok(remarks_by(alloc, &None, wrong, Vec::new(alloc))?)
-        }
+        Err(fault) => Ok(refused_remarks(alloc, bytes, fault)?),
     }
 }

@@ -1,4 +1,4 @@
-//! A use of each library, which the library's CALLING.md quotes, and a run of all of them. With the words `state FORCED EDITS
+//! A use of each library, and a run of all of them. With the words `state FORCED EDITS
 //! OBJECT..` it shows a session as libv7 does, for the cases of docs/CASES.md: the forced names and each object are those of a file,
 //! and the edits are letters, `a` to add the next object and `w` to withdraw the last.
 #![tactic(auto)]

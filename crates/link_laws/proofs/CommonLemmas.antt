@@ -12,7 +12,7 @@ use Rattle.link_session.proofs.{MentionLemmas.is_among-externals, UpdateLemmas.u
 use Rattle.link_out.specs.function.Plans.{Plan, plan, commons_laid, common_offset, common_size, commons_size, commons_total}
 use Rattle.link_out.specs.function.Finals.{Final, final, final_by, type_of, bound_at, waiting, reserved_or_waiting}
 use Rattle.link_out.specs.{function.Tables.external_row, function.Link.Outcome, function.Link.linked_file, function.Link.link}
-use Rattle.link_laws.specs.{CommonsAndLayouts.IsCommon, CommonsAndLayouts.HasSpace, relation.Relocated.entry_of}
+use Rattle.link_laws.specs.{CommonsAndEntries.IsCommon, CommonsAndEntries.HasSpace, relation.Relocated.entry_of}
 use Rattle.link_laws.proofs.{HasStateLemmas.state_is, ExternalLemmas.entry_there, MoveLemmas.data_begun, MoveLemmas.rest_back}
 use Rattle.link_out.proofs.OutcomeLemmas.{made_file, made_fits}
 

@@ -2,7 +2,6 @@
 pub mod RefusalLemmas
 pub mod LinkedTheorem
 pub mod LinkedRelocs
-pub mod LayoutLemmas
 pub mod SegmentLemmas
 pub mod CommonLemmas
 pub mod SaidLemmas

@@ -1,7 +1,7 @@
 -- What a linked file means, by the files that were linked and by the linked file alone. (ld(1))
 --
 -- Each law answers one question: where is this word or this definition in the linked file? Is this name reported, and rightly? They
--- follow from the relation of LinkedFrom, and no other proof rests on them. CommonsAndLayouts has more of them.
+-- follow from the relation of LinkedFrom, and no other proof rests on them. CommonsAndEntries has more of them.
 use Rattle.std.specs.Prelude.{◌≡◌, ◌≢◌, ◌↔◌, ℕ, true, false, eqb, List, [], ◌∷◌, ◌++◌, map, filter, Some, Ok, slice_get}
 use Rattle.std.specs.List.{AllByRecursion}
 use Rattle.aout_core.specs.{declared.symbol.Symbol.Symbol, declared.symbol.Segment.Segment, declared.reloc.Reloc.Reloc, Contents.Contents}

@@ -1,6 +1,6 @@
 //! What a linked file means, over definitions alone. The law is the contract of a function with an empty body.
 ghost use Rattle.link_laws.specs.WordsAndNames.{WordsAreRelocated, ObjectsFill, DefinitionsHold, MultiplesDiffer, NamesHaveAddresses, EntriesAreOnce};
-ghost use Rattle.link_laws.specs.CommonsAndLayouts.{CommonsHaveSpace, CommonsAreApart, EntryIsFound, MissingHaveNoAddress, PartialMayBeAdded, LayoutsDiffer};
+ghost use Rattle.link_laws.specs.CommonsAndEntries.{CommonsHaveSpace, CommonsAreApart, EntryIsFound, MissingHaveNoAddress, PartialMayBeAdded};
 
 /// What a linked file means, stated over the files that were linked and its own header and symbol table. All clauses that
 /// look something up in the table are about links that keep symbols. (a.out(5), ld(1))
@@ -19,8 +19,6 @@ ghost use Rattle.link_laws.specs.CommonsAndLayouts.{CommonsHaveSpace, CommonsAre
 /// - `missing`: a name that is reported undefined has a symbol without an address.
 /// - `added`: the file of a link with `-r` is an object that fits its header; `beyond_law` says when a session accepts that of a
 ///   partial link.
-/// - `layouts`: the links of two layouts differ in their magic, and in their symbols by where data and bss begin. They have the same
-///   relocation words and report. For the words see `words`.
 pub fn meaning_law()
     ensures words { WordsAreRelocated }
     ensures fill { ObjectsFill }
@@ -33,5 +31,4 @@ pub fn meaning_law()
     ensures entry { EntryIsFound }
     ensures missing { MissingHaveNoAddress }
     ensures added { PartialMayBeAdded }
-    ensures layouts { LayoutsDiffer }
 {}

@@ -12,3 +12,4 @@ pub mod SymbolNumberLemmas
 pub mod ReportNameLemmas
 pub mod FinishLemmas
 pub mod partial_links
+pub mod RunLemmas

@@ -2,10 +2,10 @@
 use Rattle.std.proofs.Common.{◌≡◌, ℕ, ◌+◌, ◌⊎◌, inl, inr, List, [], ◌∷◌, ◌++◌, map, length, drop, refl, sym}
 use Rattle.std.proofs.Common.{◌∙◌, ap, arith, length-append, append-nil, drop_of_length-le, ◌≤◌, rules}
 use Rattle.std.proofs.lemmas.List.{length-map}
-use Rattle.std.specs.Prelude.{filter, nat_lt, Option, IsNone, IsTrue, IfSome, ◌↔◌}
+use Rattle.std.specs.Prelude.{filter, not, nat_lt, Option, IsNone, IsTrue, IfSome, ◌↔◌}
 use Rattle.std.specs.List.{flat_map}
 use Rattle.aout_core.specs.{declared.symbol.Symbol.Symbol, declared.symbol.Segment.Segment, Contents.Contents}
-use Rattle.aout_core.specs.{WellFormed.segment_of}
+use Rattle.aout_core.specs.{WellFormed.segment_of, WellFormed.is_external}
 use Rattle.link_session.specs.Starts.{no_starts, starts_after, next_starts, shifts_at}
 use Rattle.link_session.specs.{Earlier.with_earlier, Labelled.Labelled, Labelled.objects, declared.relocate.Starts.Starts}
 use Rattle.link_session.specs.{Mentions.names_by_first_mention, States.state, Image.Named, Image.named_states}
@@ -47,8 +47,13 @@ length-rows_from : (b : Bases) (keep : Keep) (s : Starts) (os : List Contents) �
 length-rows_from b keep s [] = refl
 length-rows_from b keep s (o ∷ os) = search (rules, length-append, length-map, length-rows_from b keep (next_starts s o.header) os)
 
-length-local_rows : (p : Plan) (os : List Contents) → length (local_rows p os) ≡ kept_count p.choices.keep os
+pub length-local_rows : (p : Plan) (os : List Contents) → length (local_rows p os) ≡ kept_count p.choices.keep os
 length-local_rows p os = cc (rows_from-local_rows p os, length-rows_from p.at p.choices.keep no_starts os)
+
+-- all locals are kept
+pub all_kept : (symbols : List Symbol) → filter (λ s. not (is_external s)) symbols ≡ filter (is_kept_local keeps.All) symbols
+all_kept [] = refl
+all_kept (s ∷ ss) = search (rules, all_kept ss)
 
 -- nothing is kept
 nothing_kept : (symbols : List Symbol) → filter (is_kept_local keeps.Nothing) symbols ≡ []

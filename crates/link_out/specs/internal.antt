@@ -3,6 +3,7 @@ pub mod Entries
 pub mod FromCells
 pub mod Headers
 pub mod InOrder
+pub mod MadeEdits
 pub mod OneProof
 pub mod Passes
 pub mod Planned

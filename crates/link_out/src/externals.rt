@@ -33,7 +33,7 @@ pub fn link_externals(
         return Ok(None);
     }
     let finals = finals_of(alloc, &plan)?;
-    let mut rows = Vec::new(alloc);
-    put_externals(&mut rows, session, &finals)?;
+    let mut rows = Vec::with_capacity(alloc, session.external_count() as usize)?;
+    put_externals(&mut rows, session, &finals);
     Ok(Some(rows))
 }

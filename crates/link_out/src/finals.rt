@@ -104,7 +104,7 @@ fn finals_in(
     let mut finals = Vec::with_capacity(alloc, session.external_count() as usize)?;
     let mut offset = 0;
     for (name, state) in session.externals() {
-        finals.push(final_at(options, bases, offset, name, state))?;
+        finals.push_reserved(final_at(options, bases, offset, name, state));
         offset += common_size(state);
     }
     Ok(finals)

@@ -40,10 +40,17 @@ pub(crate) fn is_kept_local(keep: Keep, symbol: &Symbol) -> bool
     !symbol.is_external() && keeps(keep, &symbol.name)
 }
 
-/// How many of the symbols are locals that are kept.
+/// How many of the symbols are locals that are kept. If all locals are, their names are not read.
+#[tactic(auto, using(crate::proofs::RowLemmas::all_kept))]
 fn count_kept(keep: Keep, symbols: &[Symbol]) -> usize
     ensures { result ≡ count_in keep symbols.now }
 {
+    if keep == Keep::All {
+        return symbols
+            .iter()
+            .filter(|symbol| !symbol.is_external())
+            .count();
+    }
     symbols
         .iter()
         .filter(|symbol| is_kept_local(keep, symbol))

@@ -7,7 +7,7 @@ ghost use Rattle.aout_core.specs.WellFormed.{IsWellFormed};
 ghost use Rattle.link_out.specs.function.Link.{link_of, linked_file};
 ghost use Rattle.link_out.specs.internal.FromCells as from_cells;
 ghost use Rattle.link_out.specs.internal.Passes.{IsPassed};
-ghost use Rattle.link_out.specs.internal.Planned.{plan_in, objects_in, table_in, link_in, AreWords, AreRelocs};
+ghost use Rattle.link_out.specs.internal.Planned.{plan_in, objects_in, table_in, locals_in, link_in, AreWords, AreRelocs};
 ghost use Rattle.link_out.specs.Outcomes.{IsLinkOf};
 
 use crate::finals::{Final, finals_of};
@@ -50,7 +50,7 @@ pub fn finish(alloc: Global, session: &Session, options: &Options) -> Result<Lin
     // empty without `-r`; externals are numbered after the locals
     let relocs = relocs_of(alloc, &plan, &finals, locals)?;
     // the symbol table: the locals that are kept, then the externals
-    let symbols = table(alloc, &plan, &finals)?;
+    let symbols = table(alloc, &plan, &finals, locals)?;
     // multiply defined, reserved and undefined names, and an entry name that is not in text
     let report = report_of(alloc, &plan, &finals)?;
     let file = file_of(&plan, &finals, words, relocs, symbols);
@@ -62,6 +62,7 @@ pub fn finish(alloc: Global, session: &Session, options: &Options) -> Result<Lin
 fn check_limits(plan: &Plan<'_>) -> Result<u16, LinkFault>
     ensures passed { IfOk result (IsPassed (plan_in plan.now) (objects_in plan.now)) }
     ensures short { IfOk result (λ _. plan.now.bases.bss_end ≤ 65535) }
+    ensures locals { IfOk result (λ n. n ≡ length (locals_in plan.now)) }
     ensures refused { IfErr result (λ fault. link_in plan.now ≡ Err fault) }
 {
     if LAST_ADDRESS < plan.bases.bss_end {

@@ -1,12 +1,12 @@
 //! The symbol table of a linked file.
-ghost use Rattle.std.specs.Prelude.{◌≡◌, ◌++◌, IfOk, OnOk};
+ghost use Rattle.std.specs.Prelude.{◌≡◌, ◌+◌, ◌≤◌, ◌++◌, length, vec_len, vec_capacity, IfOk};
 ghost use Rattle.link_session.specs.Labelled.{objects};
 ghost use Rattle.link_session.specs.Starts.{no_starts};
 ghost use Rattle.link_session.specs.Undo.{image_of};
 ghost use Rattle.link_out.specs.function.Finals.{type_of};
 ghost use Rattle.link_out.specs.internal.FromCells as from_cells;
-ghost use Rattle.link_out.specs.internal.Planned.{plan_in, table_in};
-ghost use Rattle.link_out.specs.internal.Rows.{moves_by, value_moved, symbol_moved, rows_in, rows_from, row_with, rows_with};
+ghost use Rattle.link_out.specs.internal.Planned.{plan_in, table_in, locals_in};
+ghost use Rattle.link_out.specs.internal.Rows.{moves_by, value_moved, symbol_moved, rows_in, rows_from, row_with, rows_with, count_in, kept_count};
 
 use crate::finals::Final;
 use crate::kept_symbols::is_kept_local;
@@ -62,39 +62,41 @@ impl Moves {
     }
 }
 
-/// Appends the kept locals of an object.
-fn put_locals_of(
-    rows: &mut Vec<Symbol>,
-    keep: Keep,
-    moves: &Moves,
-    symbols: &[Symbol],
-) -> Result<(), AllocError>
-    ensures { OnOk result (rows.new.items ≡ rows.old.items ++ rows_in keep moves.now symbols.now) }
+/// Appends the kept locals of an object. There is space for them.
+fn put_locals_of(rows: &mut Vec<Symbol>, keep: Keep, moves: &Moves, symbols: &[Symbol])
+    requires { vec_len rows.old + count_in keep symbols.now ≤ vec_capacity rows.old }
+    ensures rows { rows.new.items ≡ rows.old.items ++ rows_in keep moves.now symbols.now }
+    ensures len { vec_len rows.new ≡ vec_len rows.old + count_in keep symbols.now }
+    ensures capacity { vec_capacity rows.new ≡ vec_capacity rows.old }
 {
     for symbol in symbols {
         if is_kept_local(keep, symbol) {
-            rows.push(moves.symbol(symbol))?;
+            rows.push_reserved(moves.symbol(symbol));
         }
     }
-    Ok(())
 }
 
-/// The kept locals of all objects, in order, moved with their segments. An error: out of memory.
+/// The kept locals of all objects, in order, moved with their segments, with space for `room` rows in all. An error: out of
+/// memory.
 fn kept_locals(
     alloc: Global,
     entries: &[Entry],
     keep: Keep,
     bases: &Bases,
+    room: usize,
 ) -> Result<Vec<Symbol>, AllocError>
-    ensures { IfOk result (λ rows.
+    requires { kept_count keep (objects entries.now) ≤ room }
+    ensures rows { IfOk result (λ rows.
         rows.items ≡ rows_from bases.now keep no_starts (objects entries.now)) }
+    ensures len { IfOk result (λ rows. vec_len rows ≡ kept_count keep (objects entries.now)) }
+    ensures space { IfOk result (λ rows. room ≤ vec_capacity rows) }
 {
-    let mut rows = Vec::new(alloc);
+    let mut rows = Vec::with_capacity(alloc, room)?;
     let mut starts = Starts::first();
     for entry in entries {
         let file = entry.object().file();
         let moves = Moves::by(bases, &starts.shifts(file.header()));
-        put_locals_of(&mut rows, keep, &moves, file.symbols())?;
+        put_locals_of(&mut rows, keep, &moves, file.symbols());
         starts = starts.after(file.header());
     }
     Ok(rows)
@@ -121,35 +123,34 @@ fn row_for(name: Name, last: &Final) -> Symbol
     }
 }
 
-/// Appends the rows of the externals, by first mention.
-pub(crate) fn put_externals(
-    rows: &mut Vec<Symbol>,
-    session: &Session,
-    finals: &[Final],
-) -> Result<(), AllocError>
-    ensures { OnOk result
-        (rows.new.items ≡ rows.old.items ++ rows_with (image_of session.now).externals finals.now) }
+/// Appends the rows of the externals, by first mention. There is space for them.
+pub(crate) fn put_externals(rows: &mut Vec<Symbol>, session: &Session, finals: &[Final])
+    requires { vec_len rows.old + length (image_of session.now).externals ≤ vec_capacity rows.old }
+    ensures { rows.new.items
+        ≡ rows.old.items ++ rows_with (image_of session.now).externals finals.now }
 {
     for ((name, _), last) in session.externals().zip(finals) {
-        rows.push(row_for(name, last))?;
+        rows.push_reserved(row_for(name, last));
     }
-    Ok(())
 }
 
-/// The symbol table: the kept locals, object by object, and then the externals, of which `finals` says what becomes.
+/// The symbol table: the kept locals, so many, object by object, and then the externals, of which `finals` says what becomes.
 /// An error: out of memory.
 pub(crate) fn table(
     alloc: Global,
     plan: &Plan<'_>,
     finals: &[Final],
+    locals: u16,
 ) -> Result<Vec<Symbol>, AllocError>
-    requires { finals.now ≡ from_cells.finals (plan_in plan.now) }
+    requires finals { finals.now ≡ from_cells.finals (plan_in plan.now) }
+    requires locals { locals ≡ length (locals_in plan.now) }
     ensures { IfOk result (λ rows. rows.items ≡ table_in plan.now) }
 {
     if plan.keep == Keep::Nothing {
         return Ok(Vec::new(alloc));
     }
-    let mut rows = kept_locals(alloc, plan.entries, plan.keep, &plan.bases)?;
-    put_externals(&mut rows, plan.session, finals)?;
+    let room = locals as usize + plan.session.external_count() as usize;
+    let mut rows = kept_locals(alloc, plan.entries, plan.keep, &plan.bases, room)?;
+    put_externals(&mut rows, plan.session, finals);
     Ok(rows)
 }

@@ -3,6 +3,7 @@
 
 pub mod ListLemmas
 pub mod WordLemmas
+pub mod LinkLemmas
 pub mod EarlierLemmas
 pub mod MentionLemmas
 pub mod StartLemmas

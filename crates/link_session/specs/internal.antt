@@ -2,6 +2,7 @@
 pub mod Updates
 pub mod Additions
 pub mod NewNames
+pub mod Links
 pub mod Chains
 pub mod Settled
 pub mod Counts

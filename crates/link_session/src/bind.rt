@@ -60,7 +60,7 @@ fn bind_chain(
     ensures all { OnOk result.1 (result.0 ≡ None) }
 {
     let mut next = head;
-    while let Some(place) = next {
+    while let Some(place) = next.place() {
         if let Err(error) = bind_cell(image, marks, place, definition) {
             return (next, Err(error));
         }
@@ -80,7 +80,7 @@ fn bind_external(image: &mut Merged, marks: &mut Vec<Mark>, place: u16) -> Resul
     ensures few { OnOk result (NotesBoundIn image.old image.new marks.old.items marks.new.items) }
 {
     let head = link_in(&image.heads, place);
-    if head.is_none() {
+    if head.place().is_none() {
         return Ok(());
     }
     let State::Defined(segment, offset) = state_at(&image.externals, place) else {
@@ -116,6 +116,7 @@ pub(crate) fn bind_waiting(
 mod tests {
     use super::{Definition, bind_chain};
     use crate::cell::{Cell, Target};
+    use crate::chain::Link;
     use crate::mark::Place;
     use crate::merged::Merged;
     use aout_core::Segment;
@@ -135,20 +136,24 @@ mod tests {
         };
         let mut image = Merged::new(rt.alloc());
         image.text_cells = Vec::from_array(rt.alloc(), [waits, other, waits, other])?;
-        image.text_links = Vec::from_array(rt.alloc(), [None, None, None, None])?;
+        image.text_links = Vec::from_array(
+            rt.alloc(),
+            [Link::end(), Link::end(), Link::end(), Link::end()],
+        )?;
         let seven = Definition {
             segment: Segment::Absolute,
             offset: 7,
         };
         let mut marks = Vec::new(rt.alloc());
-        let (rest, _) = bind_chain(&mut image, &mut marks, Some(Place::InText(2)), seven);
+        let (rest, done) = bind_chain(&mut image, &mut marks, Link::to(Place::InText(2)), seven);
+        done?;
         let bound = Cell {
             value: 7,
             target: Target::Absolute,
             pc: false,
         };
-        assert!(rt; rest.is_some() || image.text_cells[2] == bound);
-        assert!(rt; image.text_cells[0] == waits);
+        assert!(rt; rest.place().is_none());
+        assert!(rt; image.text_cells.as_slice() == [waits, other, bound, other].as_slice());
         Ok(())
     }
 }

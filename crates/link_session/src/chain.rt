@@ -19,16 +19,77 @@ ghost use Rattle.link_session.specs.internal.Threads.{grown_heads};
 
 use crate::cell::{Cell, Target};
 use crate::mark::Place;
+use std::marker::Model;
 
-/// The next place of a chain, or its end.
-pub(crate) type Link = Option<Place>;
+/// The next place of a chain, as one number of four bytes: 0 is the end, 1 plus its index is a word of text, and 65,537 plus its
+/// index a word of data.
+#[derive(Clone, Copy)]
+pub(crate) struct Link {
+    coded: u32,
+}
+
+impl Model for Link {
+    ghost use Rattle.std.specs.Prelude.{Option};
+    ghost use Rattle.link_session.specs.declared.mark.Place.{Place};
+
+    ghost Value = { Option Place };
+
+    ghost use Rattle.std.specs.Prelude.{◌≡◌, ◌≤◌, ◌*◌};
+    ghost use Rattle.link_session.specs.internal.Links.{linked_place, link_code};
+
+    ghost view = { λ a. linked_place a.coded };
+
+    ghost invariant = { λ a. (link_code (linked_place a.coded) ≡ a.coded) × (a.coded ≤ 131072) };
+
+    ghost inverse = { λ next. record { coded = link_code next } };
+
+    ghost inverse_ok = { λ a h i. record { coded = h.0 i } };
+}
+
+impl Link {
+    /// The end of a chain.
+    pub(crate) fn end() -> Link
+        ensures { result ≡ None }
+    {
+        Link { coded: 0 }
+    }
+
+    /// The link to a place.
+    #[tactic(auto, using(crate::proofs::LinkLemmas::text_link, crate::proofs::LinkLemmas::data_link))]
+    pub(crate) fn to(place: Place) -> Link
+        ensures { result ≡ Some place }
+    {
+        match place {
+            Place::InText(index) => Link {
+                coded: index as u32 + 1,
+            },
+            Place::InData(index) => Link {
+                coded: index as u32 + 65_537,
+            },
+        }
+    }
+
+    /// The place that it leads to, if it leads on.
+    pub(crate) fn place(self) -> Option<Place>
+        ensures { result ≡ self }
+    {
+        if self.coded == 0 {
+            return None;
+        }
+        let index = self.coded - 1;
+        if index < 65_536 {
+            return Some(Place::InText(index as u16));
+        }
+        Some(Place::InData((index - 65_536) as u16))
+    }
+}
 
 pub(crate) fn link_in(links: &[Link], index: u16) -> Link
     ensures { result ≡ slice_index_or links.now index None }
 {
     match links.get(index as usize) {
         Some(link) => *link,
-        None => None,
+        None => Link::end(),
     }
 }
 
@@ -48,7 +109,7 @@ pub(crate) fn grow_heads(heads: &mut Vec<Link>, count: usize)
     ensures { heads.new.items ≡ grown_heads count heads.old.items }
 {
     while heads.len() < count {
-        heads.push_reserved(None);
+        heads.push_reserved(Link::end());
     }
 }
 
@@ -58,7 +119,7 @@ fn head_of(heads: &[Link], target: Target) -> Link
 {
     match target {
         Target::External(index) => link_in(heads, index),
-        _ => None,
+        _ => Link::end(),
     }
 }
 
@@ -77,7 +138,7 @@ pub(crate) fn thread(heads: &mut [Link], target: Target, place: Place) -> Link
     ensures heads { heads.new ≡ with_head target (Some place) heads.old }
 {
     let link = head_of(heads, target);
-    set_head(heads, target, Some(place));
+    set_head(heads, target, Link::to(place));
     link
 }
 

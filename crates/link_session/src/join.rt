@@ -1,5 +1,5 @@
 //! An object joined to the merged image.
-ghost use Rattle.std.specs.Prelude.{◌≡◌, ◌+◌, ◌*◌, ◌≤◌, ◌<◌, None, filter, length, vec_len, vec_capacity, OnOk, OnErr, IfOk};
+ghost use Rattle.std.specs.Prelude.{◌≡◌, ◌+◌, ◌*◌, ◌≤◌, ◌<◌, [], None, filter, length, vec_len, vec_capacity, OnOk, OnErr, IfOk};
 ghost use Rattle.indexmap.specs.IndexMap.{spare};
 ghost use Rattle.aout_core.specs.declared.symbol.Segment.TheVariants as segments;
 ghost use Rattle.aout_core.specs.Contents.{Fits};
@@ -22,6 +22,7 @@ use crate::session::UndoRecord;
 use crate::undo::undo;
 use aout_core::{File, Name, Object, Segment};
 use std::alloc::{AllocError, Global};
+use std::mem::replace;
 
 /// The words of an object's text.
 fn text_of(file: &File) -> Words<'_>
@@ -182,6 +183,70 @@ fn append_object(image: &mut Merged, file: &File, shifts: &Shifts, places: &[u16
 }
 
 /// Requests memory for an object and its marks, and joins the object to the image: the marks hold what it overwrote. An error
+/// changes nothing but capacity. Both lists are empty at first; the second is filled with the places of the object's symbols.
+fn take_in_with(
+    entries: &mut Vec<Entry>,
+    undo_records: &mut Vec<UndoRecord>,
+    image: &mut Merged,
+    object: &Object,
+    mut marks: Vec<Mark>,
+    mut places: Vec<u16>,
+) -> Result<(Vec<Mark>, Vec<u16>), AllocError>
+    requires no_marks { marks.items ≡ [] }
+    requires no_places { places.items ≡ [] }
+    requires small { IsSmall (image_in image.old) }
+    requires threaded { IsThreaded (image_in image.old) (threads_in image.old) }
+    requires covered { IsCovered (image_in image.old) object.now }
+    requires fits { next_limit (image_in image.old) object.now ≡ None }
+    ensures entries { entries.new.items ≡ entries.old.items }
+    ensures undo_records { undo_records.new.items ≡ undo_records.old.items }
+    ensures entries_space { OnOk result (vec_len entries.new < vec_capacity entries.new) }
+    ensures undo_records_space { OnOk result
+        (vec_len undo_records.new < vec_capacity undo_records.new) }
+    ensures image { OnOk result
+        (image_in image.new ≡ joined_image (image_in image.old) object.now) }
+    ensures threads { OnOk result (threads_in image.new
+        ≡ next_threads (image_in image.old) object.now (threads_in image.old)) }
+    ensures marks { IfOk result (λ lists.
+        TakesBack (image_in image.old) object.now (threads_in image.old).heads lists.0.items) }
+    ensures err { OnErr result ((image_in image.new ≡ image_in image.old)
+        × (threads_in image.new ≡ threads_in image.old)) }
+{
+    entries.reserve(1)?;
+    undo_records.reserve(1)?;
+    let file = object.file();
+    let sizes = image.sizes();
+    let shifts = next_shifts(image, object);
+    reserve_all(image, &mut marks, &mut places, file)?;
+    let table = Table {
+        symbols: file.symbols(),
+        shifts,
+    };
+    enter_all(
+        &mut image.externals,
+        &mut image.multiples,
+        &mut marks,
+        &mut places,
+        &table,
+    );
+    if let Err(refused) = bind_waiting(image, &mut marks, &places) {
+        undo(image, &marks, &sizes);
+        return Err(refused);
+    }
+    append_object(image, file, &shifts, &places);
+    Ok((marks, places))
+}
+
+/// These marks in a list that takes no more memory than they need. An error: out of memory.
+fn copy_of(alloc: Global, marks: &[Mark]) -> Result<Vec<Mark>, AllocError>
+    ensures { IfOk result (λ kept. kept.items ≡ marks.now) }
+{
+    let mut kept = Vec::with_capacity(alloc, marks.len())?;
+    kept.extend_from_slice(marks)?;
+    Ok(kept)
+}
+
+/// Requests memory for an object and its marks, and joins the object to the image: the marks hold what it overwrote. An error
 /// changes nothing but capacity.
 pub(crate) fn take_in(
     entries: &mut Vec<Entry>,
@@ -208,29 +273,18 @@ pub(crate) fn take_in(
     ensures err { OnErr result ((image_in image.new ≡ image_in image.old)
         × (threads_in image.new ≡ threads_in image.old)) }
 {
-    entries.reserve(1)?;
-    undo_records.reserve(1)?;
-    let file = object.file();
-    let sizes = image.sizes();
-    let shifts = next_shifts(image, object);
-    let mut marks = Vec::new(alloc);
-    let mut places = Vec::new(alloc);
-    reserve_all(image, &mut marks, &mut places, file)?;
-    let table = Table {
-        symbols: file.symbols(),
-        shifts,
-    };
-    enter_all(
-        &mut image.externals,
-        &mut image.multiples,
-        &mut marks,
-        &mut places,
-        &table,
-    );
-    if let Err(refused) = bind_waiting(image, &mut marks, &places) {
-        undo(image, &marks, &sizes);
-        return Err(refused);
+    let mut marks = replace(&mut image.noted, Vec::new(alloc));
+    marks.clear();
+    let mut places = replace(&mut image.places, Vec::new(alloc));
+    places.clear();
+    let (marks, places) = take_in_with(entries, undo_records, image, object, marks, places)?;
+    image.places = places;
+    match copy_of(alloc, &marks) {
+        Ok(kept) => {
+            image.noted = marks;
+            Ok(kept)
+        }
+        // then the list itself is kept
+        Err(_) => Ok(marks),
     }
-    append_object(image, file, &shifts, &places);
-    Ok(marks)
 }

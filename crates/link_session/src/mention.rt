@@ -14,6 +14,7 @@ use crate::merged::Externals;
 use crate::relocate::Shifts;
 use crate::state::{State, changes, clashes, updated_state};
 use aout_core::{Name, Segment, Symbol};
+use indexmap::map::Entry;
 
 /// What stands for the place of a symbol that is not external: no name has it.
 pub(crate) const NO_PLACE: u16 = u16::MAX;
@@ -116,23 +117,6 @@ pub(crate) fn mention(externals: &mut Externals, name: Name, says: State)
     update(externals, name, says);
 }
 
-/// The place of a known name, if no more is said than that it is wanted: that changes nothing.
-fn plain_mention(externals: &Externals, claim: &Claim) -> Option<usize>
-    ensures place { IfSome result (λ place. place ≡ place_in externals.now.entries claim.now.name) }
-    ensures within { IfSome result (λ place. place < length externals.now.entries) }
-    ensures names { IfSome result (λ _. with_mention externals.now.entries
-        (mention_of claim.now.name claim.now.says) ≡ externals.now.entries) }
-    ensures multiples { IfSome result (λ _.
-        clash externals.now.entries (mention_of claim.now.name claim.now.says) ≡ []) }
-    ensures marks { IfSome result (λ _. (kept : ℕ)
-        → state_mark kept externals.now.entries (mention_of claim.now.name claim.now.says) ≡ []) }
-{
-    match claim.says {
-        State::Wanted(0) => externals.get_index_of(&claim.name),
-        _ => None,
-    }
-}
-
 /// Enters an external symbol of an object, and answers the place of its name. There is space for it; `kept` names were
 /// there before the object.
 fn enter(
@@ -160,14 +144,27 @@ fn enter(
     ensures marks_len { vec_len marks.new ≤ vec_len marks.old + 1 }
     ensures marks_capacity { vec_capacity marks.old ≤ vec_capacity marks.new }
 {
-    if let Some(place) = plain_mention(externals, &claim) {
-        return place as u16;
-    }
     let Claim { name, says } = claim;
-    let (place, was) = update(externals, name, says);
-    note_state(marks, kept, place, was, says);
-    note_clash(multiples, name, was, says);
-    place as u16
+    match externals.entry(name).unwrap() {
+        Entry::Occupied(mut known) => {
+            let place = known.index();
+            let was = *known.get();
+            if !changes(was, says) {
+                note_clash(multiples, name, was, says);
+                return place as u16;
+            }
+            known.insert(updated_state(was, says));
+            note_state(marks, kept, place, was, says);
+            note_clash(multiples, name, was, says);
+            place as u16
+        }
+        Entry::Vacant(new) => {
+            let place = new.index();
+            new.insert_entry(says);
+            note_state(marks, kept, place, State::Wanted(0), says);
+            place as u16
+        }
+    }
 }
 
 /// Enters all external symbols of an object, in order, and appends the place of each symbol's name. There is space for

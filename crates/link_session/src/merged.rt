@@ -5,7 +5,7 @@ ghost use Rattle.link_session.specs.internal.Fields.{image_in, threads_in, no_th
 
 use crate::cell::Cell;
 use crate::chain::{Link, link_in};
-use crate::mark::Place;
+use crate::mark::{Mark, Place};
 use crate::state::State;
 use aout_core::Name;
 use indexmap::IndexMap;
@@ -28,6 +28,10 @@ pub(crate) struct Merged {
     pub(crate) data_links: Vec<Link>,
     /// For each external, the place of the first cell that waits for it.
     pub(crate) heads: Vec<Link>,
+    /// Space for the marks of the next addition.
+    pub(crate) noted: Vec<Mark>,
+    /// Space for the places of the next object's symbols.
+    pub(crate) places: Vec<u16>,
 }
 
 /// The sizes of an image: what is after them was added later.
@@ -59,6 +63,8 @@ impl Merged {
             text_links: Vec::new(alloc),
             data_links: Vec::new(alloc),
             heads: Vec::new(alloc),
+            noted: Vec::new(alloc),
+            places: Vec::new(alloc),
         }
     }
 

@@ -263,7 +263,7 @@ pub(crate) fn append_cells(
     let kept = cells.len();
     let before = links.len();
     cells.resize(kept + own.words.len(), empty).unwrap();
-    links.resize(before + own.words.len(), None).unwrap();
+    links.resize(before + own.words.len(), Link::end()).unwrap();
     fill_cells(
         &mut cells[kept..],
         &mut links[before..],

@@ -5,7 +5,7 @@ ghost use Rattle.link_session.specs.internal.Fields.{image_in, threads_in, sizes
 ghost use Rattle.link_session.specs.Undo.{put_back, with_state, cut_to, undo};
 
 use crate::cell::Cell;
-use crate::chain::{set_head, unthread};
+use crate::chain::{Link, set_head, unthread};
 use crate::mark::{Mark, Place};
 use crate::merged::{Externals, Merged, Sizes};
 use crate::state::State;
@@ -59,7 +59,7 @@ fn put_back(image: &mut Merged, mark: Mark)
                 Place::InText(index) => put_cell(&mut image.text_cells, index, cell),
                 Place::InData(index) => put_cell(&mut image.data_cells, index, cell),
             }
-            set_head(&mut image.heads, cell.target, Some(place));
+            set_head(&mut image.heads, cell.target, Link::to(place));
         }
         Mark::StateWas(index, state) => put_state(&mut image.externals, index, state),
     }

@@ -1,3 +1,1 @@
-pub mod MapTextLemmas
-pub mod PutLemmas
-pub mod SizeLemmas
+pub mod AskedLemmas

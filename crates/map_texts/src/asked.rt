@@ -1,17 +1,17 @@
 //! What arguments ask of a map: names, objects and addresses, and what the link does not have.
-ghost use Rattle.std.specs.Prelude.{◌≡◌, ◌++◌, map, string_bytes, IfOk, OnOk};
+ghost use Rattle.std.specs.Prelude.{◌≡◌, if◌then◌else◌, false, true, map, string_bytes, IfOk, OnOk};
 ghost use Rattle.link_maps.specs.Uses.{name_of};
-ghost use Rattle.texts.specs.Texts.{Puts};
 ghost use Rattle.link_maps.specs.Oddities.{each_once};
-ghost use Rattle.map_texts.specs.Asked.{asked_of, has_path, has_some, nothing_asked, octal_number, spots_of, with_argument, with_spots};
-ghost use Rattle.map_texts.specs.Whole.{absent_line, absent_lines};
+ghost use Rattle.map_texts.specs.Asked.{has_absent, has_path, is_absent, octal_number};
 
+use crate::mapped::Mapped;
+use crate::names::{self, Section};
 use aout_core::Name;
 use indexmap::IndexSet;
 use link_maps::{LinkMap, Member, Spot, Use, spots_at};
 use std::alloc::{AllocError, Global};
 use std::marker::Model;
-use texts::Text;
+use texts::{Printable, Text};
 
 /// What arguments ask of a map.
 #[derive(Drop)]
@@ -26,14 +26,14 @@ pub struct Asked {
     pub(crate) absent: Vec<String>,
 }
 
+/// Whether an argument is absent: the status of a map depends on it.
 impl Model for Asked {
-    ghost use Rattle.map_texts.specs.Asked as spec;
+    ghost use Rattle.std.specs.Prelude.{Bool};
+    ghost use Rattle.map_texts.specs.Asked.{has_some};
 
-    ghost Value = { spec.Asked };
+    ghost Value = { Bool };
 
-    ghost use Rattle.std.specs.Prelude.{map, string_bytes};
-
-    ghost view = { λ a. record { names = a.names.keys; paths = map string_bytes a.paths.items; spots = a.spots.items; absent = map string_bytes a.absent.items } };
+    ghost view = { λ a. has_some a.absent.items };
 }
 
 /// The names of these uses, each once.
@@ -72,20 +72,10 @@ fn octal_number(digits: &[u8]) -> Option<u64>
     Some(sum)
 }
 
-/// What a link has at an address, if there is one.
-fn spots_of(alloc: Global, map: &LinkMap, address: Option<u64>) -> Result<Vec<Spot>, AllocError>
-    ensures { IfOk result (λ spots. spots.items ≡ spots_of map.now address) }
-{
-    match address {
-        Some(address) => spots_at(alloc, map, address),
-        None => Ok(Vec::new(alloc)),
-    }
-}
-
 impl Asked {
     /// Nothing.
     pub(crate) fn nothing(alloc: Global) -> Asked
-        ensures { result ≡ nothing_asked }
+        ensures { result ≡ false }
     {
         Asked {
             names: IndexSet::new(alloc),
@@ -95,18 +85,8 @@ impl Asked {
         }
     }
 
-    /// Adds what a link has at an address, or if there is nothing, the argument that asks for it.
-    fn put_spots(&mut self, alloc: Global, argument: &str, spots: &[Spot]) -> Result<(), AllocError>
-        ensures { OnOk result (self.new ≡ with_spots self.old argument.now spots.now) }
-    {
-        if spots.is_empty() {
-            self.absent.push(String::from_str(alloc, argument)?)?;
-            return Ok(());
-        }
-        self.spots.extend_from_slice(spots)
-    }
-
-    /// Adds what an argument asks of a map with these names.
+    /// Adds what an argument asks of a map: a name of the link, else the path of an object, else an address in octal digits.
+    #[tactic(auto, using(crate::proofs::AskedLemmas::has_more))]
     fn put(
         &mut self,
         alloc: Global,
@@ -115,27 +95,33 @@ impl Asked {
         argument: &str,
     ) -> Result<(), AllocError>
         ensures { OnOk result
-            (self.new ≡ with_argument known.now.keys map.now self.old argument.now) }
+            (self.new ≡ (if is_absent known.now.keys map.now argument.now then true else self.old)) }
     {
         let name = Name::from_bytes(argument.as_bytes());
         if known.contains(&name) {
             self.names.insert(name)?;
             return Ok(());
         }
+        let copy = String::from_str(alloc, argument)?;
         if has_path(&map.members, argument) {
-            self.paths.push(String::from_str(alloc, argument)?)?;
+            self.paths.push(copy)?;
             return Ok(());
         }
-        let spots = spots_of(alloc, map, octal_number(argument.as_bytes()))?;
-        self.put_spots(alloc, argument, &spots)
+        if let Some(address) = octal_number(argument.as_bytes()) {
+            let spots = spots_at(alloc, map, address)?;
+            if !spots.is_empty() {
+                return self.spots.extend_from_slice(&spots);
+            }
+        }
+        self.absent.push(copy)?;
+        Ok(())
     }
 
-    /// What these arguments ask of a map, each in turn. An argument is a name of the link, else the path of an object, else an address in
-    /// octal digits. What is none of these, and an address that the link does not have, is absent. (own choice)
+    /// What these arguments ask of a map, each in turn. What the link does not have is absent. (own choice)
     ///
     /// An error: out of memory.
     pub fn of(alloc: Global, link: &LinkMap, arguments: &[String]) -> Result<Asked, AllocError>
-        ensures { IfOk result (λ a. a ≡ asked_of link.now (map string_bytes arguments.now)) }
+        ensures { IfOk result (λ a. a ≡ has_absent link.now (map string_bytes arguments.now)) }
     {
         let known = &used_names(alloc, &link.uses)?;
         let mut asked = Asked::nothing(alloc);
@@ -147,40 +133,20 @@ impl Asked {
 
     /// Whether an argument is absent.
     pub fn has_absent(&self) -> bool
-        ensures { result ≡ has_some self.now.absent }
+        ensures { result ≡ self.now }
     {
-        match self.absent.as_slice() {
-            [] => false,
-            _ => true,
-        }
+        !self.absent.is_empty()
     }
 
-    /// Whether a name is asked for.
-    pub(crate) fn has_names(&self) -> bool
-        ensures { result ≡ has_some self.now.names }
-    {
-        match self.names.as_slice() {
-            [] => false,
-            _ => true,
+    /// Adds the names that are asked for, and what is absent, if there is one.
+    pub(crate) fn put_names(&self, text: &mut Text, mapped: &Mapped<'_>) {
+        if self.names.is_empty() && self.absent.is_empty() {
+            return;
         }
-    }
-}
-
-/// Adds that a link does not have what an argument asks for.
-#[tactic(auto, unfolding(crate::specs::Whole::absent_line))]
-fn put_absent(text: &mut Text, argument: &str)
-    ensures { Puts text.old text.new (absent_line argument.now) }
-{
-    text.put("  ");
-    text.put_printable_bytes(argument.as_bytes());
-    text.put(": not mentioned\n");
-}
-
-/// Adds that a link does not have what these arguments ask for.
-pub(crate) fn put_absents(text: &mut Text, arguments: &[String])
-    ensures { Puts text.old text.new (absent_lines (map string_bytes arguments.now)) }
-{
-    for argument in arguments {
-        put_absent(text, argument.as_str());
+        text.put("\nExternals\n");
+        names::put(text, mapped, Section::Asked, "");
+        for argument in &self.absent {
+            text.say(format_args!("  {}: not mentioned\n", Printable(argument.as_bytes())));
+        }
     }
 }

@@ -1,4 +1,4 @@
 pub mod Items
 pub mod StateLines
 pub mod StateJson
-pub mod JsonTexts
+pub mod Json

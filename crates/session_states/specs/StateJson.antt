@@ -2,106 +2,91 @@
 --
 -- One object. It has the number of objects, the words of text and data, each with its offset in bytes, and the size of bss. It has
 -- the external names with what is known of each, whose value is an offset, a size or a number, the names that are multiply defined,
--- and what the addition of the last object overwrote, in order. A string has bytes that print; any other, a quote and a
--- backslash are `\u00` and two hexadecimal digits.
-use Rattle.std.specs.Prelude.{ℕ, zero, suc, ◌*◌, ◌/◌, ◌%◌, Bool, true, false, ◌&&◌, not, nat_lt, eqb, if◌then◌else◌, List, [], ◌∷◌, ◌++◌}
-use Rattle.std.specs.Prelude.{length, codes, decimal}
-use Rattle.std.specs.{Fmt.digit_glyph, List.flat_map}
+-- and what the addition of the last object overwrote, in order.
+use Rattle.std.specs.Prelude.{ℕ, ◌*◌, eqb, if◌then◌else◌, List, [], length, codes, decimal}
 use Rattle.link_session.specs.{declared.cell.Cell.Cell, declared.cell.Target.Target, declared.mark.Mark.Mark}
 use Rattle.link_session.specs.{declared.mark.Mark.TheVariants.CellWas, declared.mark.Mark.TheVariants.StateWas, declared.mark.Place.Place}
 use Rattle.link_session.specs.{declared.mark.Place.TheVariants.InText, declared.mark.Place.TheVariants.InData, declared.state.State.State}
 use Rattle.link_session.specs.{declared.state.State.TheVariants.Defined, declared.state.State.TheVariants.Wanted, Image.Image, Image.Named}
 use Rattle.link_session.specs.{Sessions.newest, Undo.Kept, Undo.image_of}
-use Rattle.session_states.specs.Items.{each, name_at}
+use Rattle.session_states.specs.Items.{name_at}
+use Rattle.session_states.specs.Json.{Put, bool_text, bytes_string, each_put, list, member, nothing_written, object, text_string, with_key, with_value}
 use Rattle.aout_core.specs.declared.symbol.Segment.TheVariants as segments
 use Rattle.link_session.specs.declared.cell.Target.TheVariants as targets
 
-abbrev pub json_byte : ℕ → List ℕ
-json_byte b =
-    if nat_lt 31 b && (nat_lt b 127 && (not (eqb b 34) && not (eqb b 92))) then b ∷ []
-    else codes "\\u00" ++ digit_glyph false (b / 16) ∷ digit_glyph false (b % 16) ∷ []
+abbrev pub number_member : List ℕ → ℕ → Put
+number_member key number = member key (decimal number)
 
--- a byte of a text in UTF-8: those of characters beyond ASCII stay as they are
-abbrev pub json_text_byte : ℕ → List ℕ
-json_text_byte b = if nat_lt 127 b then b ∷ [] else json_byte b
+abbrev pub word_member : List ℕ → List ℕ → Put
+word_member key word = member key (text_string word)
 
-abbrev pub json_name : List ℕ → List ℕ
-json_name name = codes "\"" ++ flat_map json_byte name ++ codes "\""
+abbrev pub name_member : List ℕ → Put
+name_member name = member (codes "name") (bytes_string [] name)
 
--- a comma before each item but the first
-abbrev pub comma : ℕ → List ℕ
-comma zero = []
-comma (suc i) = codes ","
+-- what a word refers to, or the name that it waits for
+abbrev pub target_members : Named → Target → Put
+target_members es targets.Absolute json = word_member (codes "target") (codes "number") json
+target_members es targets.TextSeg json = word_member (codes "target") (codes "text") json
+target_members es targets.DataSeg json = word_member (codes "target") (codes "data") json
+target_members es targets.BssSeg json = word_member (codes "target") (codes "bss") json
+target_members es (targets.External i) json = name_member (name_at es i) (word_member (codes "target") (codes "external") json)
 
-abbrev pub target_json : Named → Target → List ℕ
-target_json es targets.Absolute = codes "\"number\""
-target_json es targets.TextSeg = codes "\"text\""
-target_json es targets.DataSeg = codes "\"data\""
-target_json es targets.BssSeg = codes "\"bss\""
-target_json es (targets.External i) = codes "\"external\",\"name\":" ++ json_name (name_at es i)
-
-abbrev pub pc_json : Bool → List ℕ
-pc_json true = codes ",\"pc\":true,\"target\":"
-pc_json false = codes ",\"pc\":false,\"target\":"
-
--- the members of a word
-abbrev pub cell_json : Named → Cell → List ℕ
-cell_json es c = codes "\"value\":" ++ decimal c.value ++ pc_json c.pc ++ target_json es c.target
-
-abbrev pub state_word : State → List ℕ
-state_word (Defined segments.TextSeg offset) = codes "\"state\":\"text\",\"value\":"
-state_word (Defined segments.DataSeg offset) = codes "\"state\":\"data\",\"value\":"
-state_word (Defined segments.BssSeg offset) = codes "\"state\":\"bss\",\"value\":"
-state_word (Defined _ offset) = codes "\"state\":\"number\",\"value\":"
-state_word (Wanted size) = if eqb size 0 then codes "\"state\":\"undefined\",\"value\":" else codes "\"state\":\"common\",\"value\":"
-
-abbrev pub state_value : State → ℕ
-state_value (Defined segment offset) = offset
-state_value (Wanted size) = size
-
--- the members of a state
-abbrev pub members_of_state : State → List ℕ
-members_of_state s = state_word s ++ decimal (state_value s)
+abbrev pub cell_members : Named → Cell → Put
+cell_members es c json =
+    target_members es c.target (member (codes "pc") (bool_text c.pc) (number_member (codes "value") c.value json))
 
 -- the word of this index in a segment
-abbrev pub word_json : Named → ℕ → Cell → List ℕ
-word_json es i c = comma i ++ codes "{\"offset\":" ++ decimal (2 * i) ++ codes "," ++ cell_json es c ++ codes "}"
+abbrev pub word_json : Named → ℕ → Cell → Put
+word_json es i c = object (λ json. cell_members es c (number_member (codes "offset") (2 * i) json))
 
-abbrev pub external_json : ℕ → List ℕ × State → List ℕ
-external_json i e = comma i ++ codes "{\"name\":" ++ json_name e.0 ++ codes "," ++ members_of_state e.1 ++ codes "}"
+abbrev pub state_as : List ℕ → ℕ → Put
+state_as word value json = number_member (codes "value") value (word_member (codes "state") word json)
 
-abbrev pub multiple_json : ℕ → List ℕ → List ℕ
-multiple_json i name = comma i ++ json_name name
+abbrev pub state_members : State → Put
+state_members (Defined segments.TextSeg offset) = state_as (codes "text") offset
+state_members (Defined segments.DataSeg offset) = state_as (codes "data") offset
+state_members (Defined segments.BssSeg offset) = state_as (codes "bss") offset
+state_members (Defined _ number) = state_as (codes "number") number
+state_members (Wanted size) = if eqb size 0 then state_as (codes "undefined") 0 else state_as (codes "common") size
 
-abbrev pub place_json : Place → List ℕ
-place_json (InText i) = codes "{\"segment\":\"text\",\"offset\":" ++ decimal (2 * i)
-place_json (InData i) = codes "{\"segment\":\"data\",\"offset\":" ++ decimal (2 * i)
+abbrev pub external_json : ℕ → List ℕ × State → Put
+external_json i e = object (λ json. state_members e.1 (name_member e.0 json))
+
+abbrev pub multiple_json : ℕ → List ℕ → Put
+multiple_json i name json = with_value json (bytes_string [] name)
+
+abbrev pub place_members : List ℕ → ℕ → Put
+place_members segment i json = number_member (codes "offset") (2 * i) (word_member (codes "segment") segment json)
+
+abbrev pub was : Put → Put
+was members json = object members (with_key json (codes "was"))
 
 -- the place that was overwritten, and what was there
-abbrev pub mark_json : Named → Mark → List ℕ
-mark_json es (CellWas place c) = place_json place ++ codes ",\"was\":{" ++ cell_json es c ++ codes "}}"
-mark_json es (StateWas i s) = codes "{\"name\":" ++ json_name (name_at es i) ++ codes ",\"was\":{" ++ members_of_state s ++ codes "}}"
+abbrev pub mark_members : Named → Mark → Put
+mark_members es (CellWas (InText i) c) json = was (cell_members es c) (place_members (codes "text") i json)
+mark_members es (CellWas (InData i) c) json = was (cell_members es c) (place_members (codes "data") i json)
+mark_members es (StateWas i s) json = was (state_members s) (name_member (name_at es i) json)
 
-abbrev pub listed_mark : Named → ℕ → Mark → List ℕ
-listed_mark es i mark = comma i ++ mark_json es mark
+abbrev pub mark_json : Named → ℕ → Mark → Put
+mark_json es i mark = object (mark_members es mark)
 
-abbrev pub words_json : Image → List ℕ
-words_json m =
-    codes ",\"text\":[" ++ each (word_json m.externals) m.text_cells ++ codes "],\"data\":["
-    ++ each (word_json m.externals) m.data_cells ++ codes "]"
+abbrev pub words_member : Named → List ℕ → List Cell → Put
+words_member es key cells json = list (each_put (word_json es) 0 cells) (with_key json key)
 
--- the names, after the size of bss
-abbrev pub lists_json : Image → List ℕ
-lists_json m =
-    codes ",\"externals\":[" ++ each external_json m.externals ++ codes "],\"multiples\":[" ++ each multiple_json m.multiples ++ codes "]"
+abbrev pub names_members : Image → Put
+names_members m json =
+    list (each_put multiple_json 0 m.multiples) (with_key (list (each_put external_json 0 m.externals) (with_key json (codes "externals"))) (codes "multiples"))
 
-abbrev pub names_json : Image → List ℕ
-names_json m = codes ",\"bss\":" ++ decimal m.bss_total ++ lists_json m
+abbrev pub image_members : Image → Put
+image_members m json =
+    names_members m (number_member (codes "bss") m.bss_total
+    (words_member m.externals (codes "data") m.data_cells (words_member m.externals (codes "text") m.text_cells json)))
 
--- the last marks, and the end of the object
-abbrev pub marks_json : Kept → List ℕ
-marks_json s = codes ",\"marks\":[" ++ each (listed_mark (image_of s).externals) (newest s.journal) ++ codes "]}"
+abbrev pub marks_member : Kept → Put
+marks_member s json = list (each_put (mark_json (image_of s).externals) 0 (newest s.journal)) (with_key json (codes "marks"))
+
+abbrev pub session_json : Kept → Put
+session_json s = object (λ json. marks_member s (image_members (image_of s) (number_member (codes "objects") (length s.entries) json)))
 
 abbrev pub state_json : Kept → List ℕ
-state_json s =
-    codes "{\"objects\":" ++ decimal (length s.entries) ++ words_json (image_of s) ++ names_json (image_of s) ++ marks_json s
+state_json s = (session_json s nothing_written).text

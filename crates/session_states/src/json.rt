@@ -1,14 +1,14 @@
 //! What a session knows, as JSON.
-ghost use Rattle.std.specs.Prelude.{◌≡◌, ◌+◌, ◌*◌, ◌<◌, ◌≤◌, ◌++◌, false, length, decimal, IfOk};
+ghost use Rattle.std.specs.Prelude.{◌≡◌, ◌*◌, ◌<◌, ◌≤◌, length, false, IfOk};
 ghost use Rattle.texts.specs.Texts.{Puts};
 ghost use Rattle.std.specs.Fmt.{digit_glyph};
 ghost use Rattle.std.specs.List.{flat_map};
-ghost use Rattle.link_session.specs.Sessions.{newest};
-ghost use Rattle.link_session.specs.Undo.{IsJournal, image_of};
 ghost use Rattle.link_session.specs.Labelled.{objects};
-ghost use Rattle.session_states.specs.Items.{each};
-ghost use Rattle.session_states.specs.StateJson.{cell_json, comma, external_json, json_byte, json_name, json_text_byte, listed_mark, mark_json, marks_json, members_of_state, multiple_json, names_json, lists_json, pc_json, place_json, state_json, state_value, state_word, target_json, word_json, words_json};
+ghost use Rattle.link_session.specs.Undo.{IsJournal, image_of};
+ghost use Rattle.session_states.specs.Json.{Becomes, each_put, json_byte, json_text_byte};
+ghost use Rattle.session_states.specs.StateJson.{cell_members, external_json, image_members, mark_json, mark_members, marks_member, multiple_json, name_member, names_members, number_member, place_members, session_json, state_as, state_json, state_members, target_members, was, word_json, word_member, words_member};
 
+use crate::json_writer::JsonWriter;
 use crate::names::name_at;
 use aout_core::{Name, Segment};
 use link_session::{Cell, Mark, Place, Session, State, Target};
@@ -68,265 +68,237 @@ pub(crate) fn put_json_text(text: &mut Text, characters: &str)
     }
 }
 
-/// Appends a name as a string.
-fn put_json_name(text: &mut Text, name: &Name)
-    ensures { Puts text.old text.new (json_name name.now) }
+fn put_number(out: &mut JsonWriter, key: &str, number: u64)
+    ensures { Becomes out.old out.new (number_member key.now number) }
 {
-    text.put("\"");
-    put_json_bytes(text, name.as_bytes());
-    text.put("\"");
+    out.put_key(key);
+    out.put_number(number);
 }
 
-/// Appends what comes before a name, and the name as a string.
-fn put_named(text: &mut Text, front: &str, name: &Name)
-    ensures { Puts text.old text.new (front.now ++ json_name name.now) }
+fn put_word(out: &mut JsonWriter, key: &str, word: &str)
+    ensures { Becomes out.old out.new (word_member key.now word.now) }
 {
-    text.put(front);
-    put_json_name(text, name);
+    out.put_key(key);
+    out.put_text(word);
 }
 
-/// Appends what comes before an offset, and the offset of the word of this index.
-fn put_offset(text: &mut Text, front: &str, index: usize)
-    requires { index < 65536 }
-    ensures { Puts text.old text.new (front.now ++ decimal (2 * index)) }
+fn put_name(out: &mut JsonWriter, name: &Name)
+    ensures { Becomes out.old out.new (name_member name.now) }
 {
-    text.put(front);
-    text.put_decimal(2 * index as u64);
+    out.put_key("name");
+    out.put_bytes(b"", name.as_bytes());
 }
 
-fn comma(index: usize) -> &'static str
-    ensures { result.now ≡ comma index }
-{
-    match index {
-        0 => "",
-        _ => ",",
-    }
-}
-
-/// Appends what a word refers to, or waits for.
-fn put_target(text: &mut Text, session: &Session, target: Target)
-    ensures { Puts text.old text.new (target_json (image_of session.now).externals target) }
+/// Puts what a word refers to, or the name that it waits for.
+fn put_target(out: &mut JsonWriter, session: &Session, target: Target)
+    ensures { Becomes out.old out.new (target_members (image_of session.now).externals target) }
 {
     match target {
-        Target::Absolute => text.put("\"number\""),
-        Target::TextSeg => text.put("\"text\""),
-        Target::DataSeg => text.put("\"data\""),
-        Target::BssSeg => text.put("\"bss\""),
+        Target::Absolute => put_word(out, "target", "number"),
+        Target::TextSeg => put_word(out, "target", "text"),
+        Target::DataSeg => put_word(out, "target", "data"),
+        Target::BssSeg => put_word(out, "target", "bss"),
         Target::External(index) => {
-            let name = name_at(session, index);
-            put_named(text, "\"external\",\"name\":", &name);
+            put_word(out, "target", "external");
+            put_name(out, &name_at(session, index));
         }
     }
 }
 
-fn pc_json(pc: bool) -> &'static str
-    ensures { result.now ≡ pc_json pc }
+/// Puts the members of a word: its value, and what it refers to or waits for.
+fn put_cell(out: &mut JsonWriter, session: &Session, cell: Cell)
+    ensures { Becomes out.old out.new (cell_members (image_of session.now).externals cell) }
 {
-    if pc {
-        ",\"pc\":true,\"target\":"
-    } else {
-        ",\"pc\":false,\"target\":"
-    }
+    put_number(out, "value", u64::from(cell.value));
+    out.put_key("pc");
+    out.put_bool(cell.pc);
+    put_target(out, session, cell.target);
 }
 
-/// Appends the members of a word.
-fn put_cell(text: &mut Text, session: &Session, cell: Cell)
-    ensures { Puts text.old text.new (cell_json (image_of session.now).externals cell) }
+fn put_state_as(out: &mut JsonWriter, word: &str, value: u16)
+    ensures { Becomes out.old out.new (state_as word.now value) }
 {
-    text.put("\"value\":");
-    text.put_decimal(u64::from(cell.value));
-    text.put(pc_json(cell.pc));
-    put_target(text, session, cell.target);
+    put_word(out, "state", word);
+    put_number(out, "value", u64::from(value));
 }
 
-fn state_word(state: State) -> &'static str
-    ensures { result.now ≡ state_word state }
+/// Puts the members of a state: with its offset, size or number.
+fn put_state(out: &mut JsonWriter, state: State)
+    ensures { Becomes out.old out.new (state_members state) }
 {
     match state {
-        State::Defined(segment, _) => match segment {
-            Segment::TextSeg => "\"state\":\"text\",\"value\":",
-            Segment::DataSeg => "\"state\":\"data\",\"value\":",
-            Segment::BssSeg => "\"state\":\"bss\",\"value\":",
-            Segment::Undefined | Segment::Absolute | Segment::Other => {
-                "\"state\":\"number\",\"value\":"
-            }
-        },
-        State::Wanted(0) => "\"state\":\"undefined\",\"value\":",
-        State::Wanted(_) => "\"state\":\"common\",\"value\":",
+        State::Defined(Segment::TextSeg, offset) => put_state_as(out, "text", offset),
+        State::Defined(Segment::DataSeg, offset) => put_state_as(out, "data", offset),
+        State::Defined(Segment::BssSeg, offset) => put_state_as(out, "bss", offset),
+        State::Defined(_, number) => put_state_as(out, "number", number),
+        State::Wanted(0) => put_state_as(out, "undefined", 0),
+        State::Wanted(size) => put_state_as(out, "common", size),
     }
 }
 
-/// An offset, a size or a number.
-fn state_value(state: State) -> u16
-    ensures { result ≡ state_value state }
-{
-    match state {
-        State::Defined(_, value) | State::Wanted(value) => value,
-    }
-}
-
-/// Appends the members of a state.
-fn put_state(text: &mut Text, state: State)
-    ensures { Puts text.old text.new (members_of_state state) }
-{
-    text.put(state_word(state));
-    text.put_decimal(u64::from(state_value(state)));
-}
-
-/// Appends the word of this index in a segment.
-fn put_word(text: &mut Text, session: &Session, index: usize, cell: Cell)
+/// Puts a word of a segment.
+fn put_word_at(out: &mut JsonWriter, session: &Session, index: usize, cell: Cell)
     requires { index < 65536 }
-    ensures { Puts text.old text.new (word_json (image_of session.now).externals index cell) }
+    ensures { Becomes out.old out.new (word_json (image_of session.now).externals index cell) }
 {
-    text.put(comma(index));
-    put_offset(text, "{\"offset\":", index);
-    text.put(",");
-    put_cell(text, session, cell);
-    text.put("}");
+    out.begin_object();
+    put_number(out, "offset", 2 * index as u64);
+    put_cell(out, session, cell);
+    out.end_object();
 }
 
-/// Appends the words of a segment.
-fn put_words(text: &mut Text, session: &Session, cells: &[Cell])
+/// Puts the words of a segment.
+#[tactic(auto, using(crate::proofs::PutLemmas::by_item))]
+fn put_words(out: &mut JsonWriter, session: &Session, cells: &[Cell])
     requires { 2 * length cells.now ≤ 65534 }
-    ensures { Puts text.old text.new (each (word_json (image_of session.now).externals) cells.now) }
+    ensures { Becomes out.old out.new (each_put (word_json (image_of session.now).externals) 0 cells.now) }
 {
     for (index, cell) in cells.iter().enumerate() {
-        put_word(text, session, index, *cell);
+        put_word_at(out, session, index, *cell);
     }
 }
 
-fn put_external(text: &mut Text, index: u16, name: &Name, state: State)
-    ensures { Puts text.old text.new (external_json index (name.now, state)) }
+fn put_external(out: &mut JsonWriter, name: &Name, state: State)
+    ensures { Becomes out.old out.new (external_json 0 (name.now, state)) }
 {
-    text.put(comma(index as usize));
-    put_named(text, "{\"name\":", name);
-    text.put(",");
-    put_state(text, state);
-    text.put("}");
+    out.begin_object();
+    put_name(out, name);
+    put_state(out, state);
+    out.end_object();
 }
 
-fn put_externals(text: &mut Text, session: &Session)
-    ensures { Puts text.old text.new (each external_json (image_of session.now).externals) }
+/// Puts the external names with what is known of each.
+#[tactic(auto, using(crate::proofs::PutLemmas::by_item))]
+fn put_externals(out: &mut JsonWriter, session: &Session)
+    ensures { Becomes out.old out.new (each_put external_json 0 (image_of session.now).externals) }
 {
     for index in 0..session.external_count() {
         let (name, state) = session.external(index).unwrap();
-        put_external(text, index, &name, state);
+        put_external(out, &name, state);
     }
 }
 
-fn put_multiple(text: &mut Text, index: usize, name: &Name)
-    ensures { Puts text.old text.new (multiple_json index name.now) }
+/// Puts the names that are multiply defined.
+#[tactic(auto, using(crate::proofs::PutLemmas::by_item))]
+fn put_multiples(out: &mut JsonWriter, names: &[Name])
+    ensures { Becomes out.old out.new (each_put multiple_json 0 names.now) }
 {
-    text.put(comma(index));
-    put_json_name(text, name);
-}
-
-/// Appends the names that are multiply defined.
-fn put_multiples(text: &mut Text, names: &[Name])
-    ensures { Puts text.old text.new (each multiple_json names.now) }
-{
-    for (index, name) in names.iter().enumerate() {
-        put_multiple(text, index, name);
+    for name in names {
+        out.put_bytes(b"", name.as_bytes());
     }
 }
 
-/// Appends the place of a cell that was bound.
-fn put_mark_place(text: &mut Text, place: Place)
-    ensures { Puts text.old text.new (place_json place) }
+fn put_place(out: &mut JsonWriter, segment: &str, index: u16)
+    ensures { Becomes out.old out.new (place_members segment.now index) }
 {
-    match place {
-        Place::InText(index) => {
-            put_offset(text, "{\"segment\":\"text\",\"offset\":", index as usize);
-        }
-        Place::InData(index) => {
-            put_offset(text, "{\"segment\":\"data\",\"offset\":", index as usize);
-        }
-    }
+    put_word(out, "segment", segment);
+    put_number(out, "offset", 2 * u64::from(index));
 }
 
-fn put_cell_mark(text: &mut Text, session: &Session, place: Place, cell: Cell)
-    ensures { Puts text.old text.new
-        (mark_json (image_of session.now).externals (Mark.CellWas place cell)) }
+/// Puts what was in a word.
+fn put_cell_was(out: &mut JsonWriter, session: &Session, cell: Cell)
+    ensures { Becomes out.old out.new (was (cell_members (image_of session.now).externals cell)) }
 {
-    put_mark_place(text, place);
-    text.put(",\"was\":{");
-    put_cell(text, session, cell);
-    text.put("}}");
+    out.put_key("was");
+    out.begin_object();
+    put_cell(out, session, cell);
+    out.end_object();
 }
 
-fn put_state_mark(text: &mut Text, session: &Session, index: u16, state: State)
-    ensures { Puts text.old text.new
-        (mark_json (image_of session.now).externals (Mark.StateWas index state)) }
+/// Puts where something was overwritten, and what was there.
+fn put_mark_members(out: &mut JsonWriter, session: &Session, mark: Mark)
+    ensures { Becomes out.old out.new (mark_members (image_of session.now).externals mark) }
 {
-    put_named(text, "{\"name\":", &name_at(session, index));
-    text.put(",\"was\":{");
-    put_state(text, state);
-    text.put("}}");
-}
-
-/// Appends where something was overwritten, and what was there.
-fn put_mark(text: &mut Text, session: &Session, index: usize, mark: Mark)
-    ensures { Puts text.old text.new (listed_mark (image_of session.now).externals index mark) }
-{
-    text.put(comma(index));
     match mark {
-        Mark::CellWas(place, cell) => put_cell_mark(text, session, place, cell),
-        Mark::StateWas(external, state) => put_state_mark(text, session, external, state),
+        Mark::CellWas(Place::InText(index), cell) => {
+            put_place(out, "text", index);
+            put_cell_was(out, session, cell);
+        }
+        Mark::CellWas(Place::InData(index), cell) => {
+            put_place(out, "data", index);
+            put_cell_was(out, session, cell);
+        }
+        Mark::StateWas(index, state) => {
+            put_name(out, &name_at(session, index));
+            out.put_key("was");
+            out.begin_object();
+            put_state(out, state);
+            out.end_object();
+        }
     }
 }
 
-/// Appends what the addition of the last object overwrote.
-fn put_marks(text: &mut Text, session: &Session)
-    ensures lists { Puts text.old text.new
-        (each (listed_mark (image_of session.now).externals) (newest session.now.journal)) }
-    ensures journal { IsJournal session.now.forced
-        (objects session.now.entries) session.now.journal }
+fn put_mark(out: &mut JsonWriter, session: &Session, mark: Mark)
+    ensures { Becomes out.old out.new (mark_json (image_of session.now).externals 0 mark) }
 {
-    for (index, mark) in session.last_marks().iter().enumerate() {
-        put_mark(text, session, index, *mark);
+    out.begin_object();
+    put_mark_members(out, session, mark);
+    out.end_object();
+}
+
+/// Puts what the addition of the last object overwrote.
+#[tactic(auto, using(crate::proofs::PutLemmas::by_item))]
+fn put_marks(out: &mut JsonWriter, session: &Session, marks: &[Mark])
+    ensures { Becomes out.old out.new (each_put (mark_json (image_of session.now).externals) 0 marks.now) }
+{
+    for mark in marks {
+        put_mark(out, session, *mark);
     }
 }
 
-/// Appends the list of these, and ends the object.
-fn put_mark_list(text: &mut Text, session: &Session)
-    ensures lists { Puts text.old text.new (marks_json session.now) }
-    ensures journal { IsJournal session.now.forced
-        (objects session.now.entries) session.now.journal }
+fn put_segment(out: &mut JsonWriter, session: &Session, key: &str, cells: &[Cell])
+    requires { 2 * length cells.now ≤ 65534 }
+    ensures { Becomes out.old out.new (words_member (image_of session.now).externals key.now cells.now) }
 {
-    text.put(",\"marks\":[");
-    put_marks(text, session);
-    text.put("]}");
+    out.put_key(key);
+    out.begin_list();
+    put_words(out, session, cells);
+    out.end_list();
 }
 
-/// Appends the words of text and data.
-fn put_segments(text: &mut Text, session: &Session)
-    ensures { Puts text.old text.new (words_json (image_of session.now)) }
+/// Puts the names: the externals, and those that are multiply defined.
+fn put_names(out: &mut JsonWriter, session: &Session)
+    ensures { Becomes out.old out.new (names_members (image_of session.now)) }
 {
-    text.put(",\"text\":[");
-    put_words(text, session, session.text_cells());
-    text.put("],\"data\":[");
-    put_words(text, session, session.data_cells());
-    text.put("]");
+    out.put_key("externals");
+    out.begin_list();
+    put_externals(out, session);
+    out.end_list();
+    out.put_key("multiples");
+    out.begin_list();
+    put_multiples(out, session.multiples());
+    out.end_list();
 }
 
-/// Appends the names.
-fn put_lists(text: &mut Text, session: &Session)
-    ensures { Puts text.old text.new (lists_json (image_of session.now)) }
+fn put_image(out: &mut JsonWriter, session: &Session)
+    ensures { Becomes out.old out.new (image_members (image_of session.now)) }
 {
-    text.put(",\"externals\":[");
-    put_externals(text, session);
-    text.put("],\"multiples\":[");
-    put_multiples(text, session.multiples());
-    text.put("]");
+    put_segment(out, session, "text", session.text_cells());
+    put_segment(out, session, "data", session.data_cells());
+    put_number(out, "bss", u64::from(session.bss_total()));
+    put_names(out, session);
 }
 
-/// Appends the size of bss, and the names.
-fn put_names(text: &mut Text, session: &Session)
-    ensures { Puts text.old text.new (names_json (image_of session.now)) }
+fn put_last_marks(out: &mut JsonWriter, session: &Session)
+    ensures json { Becomes out.old out.new (marks_member session.now) }
+    ensures journal { IsJournal session.now.forced (objects session.now.entries) session.now.journal }
 {
-    text.put(",\"bss\":");
-    text.put_decimal(u64::from(session.bss_total()));
-    put_lists(text, session);
+    out.put_key("marks");
+    out.begin_list();
+    put_marks(out, session, session.last_marks());
+    out.end_list();
+}
+
+/// Puts the object of a session.
+fn put_session(out: &mut JsonWriter, session: &Session)
+    ensures json { Becomes out.old out.new (session_json session.now) }
+    ensures journal { IsJournal session.now.forced (objects session.now.entries) session.now.journal }
+{
+    out.begin_object();
+    put_number(out, "objects", session.entries().len() as u64);
+    put_image(out, session);
+    put_last_marks(out, session);
+    out.end_object();
 }
 
 /// What a session knows, as one JSON object with these members (own choice):
@@ -349,11 +321,7 @@ pub fn state_json(alloc: Global, session: &Session) -> Result<Vec<u8>, AllocErro
     ensures journal { IfOk result (λ _.
         IsJournal session.now.forced (objects session.now.entries) session.now.journal) }
 {
-    let mut text = Text::new(alloc);
-    text.put("{\"objects\":");
-    text.put_decimal(session.entries().len() as u64);
-    put_segments(&mut text, session);
-    put_names(&mut text, session);
-    put_mark_list(&mut text, session);
-    text.finish()
+    let mut out = JsonWriter::new(alloc);
+    put_session(&mut out, session);
+    out.finish()
 }

@@ -1,6 +1,6 @@
 //! A JSON text that is written value by value.
 ghost use Rattle.std.specs.Prelude.{◌≡◌, ◌++◌, true, false, codes, decimal, IfOk};
-ghost use Rattle.session_states.specs.JsonTexts.{Becomes, bytes_string, list_end, list_start, nothing_written, object_end, object_start, separator, text_string, with_end, with_line_end, with_start, with_value};
+ghost use Rattle.session_states.specs.Json.{Becomes, bool_text, bytes_string, nothing_written, separator, text_string, with_end, with_key, with_line_end, with_start, with_value};
 
 use crate::json::{put_json_bytes, put_json_text};
 use itoa::Buffer;
@@ -18,7 +18,7 @@ pub struct JsonWriter {
 }
 
 impl Model for JsonWriter {
-    ghost use Rattle.session_states.specs.JsonTexts.{JsonWritten};
+    ghost use Rattle.session_states.specs.Json.{JsonWritten};
 
     ghost Value = { JsonWritten };
 
@@ -76,6 +76,14 @@ impl JsonWriter {
         self.end("");
     }
 
+    /// Adds a truth value.
+    pub fn put_bool(&mut self, value: bool)
+        ensures { Becomes self.old self.new (λ json. with_value json (bool_text value)) }
+    {
+        self.start(if value { "true" } else { "false" });
+        self.end("");
+    }
+
     /// Adds a text as a string, with the characters beyond ASCII as they are.
     pub fn put_text(&mut self, characters: &str)
         ensures { Becomes self.old self.new (λ json. with_value json (text_string characters.now)) }
@@ -98,8 +106,7 @@ impl JsonWriter {
 
     /// Adds the key of a member of an object; its value comes next.
     pub fn put_key(&mut self, key: &str)
-        ensures { Becomes self.old self.new (λ json.
-            with_start json (text_string key.now ++ codes ":")) }
+        ensures { Becomes self.old self.new (λ json. with_key json key.now) }
     {
         self.start("\"");
         put_json_text(&mut self.text, key);
@@ -108,8 +115,7 @@ impl JsonWriter {
 
     /// Adds a number as the key of a member of an object; its value comes next.
     pub fn put_number_key(&mut self, number: u64)
-        ensures { Becomes self.old self.new (λ json.
-            with_start json (text_string (decimal number) ++ codes ":")) }
+        ensures { Becomes self.old self.new (λ json. with_key json (decimal number)) }
     {
         self.put_key(Buffer::new().format(number));
     }
@@ -123,28 +129,28 @@ impl JsonWriter {
 
     /// Begins a list.
     pub fn begin_list(&mut self)
-        ensures { Becomes self.old self.new (λ json. with_start json list_start) }
+        ensures { Becomes self.old self.new (λ json. with_start json (codes "[")) }
     {
         self.start("[");
     }
 
     /// Ends a list.
     pub fn end_list(&mut self)
-        ensures { Becomes self.old self.new (λ json. with_end json list_end) }
+        ensures { Becomes self.old self.new (λ json. with_end json (codes "]")) }
     {
         self.end("]");
     }
 
     /// Begins an object.
     pub fn begin_object(&mut self)
-        ensures { Becomes self.old self.new (λ json. with_start json object_start) }
+        ensures { Becomes self.old self.new (λ json. with_start json (codes "{")) }
     {
         self.start("{");
     }
 
     /// Ends an object.
     pub fn end_object(&mut self)
-        ensures { Becomes self.old self.new (λ json. with_end json object_end) }
+        ensures { Becomes self.old self.new (λ json. with_end json (codes "}")) }
     {
         self.end("}");
     }

@@ -1,7 +1,7 @@
 -- What a writer holds after a text was written to it: all of the text, or if it failed a prefix. (own choice)
 use Rattle.std.specs.Prelude.{◌≡◌, ℕ, Bool, true, false, if◌then◌else◌, List, Option}
 use Rattle.std.specs.Io.KnownBytes.{Appends}
-use Rattle.aout_core.specs.Wires.{AppendsPrefix, Latched}
+use Rattle.aout_core.specs.{Refusals.device_fault, Wires.AppendsPrefix, Wires.Latched}
 use Rattle.surroundings.specs.declared.office.Stored.{Stored}
 use Rattle.surroundings.specs.declared.office.Stored.TheVariants.{Kept, Failed}
 
@@ -12,5 +12,5 @@ PutsUnless true old new bytes = AppendsPrefix old new bytes
 
 -- a text was stored on a device that did not fail, also when it was flushed; or the device failed, and holds a prefix of it
 pub record IsStoredOn {W : Type 0} (contents : W → Option (List ℕ)) (stored : Stored) (old new : Latched W) (text : List ℕ) : Type 0 where
-  pub ends : stored ≡ (if new.has_failed then Failed else Kept)
+  pub ends : stored ≡ (if new.has_failed then Failed device_fault else Kept)
   pub bytes : PutsUnless new.has_failed (contents old.device) (contents new.device) text

@@ -1,10 +1,11 @@
--- A file, and the bytes that were taken for it and not written yet. (own choice)
+-- A file, the bytes that were taken for it and not written yet, and for how many more there is room. (own choice)
 use Rattle.std.specs.Prelude.{ℕ, List, Option}
 use Rattle.std.specs.Io.KnownBytes.{append_known}
 
 pub record Held (F : Type 0) : Type 0 where
   pub file : F
   pub held : List ℕ
+  pub space : ℕ
 
 -- what was written, with what is held
 abbrev pub written : {F : Type 0} → (F → Option (List ℕ)) → Held F → Option (List ℕ)

@@ -28,4 +28,4 @@ EndsReading program old new path fault =
 abbrev pub stored_text : Stored → Option (List ℕ)
 stored_text office.Kept = None
 stored_text office.NotCreated = Some (codes "cannot create")
-stored_text office.Failed = Some (codes "write error")
+stored_text (office.Failed _) = Some (codes "write error")

@@ -1,27 +1,31 @@
 //! The files of a runtime, as an `Office`. No contract can say what a file gives or takes, so these lines are to be read: a
 //! file is opened, looked for and stored at the very path that is asked for.
+ghost use Rattle.std.specs.Prelude.{◌≡◌, []};
+ghost use Rattle.std.specs.Io.KnownBytes.{Appends};
 ghost use Rattle.aout_core.specs.Encoding.{encoding};
 ghost use Rattle.surroundings.specs.Emits.{IsStoredOn};
+ghost use Rattle.surroundings.specs.declared.office.Stored.TheVariants.{Kept};
 
 use crate::nodes::Node;
 use crate::office::{Office, Stored};
 use crate::pieces::PieceWriter;
-use aout_core::{File, Wire, write_file};
+use aout_core::{BufferedWrite, File, Wire, write_file};
 use std::fs::{self, FileType};
 use std::io::Write;
 use std::os::unix::fs::MetadataExt;
 use std::rt::{Files, Runtime};
 
-/// Stores a file on a device, which is flushed. On a fault a prefix of it went out. (own choice)
-pub fn store_on<W: Write>(file: &File, out: &mut Wire<W>) -> Stored
-    ensures { IsStoredOn W.contents result out.old out.new (encoding file.now) }
+/// Stores a file on a device, which is flushed: nothing of it waits, if it is kept. On a fault a prefix of it went out. (own choice)
+pub fn store_on<W: BufferedWrite>(file: &File, out: &mut Wire<W>) -> Stored
+    ensures stored { IsStoredOn W.contents result out.old out.new (encoding file.now) }
+    ensures passed { result ≡ Kept → W.waiting out.new.device ≡ [] }
 {
-    let Ok(()) = write_file(file, out) else {
-        return Stored::Failed;
-    };
-    match out.flush() {
+    if let Err(fault) = write_file(file, out) {
+        return Stored::Failed(fault);
+    }
+    match out.pass_on() {
         Ok(()) => Stored::Kept,
-        Err(_) => Stored::Failed,
+        Err(fault) => Stored::Failed(fault),
     }
 }
 
@@ -29,13 +33,22 @@ pub fn store_on<W: Write>(file: &File, out: &mut Wire<W>) -> Stored
 pub fn store_text_on<W: Write>(text: &[u8], out: &mut Wire<W>) -> Stored
     ensures { IsStoredOn W.contents result out.old out.new text.now }
 {
-    let Ok(()) = out.put(text) else {
-        return Stored::Failed;
-    };
+    if let Err(fault) = out.put(text) {
+        return Stored::Failed(fault);
+    }
     match out.flush() {
         Ok(()) => Stored::Kept,
-        Err(_) => Stored::Failed,
+        Err(fault) => Stored::Failed(fault),
     }
+}
+
+/// Stores a file on a device in large pieces, and hands the device back: if the file is kept, the device itself has all its bytes.
+fn store_in_pieces<F: Write>(file: &File, device: F) -> (Stored, F)
+    ensures { result.0 ≡ Kept → Appends (F.contents device) (F.contents result.1) (encoding file.now) }
+{
+    let mut out = Wire::new(PieceWriter::new(device));
+    let stored = store_on(file, &mut out);
+    (stored, out.into_inner().into_file())
 }
 
 /// The type of what is at a path, if this is itself a device, a FIFO or a socket. A link to one has none. (own choice)
@@ -93,7 +106,7 @@ impl<H: Runtime> Office for Disk<'_, H> {
 
     fn store(&mut self, path: &str, file: &File) -> Stored {
         match fs::create(self.rt, path) {
-            Ok(device) => store_on(file, &mut Wire::new(PieceWriter::new(device))),
+            Ok(device) => store_in_pieces(file, device).0,
             Err(_) => Stored::NotCreated,
         }
     }

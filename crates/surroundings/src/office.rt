@@ -5,7 +5,7 @@ ghost use Rattle.surroundings.specs.Sources.{stored_text};
 ghost use Rattle.surroundings.specs.Events.{Event, Extends, looked, opened, stored, written};
 
 use crate::nodes::Node;
-use aout_core::File;
+use aout_core::{DeviceFault, File};
 use std::io::Read;
 
 /// What became of a file that was to be stored. (own choice)
@@ -16,7 +16,7 @@ pub enum Stored {
     /// No file can be made at its path.
     NotCreated,
     /// Its device failed while it was written.
-    Failed,
+    Failed(DeviceFault),
 }
 
 /// The files of a command, by their paths. Its `history` lists what it was asked, where that is known. (own choice)
@@ -53,6 +53,6 @@ pub fn stored_text(stored: Stored) -> Option<&'static str>
     match stored {
         Stored::Kept => None,
         Stored::NotCreated => Some("cannot create"),
-        Stored::Failed => Some("write error"),
+        Stored::Failed(_) => Some("write error"),
     }
 }

@@ -2,6 +2,7 @@
 ghost use Rattle.std.specs.Prelude.{◌≡◌, ◌≤◌, slice_range};
 ghost use Rattle.surroundings.specs.declared.pieces.TheConstants.{PIECE_SIZE};
 
+use aout_core::BufferedWrite;
 use std::io;
 use std::io::{ErrorKind, Write};
 use std::marker::Model;
@@ -19,13 +20,13 @@ pub(crate) struct PieceWriter<F> {
 }
 
 impl<F> Model for PieceWriter<F> {
-    ghost use Rattle.std.specs.Prelude.{◌≤◌, slice_range};
+    ghost use Rattle.std.specs.Prelude.{◌≤◌, ◌-◌, slice_range};
     ghost use Rattle.surroundings.specs.Pieces.{Held};
     ghost use Rattle.surroundings.specs.declared.pieces.TheConstants.{PIECE_SIZE};
 
     ghost Value = { Held F };
 
-    ghost view = { λ p. record { file = p.file; held = slice_range p.bytes p.start p.end } };
+    ghost view = { λ p. record { file = p.file; held = slice_range p.bytes p.start p.end; space = PIECE_SIZE - p.end } };
 
     ghost invariant = { λ p. (p.start ≤ p.end) × (p.end ≤ PIECE_SIZE) };
 }
@@ -44,7 +45,7 @@ impl<F> PieceWriter<F> {
 
     /// A writer to the file, of which nothing is held.
     pub(crate) fn new(file: F) -> PieceWriter<F>
-        ensures { result ≡ record { file = file; held = [] } }
+        ensures { result ≡ record { file = file; held = []; space = PIECE_SIZE } }
     {
         PieceWriter {
             file,
@@ -52,6 +53,14 @@ impl<F> PieceWriter<F> {
             start: 0,
             end: 0,
         }
+    }
+
+    /// The file back. What is held is lost.
+    pub(crate) fn into_file(self) -> F
+        ensures { result ≡ self.file }
+    {
+        let PieceWriter { file, .. } = self;
+        file
     }
 
     /// The bytes that are held.
@@ -63,7 +72,7 @@ impl<F> PieceWriter<F> {
 }
 
 impl<F: Write> PieceWriter<F> {
-    ghost use Rattle.std.specs.Prelude.{◌≡◌, ◌≤◌, ◌++◌, [], length, take, drop, IfOk, OnOk};
+    ghost use Rattle.std.specs.Prelude.{◌≡◌, ◌≤◌, ◌-◌, ◌++◌, [], min, length, take, drop, IfOk, OnOk};
     ghost use Rattle.std.specs.Io.KnownBytes.{Keeps};
     ghost use Rattle.surroundings.specs.Pieces.{written};
 
@@ -95,7 +104,8 @@ impl<F: Write> PieceWriter<F> {
     /// Takes as many of the bytes as there is room for.
     fn take_in(&mut self, bytes: &[u8]) -> usize
         ensures bound { result ≤ length bytes.now }
-        ensures value { self.new ≡ record { file = self.old.file; held = self.old.held ++ take result bytes.now } }
+        ensures value { self.new ≡ record { file = self.old.file; held = self.old.held ++ take result bytes.now; space = self.old.space - result } }
+        ensures all { result ≡ min (length bytes.now) self.old.space }
     {
         let n = bytes.len().min(PIECE_SIZE - self.end);
         let end = self.end + n;
@@ -106,19 +116,38 @@ impl<F: Write> PieceWriter<F> {
 }
 
 impl<F: Write> Write for PieceWriter<F> {
+    ghost use Rattle.std.specs.Prelude.{◌≡◌, ◌<◌, [], min, length, Ok, OnOk};
+    ghost use Rattle.std.specs.Io.{WritesAtMost};
+    ghost use Rattle.std.specs.Io.KnownBytes.{Keeps, WriteAppends};
     ghost use Rattle.surroundings.specs.Pieces.{written};
 
     ghost contents = { written F.contents };
 
-    fn write(&mut self, buf: &[u8]) -> io::Result<usize> {
+    fn write(&mut self, buf: &[u8]) -> io::Result<usize>
+        ensures bound { WritesAtMost result buf.now }
+        ensures bytes { WriteAppends (written F.contents self.old) (written F.contents self.new) result buf.now }
+        ensures space { 0 < self.old.space → result ≡ Ok (min (length buf.now) self.old.space) }
+        ensures unsent { 0 < self.old.space → self.new.file ≡ self.old.file }
+    {
         if self.end == PIECE_SIZE {
             self.send_all()?;
         }
         Ok(self.take_in(buf))
     }
 
-    fn flush(&mut self) -> io::Result<()> {
+    fn flush(&mut self) -> io::Result<()>
+        ensures bytes { Keeps (written F.contents self.old) (written F.contents self.new) }
+        ensures empty { OnOk result (self.new.held ≡ []) }
+    {
         self.send_all()?;
         self.file.flush()
+    }
+}
+
+impl<F: Write> BufferedWrite for PieceWriter<F> {
+    ghost waiting = { λ p. p.held };
+
+    fn pass_on(&mut self) -> io::Result<()> {
+        self.flush()
     }
 }

@@ -24,7 +24,6 @@ use Rattle.suspicions.specs.Branches.{of_lines, word_place, suspicious_entry, su
 use Rattle.suspicions.specs.Suspicions.{reloc_place, may_begin, differ, is_immediate, is_foreign, suspicious_bit, suspicious_by}
 use Rattle.suspicions.specs.Suspicions.{suspicious_lack, suspicious_operand, suspicious_line, suspicious_at, suspicious_place}
 use Rattle.suspicions.specs.{Addresses.suspicious_addresses, Referents.suspicious_references, Suspicions.suspicious_words, Suspicions.suspicions}
-use Rattle.suspicions.specs.SuspicionTexts.{relocated_first_text, no_instruction_text, pc_bit_in, outside_in}
 use Rattle.suspicions.specs.SureLaw.{NoneIsSure, targets, is_whole, IsInside, AreInside, SureLaw, SuitsMode, SuitsModes, SureWordsLaw}
 use Rattle.suspicions.specs.{declared.evidence.Evidence.Evidence, declared.evidence.Evidence.TheVariants.Names}
 use Rattle.suspicions.specs.{declared.evidence.Evidence.TheVariants.Promise, declared.trust.Trust.Trust, Reached.branch_of}
@@ -66,7 +65,6 @@ lacks sure place = record {
   place = word_place place;
   kind = NoInstruction;
   is_sure = sure;
-  text = no_instruction_text (2 * place) sure;
 }
 
 lack_is_reported : (sure : Bool) (place w : ℕ) (o : Option Instruction) → sure ≡ true → is_foreign w ≡ false →
@@ -146,23 +144,23 @@ ends_before v c place none start r before = elim (cases_lt place (start + unix_l
       (lt-ltb back (unix_length (unix_line_in Unix c start)) (omega arith)) there)
 ]
 
-entry_none : (c : Contents) (t : Trust) (place target : ℕ) (o : Option ℕ) → t.is_sure ≡ true →
-    NoneIsSure (suspicious_entry Promise c t place target o) → o ≡ None
-entry_none c t place target None s q = refl
-entry_none c t place target (Some start) s q =
+entry_none : (t : Trust) (place : ℕ) (o : Option ℕ) → t.is_sure ≡ true →
+    NoneIsSure (suspicious_entry Promise t place o) → o ≡ None
+entry_none t place None s q = refl
+entry_none t place (Some start) s q =
     let no : (t.is_sure && true) ≡ false = q.0 in
     let yes : (t.is_sure && true) ≡ true = ap (λ (b : Bool). b && true) s in
     absurd cc
 
 -- what is reported of a branch out of the text
-abbrev outside : Contents → Trust → ℕ → ℕ → Found
-outside c t place target =
-    record { place = word_place place; kind = BranchOutside; is_sure = t.is_sure; text = outside_in c place target t.is_sure }
+abbrev outside : Trust → ℕ → Found
+outside t place =
+    record { place = word_place place; kind = BranchOutside; is_sure = t.is_sure }
 
 -- and of a relocated word at a place
 abbrev first_word : Contents → Trust → ℕ → Found
 first_word c t place =
-    record { place = reloc_place c place; kind = RelocatedFirstWord; is_sure = t.is_sure; text = relocated_first_text (2 * place) t.is_sure }
+    record { place = reloc_place c place; kind = RelocatedFirstWord; is_sure = t.is_sure }
 
 -- nothing sure is reported of a branch that is looked at
 quiet : (out reached : Bool) (x : Found) (xs : List Found) → reached ≡ true → x.is_sure ≡ true →
@@ -176,15 +174,15 @@ branch_inside : (e : Evidence) (c : Contents) (t : Trust) (place : ℕ) (o : Opt
 branch_inside e c t place None s r q = tt
 branch_inside e c t place (Some target) s r q =
     let size : ℕ = 2 * length c.text_words in
-    let entry : List Found = suspicious_entry (of_lines e) c t place target (entered (of_lines e) c (target / 2)) in
+    let entry : List Found = suspicious_entry (of_lines e) t place (entered (of_lines e) c (target / 2)) in
     let parts : (nat_lt size target ≡ false) × NoneIsSure entry =
-    quiet (nat_lt size target) t.is_reached (outside c t place target) entry r s q in (
+    quiet (nat_lt size target) t.is_reached (outside t place) entry r s q in (
       ltb-false size target parts.0,
       λ is.
-          let none : NoneIsSure (suspicious_entry Promise c t place target (entered Promise c (target / 2))) =
-          subst (λ (v : Evidence). NoneIsSure (suspicious_entry (of_lines v) c t place target (entered (of_lines v) c (target / 2)))) is
+          let none : NoneIsSure (suspicious_entry Promise t place (entered Promise c (target / 2))) =
+          subst (λ (v : Evidence). NoneIsSure (suspicious_entry (of_lines v) t place (entered (of_lines v) c (target / 2)))) is
           parts.1 in
-          ends_before Promise c (target / 2) (entry_none c t place target (entered Promise c (target / 2)) s none),
+          ends_before Promise c (target / 2) (entry_none t place (entered Promise c (target / 2)) s none),
     )
 
 line_inside : (e : Evidence) (c : Contents) (t : Trust) (place : ℕ) (line : UnixLine) → t.is_sure ≡ true → t.is_reached ≡ true →
@@ -198,8 +196,8 @@ line_inside e c t place (Machine (Plain w)) s r q = (by (is_foreign w) refl, tt)
         (lack_is_reported t.is_sure place w (instruction_of w) s f) q)
 line_inside e c t place (Machine (Decoded i a b)) s r q =
     let operands : List Found =
-    suspicious_operand c t.is_sure place (place + 1) i.first
-    ++ suspicious_operand c t.is_sure place (place + 1 + word_count_of i.first) i.second in
+    suspicious_operand c t.is_sure (place + 1) i.first
+    ++ suspicious_operand c t.is_sure (place + 1 + word_count_of i.first) i.second in
     let first : List Found = suspicious_branch (of_lines e) c t place (branch_of (2 * place) i.first) in
     let second : List Found = suspicious_branch (of_lines e) c t place (branch_of (2 * place) i.second) in
     let both : NoneIsSure first × NoneIsSure second = quiet_parts first second (quiet_parts operands (first ++ second) q).1 in (
@@ -266,12 +264,11 @@ agree true false false f m s n = refl
 agree false p q f m s n = absurd cc
 
 -- what is reported of an operand word
-abbrev bit_found : Contents → Bool → ℕ → ℕ → Reloc → Found
-bit_found c is_sure start place r = record {
+abbrev bit_found : Contents → Bool → ℕ → Found
+bit_found c is_sure place = record {
   place = reloc_place c place;
   kind = UnsuitablePcBit;
   is_sure = is_sure;
-  text = pc_bit_in c start place (is_pc_relative r) is_sure;
 }
 
 sure_bit : (s m : Bool) → s ≡ true → m ≡ false → (s && not m) ≡ true
@@ -279,34 +276,34 @@ sure_bit true false s m = refl
 sure_bit true true s m = absurd cc
 sure_bit false m s e = absurd cc
 
-suits : (c : Contents) (sure : Bool) (start place : ℕ) (x : Option Operand) → sure ≡ true →
-    NoneIsSure (suspicious_operand c sure start place x) → SuitsMode c place x
-suits c sure start place None s q = tt
-suits c sure start place (Some (General m register)) s q =
+suits : (c : Contents) (sure : Bool) (place : ℕ) (x : Option Operand) → sure ≡ true →
+    NoneIsSure (suspicious_operand c sure place x) → SuitsMode c place x
+suits c sure place None s q = tt
+suits c sure place (Some (General m register)) s q =
     λ a r way at moved other.
-    let of_mode : NoneIsSure (suspicious_bit c sure start place a (slice_get c.text_reloc place)) =
-    subst (λ (o : Option Addressing). NoneIsSure (suspicious_by c sure start place o)) way q in
-    let none : NoneIsSure (suspicious_bit c sure start place a (Some r)) =
-    subst (λ (o : Option Reloc). NoneIsSure (suspicious_bit c sure start place a o)) at of_mode in
-    agree (is_relocated (Some r)) (is_pc_relative r) (counts_from_pc a) (bit_found c (sure && not (is_immediate a)) start place r) moved
+    let of_mode : NoneIsSure (suspicious_bit c sure place a (slice_get c.text_reloc place)) =
+    subst (λ (o : Option Addressing). NoneIsSure (suspicious_by c sure place o)) way q in
+    let none : NoneIsSure (suspicious_bit c sure place a (Some r)) =
+    subst (λ (o : Option Reloc). NoneIsSure (suspicious_bit c sure place a o)) at of_mode in
+    agree (is_relocated (Some r)) (is_pc_relative r) (counts_from_pc a) (bit_found c (sure && not (is_immediate a)) place) moved
     (sure_bit sure (is_immediate a) s other) none
-suits c sure start place (Some (Accumulator v)) s q = tt
-suits c sure start place (Some (Register r)) s q = tt
-suits c sure start place (Some (Forward v)) s q = tt
-suits c sure start place (Some (Backward v)) s q = tt
-suits c sure start place (Some (Number v)) s q = tt
+suits c sure place (Some (Accumulator v)) s q = tt
+suits c sure place (Some (Register r)) s q = tt
+suits c sure place (Some (Forward v)) s q = tt
+suits c sure place (Some (Backward v)) s q = tt
+suits c sure place (Some (Number v)) s q = tt
 
 suits_line : (v : Evidence) (c : Contents) (t : Trust) (place : ℕ) (line : UnixLine) → t.is_sure ≡ true →
     NoneIsSure (suspicious_line v c t place line) → SuitsModes c place line
 suits_line v c t place (Machine (Plain w)) s q = tt
 suits_line v c t place (Machine (Decoded i a b)) s q =
-    let first : List Found = suspicious_operand c t.is_sure place (place + 1) i.first in
-    let second : List Found = suspicious_operand c t.is_sure place (place + 1 + word_count_of i.first) i.second in
+    let first : List Found = suspicious_operand c t.is_sure (place + 1) i.first in
+    let second : List Found = suspicious_operand c t.is_sure (place + 1 + word_count_of i.first) i.second in
     let branches : List Found =
     suspicious_branch v c t place (branch_of (2 * place) i.first) ++ suspicious_branch v c t place (branch_of (2 * place) i.second) in
     let both : NoneIsSure first × NoneIsSure second = quiet_parts first second (quiet_parts (first ++ second) branches q).0 in (
-      suits c t.is_sure place (place + 1) i.first s both.0,
-      suits c t.is_sure place (place + 1 + word_count_of i.first) i.second s both.1,
+      suits c t.is_sure (place + 1) i.first s both.0,
+      suits c t.is_sure (place + 1 + word_count_of i.first) i.second s both.1,
     )
 suits_line v c t place (Call k) s q = tt
 

@@ -9,15 +9,14 @@ use Rattle.std.specs.Prelude.{ℕ, ◌+◌, ◌*◌, ◌/◌, ◌%◌, Bool, tru
 use Rattle.std.specs.Prelude.{slice_index, Option, Some, None}
 use Rattle.std.specs.List.{list_any}
 use Rattle.aout_core.specs.{declared.symbol.Symbol.Symbol, declared.symbol.Segment.TheVariants.Absolute, declared.reloc.Reloc.Reloc}
-use Rattle.aout_core.specs.{Contents.Contents, Addresses.data_start_in, Encoding.symbols_at}
+use Rattle.aout_core.specs.{Contents.Contents, Encoding.symbols_at}
 use Rattle.aout_core.specs.WellFormed.{is_external, masked_type, segment_number}
 use Rattle.findings.specs.declared.finding.FindingKind.TheVariants.{UnsuitableAddress, AbsoluteText}
 use Rattle.findings.specs.{Found.Found, Found.found_if, Segments.bss_to}
 use Rattle.suspicions.specs.{declared.addresses.Misplaced.Misplaced, declared.addresses.Misplaced.TheVariants.Odd}
 use Rattle.suspicions.specs.{declared.addresses.Misplaced.TheVariants.AtEnd, declared.addresses.Misplaced.TheVariants.Within}
 use Rattle.suspicions.specs.{declared.evidence.Evidence.Evidence, declared.evidence.Evidence.TheVariants.Promise}
-use Rattle.suspicions.specs.{Reached.is_text, Trust.entered, SuspicionTexts.symbol_text, SuspicionTexts.text_word_text}
-use Rattle.suspicions.specs.SuspicionTexts.{absolute_text}
+use Rattle.suspicions.specs.{Reached.is_text, Trust.entered}
 
 abbrev pub within_by : Option ℕ → Option Misplaced
 within_by None = None
@@ -35,49 +34,42 @@ misplaced_at c n =
     if nat_lt (2 * length c.text_words) n then None
     else (if eqb (n % 2) 1 then Some Odd else misplaced_even c n)
 
--- symbol n, whose entry is at this byte
-abbrev pub misplaced_symbol : ℕ → ℕ → Symbol → Option Misplaced → List Found
-misplaced_symbol place n s None = []
-misplaced_symbol place n s (Some m) = found_if true (place + 10) UnsuitableAddress (symbol_text n s.name s.value m)
+-- at this byte, if there is a reason
+abbrev pub misplaced_found : ℕ → Option Misplaced → List Found
+misplaced_found place None = []
+misplaced_found place (Some m) = found_if true place UnsuitableAddress
 
 -- an external that is absolute has an address of the text
 abbrev pub is_absolute_text : Contents → Symbol → Bool
 is_absolute_text c s =
     is_external s && (eqb (masked_type s) (segment_number Absolute) && nat_lt s.value (2 * length c.text_words))
 
--- whether some symbol is of text, and symbol n, whose entry is at this byte
-abbrev pub suspicious_symbol : Contents → Bool → ℕ → ℕ → Symbol → List Found
-suspicious_symbol c named place n s =
-    (if is_text s then misplaced_symbol place n s (misplaced_at c s.value) else [])
-    ++ found_if (not named && is_absolute_text c s) (place + 8) AbsoluteText (absolute_text n s.name s.value)
+-- whether some symbol is of text, and one whose entry is at this byte
+abbrev pub suspicious_symbol : Contents → Bool → ℕ → Symbol → List Found
+suspicious_symbol c named place s =
+    (if is_text s then misplaced_found (place + 10) (misplaced_at c s.value) else [])
+    ++ found_if (not named && is_absolute_text c s) (place + 8) AbsoluteText
 
 -- the symbols from number n on
 abbrev pub suspicious_symbols : Contents → Bool → ℕ → List Symbol → List Found
 suspicious_symbols c named n [] = []
 suspicious_symbols c named n (s ∷ ss) =
-    suspicious_symbol c named (symbols_at c.header + 12 * n) n s ++ suspicious_symbols c named (n + 1) ss
+    suspicious_symbol c named (symbols_at c.header + 12 * n) s ++ suspicious_symbols c named (n + 1) ss
 
--- a word of kind text at an address, which is at this byte
-abbrev pub misplaced_word : ℕ → ℕ → ℕ → Option Misplaced → List Found
-misplaced_word place address word None = []
-misplaced_word place address word (Some m) = found_if true place UnsuitableAddress (text_word_text address word m)
+-- a word at this byte, by its relocation word
+abbrev pub suspicious_word : Contents → ℕ → ℕ → Reloc → List Found
+suspicious_word c place word r = if eqb (r.0 % 0o20) 2 then misplaced_found place (misplaced_at c word) else []
 
--- a word at an address, by its relocation word
-abbrev pub suspicious_word : Contents → ℕ → ℕ → ℕ → Reloc → List Found
-suspicious_word c place address word r =
-    if eqb (r.0 % 0o20) 2 then misplaced_word place address word (misplaced_at c word) else []
-
--- the words of a segment from number n on, by their relocation words; number 0 is at this byte, and has this address
-abbrev pub suspicious_segment : Contents → ℕ → ℕ → List ℕ → ℕ → List Reloc → List Found
-suspicious_segment c place address words n [] = []
-suspicious_segment c place address words n (r ∷ rs) =
-    suspicious_word c (place + 2 * n) (address + 2 * n) (slice_index words n) r
-    ++ suspicious_segment c place address words (n + 1) rs
+-- the words of a segment from number n on, by their relocation words; number 0 is at this byte
+abbrev pub suspicious_segment : Contents → ℕ → List ℕ → ℕ → List Reloc → List Found
+suspicious_segment c place words n [] = []
+suspicious_segment c place words n (r ∷ rs) =
+    suspicious_word c (place + 2 * n) (slice_index words n) r ++ suspicious_segment c place words (n + 1) rs
 
 -- all addresses in text, if all of it is instructions
 abbrev pub suspicious_addresses : Evidence → Contents → List Found
 suspicious_addresses Promise c =
-    suspicious_segment c 16 0 c.text_words 0 c.text_reloc
-    ++ suspicious_segment c (16 + c.header.text_size) (data_start_in c.header) c.data_words 0 c.data_reloc
+    suspicious_segment c 16 c.text_words 0 c.text_reloc
+    ++ suspicious_segment c (16 + c.header.text_size) c.data_words 0 c.data_reloc
     ++ suspicious_symbols c (list_any is_text c.symbols) 0 c.symbols
 suspicious_addresses _ c = []

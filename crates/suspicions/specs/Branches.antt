@@ -7,7 +7,7 @@ use Rattle.std.specs.Prelude.{ℕ, ◌+◌, ◌*◌, ◌/◌, Bool, true, ◌&&�
 use Rattle.aout_core.specs.Contents.{Contents}
 use Rattle.findings.specs.declared.finding.FindingKind.TheVariants.{BranchOutside, BranchWithin}
 use Rattle.findings.specs.Found.{Found, found_as}
-use Rattle.suspicions.specs.{SuspicionTexts.outside_in, SuspicionTexts.within_in, declared.evidence.Evidence.Evidence}
+use Rattle.suspicions.specs.declared.evidence.Evidence.{Evidence}
 use Rattle.suspicions.specs.{declared.evidence.Evidence.TheVariants.Names, declared.evidence.Evidence.TheVariants.Promise}
 use Rattle.suspicions.specs.{declared.trust.Trust.Trust, Reached.is_promised, Trust.entered}
 
@@ -20,19 +20,18 @@ abbrev pub of_lines : Evidence → Evidence
 of_lines Promise = Promise
 of_lines _ = Names
 
--- a target within the line that begins at a place
-abbrev pub suspicious_entry : Evidence → Contents → Trust → ℕ → ℕ → Option ℕ → List Found
-suspicious_entry e c t place target None = []
-suspicious_entry e c t place target (Some start) =
-    let is_sure : Bool = t.is_sure && is_promised e in
-    found_as is_sure true (word_place place) BranchWithin (within_in c place target start is_sure)
+-- a target within the line that begins at a place, if it is
+abbrev pub suspicious_entry : Evidence → Trust → ℕ → Option ℕ → List Found
+suspicious_entry e t place None = []
+suspicious_entry e t place (Some start) =
+    found_as (t.is_sure && is_promised e) true (word_place place) BranchWithin
 
 -- the branch at a place leads to a target
 abbrev pub suspicious_target : Evidence → Contents → Trust → ℕ → ℕ → List Found
 suspicious_target e c t place target =
     if nat_lt (2 * length c.text_words) target
-    then found_as t.is_sure true (word_place place) BranchOutside (outside_in c place target t.is_sure)
-    else suspicious_entry e c t place target (entered e c (target / 2))
+    then found_as t.is_sure true (word_place place) BranchOutside
+    else suspicious_entry e t place (entered e c (target / 2))
 
 abbrev pub suspicious_branch : Evidence → Contents → Trust → ℕ → Option ℕ → List Found
 suspicious_branch e c t place None = []

@@ -5,6 +5,5 @@ pub mod ReachedLaw
 pub mod Referents
 pub mod SureLaw
 pub mod Suspicions
-pub mod SuspicionTexts
 pub mod Trust
 pub mod internal

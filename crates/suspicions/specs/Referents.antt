@@ -27,7 +27,7 @@ use Rattle.suspicions.specs.declared.referent.Access.TheVariants.{Goes, Touches,
 use Rattle.suspicions.specs.declared.referent.Mismatch.TheVariants.{Unmarked, Unrelocated, Absolute, Beyond, CommonCalled, Outgrown, OddPlace, DataCalled}
 use Rattle.suspicions.specs.{declared.referent.Referent.Referent, declared.referent.Access.Access, declared.referent.Mismatch.Mismatch}
 use Rattle.suspicions.specs.{declared.evidence.Evidence.Evidence, declared.trust.Trust.Trust, Reached.is_promised}
-use Rattle.suspicions.specs.{Branches.word_place, SuspicionTexts.mismatch_in}
+use Rattle.suspicions.specs.Branches.{word_place}
 use Rattle.aout_core.specs.declared.reloc.Kind.TheVariants as kinds
 use Rattle.instructions.specs.declared.mode.Addressing.TheVariants as ways
 
@@ -111,34 +111,33 @@ is_certain promised (CommonCalled n) = promised
 is_certain promised (DataCalled n) = promised
 is_certain promised _ = true
 
--- the word at a place, of the line at start
-abbrev pub suspicious_mismatch : Evidence → Contents → Trust → ℕ → ℕ → Option Mismatch → List Found
-suspicious_mismatch e c t start place None = []
-suspicious_mismatch e c t start place (Some m) =
+-- the word at a place
+abbrev pub suspicious_mismatch : Evidence → Trust → ℕ → Option Mismatch → List Found
+suspicious_mismatch e t place None = []
+suspicious_mismatch e t place (Some m) =
     found_as (t.is_sure && is_certain (is_promised e) m) true (word_place place) UnsuitableReference
-    (mismatch_in c start place m (t.is_sure && is_certain (is_promised e) m))
 
-abbrev pub suspicious_referent : Evidence → Contents → Trust → ℕ → ℕ → Bool → ℕ → Addressing → Option Reloc → List Found
-suspicious_referent e c t start place jumps word a None = []
-suspicious_referent e c t start place jumps word a (Some r) =
-    suspicious_mismatch e c t start place (mismatch_of c (access_by jumps a) (referred (counts_from_pc a) r (2 * place + 2) word))
+abbrev pub suspicious_referent : Evidence → Contents → Trust → ℕ → Bool → ℕ → Addressing → Option Reloc → List Found
+suspicious_referent e c t place jumps word a None = []
+suspicious_referent e c t place jumps word a (Some r) =
+    suspicious_mismatch e t place (mismatch_of c (access_by jumps a) (referred (counts_from_pc a) r (2 * place + 2) word))
 
-abbrev pub suspicious_way : Evidence → Contents → Trust → ℕ → ℕ → Bool → ℕ → Option Addressing → List Found
-suspicious_way e c t start place jumps word None = []
-suspicious_way e c t start place jumps word (Some a) =
-    suspicious_referent e c t start place jumps word a (slice_get c.text_reloc place)
+abbrev pub suspicious_way : Evidence → Contents → Trust → ℕ → Bool → ℕ → Option Addressing → List Found
+suspicious_way e c t place jumps word None = []
+suspicious_way e c t place jumps word (Some a) =
+    suspicious_referent e c t place jumps word a (slice_get c.text_reloc place)
 
 -- the operand that has this word at a place
-abbrev pub suspicious_reference : Evidence → Contents → Trust → ℕ → ℕ → Bool → Option Operand → ℕ → List Found
-suspicious_reference e c t start place jumps (Some (General m r)) word =
-    suspicious_way e c t start place jumps word (addressing m r)
-suspicious_reference e c t start place jumps _ word = []
+abbrev pub suspicious_reference : Evidence → Contents → Trust → ℕ → Bool → Option Operand → ℕ → List Found
+suspicious_reference e c t place jumps (Some (General m r)) word =
+    suspicious_way e c t place jumps word (addressing m r)
+suspicious_reference e c t place jumps _ word = []
 
 -- both operands of the line at a place, if it is reached
 abbrev pub suspicious_references : Evidence → Contents → Trust → ℕ → UnixLine → List Found
 suspicious_references e c t place (Machine (Decoded i a b)) =
     if t.is_reached then
-    suspicious_reference e c t place (place + 1) (jumps i.row.operation) i.first (number a)
-    ++ suspicious_reference e c t place (place + 1 + word_count_of i.first) (jumps i.row.operation) i.second (number b)
+    suspicious_reference e c t (place + 1) (jumps i.row.operation) i.first (number a)
+    ++ suspicious_reference e c t (place + 1 + word_count_of i.first) (jumps i.row.operation) i.second (number b)
     else []
 suspicious_references e c t place line = []

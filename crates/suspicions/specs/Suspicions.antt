@@ -25,7 +25,6 @@ use Rattle.findings.specs.declared.finding.FindingKind.TheVariants.{RelocatedFir
 use Rattle.findings.specs.{Found.Found, Found.found_as, Odd.odd}
 use Rattle.suspicions.specs.Branches.{of_lines, word_place, suspicious_branch}
 use Rattle.suspicions.specs.{Addresses.suspicious_addresses, Referents.suspicious_references}
-use Rattle.suspicions.specs.SuspicionTexts.{relocated_first_text, pc_bit_in, cut_text, no_instruction_text}
 use Rattle.suspicions.specs.{declared.evidence.Evidence.Evidence, declared.trust.Trust.Trust, Reached.branch_of, Trust.trust}
 
 -- the byte of the file at which the relocation word of a word of text is
@@ -44,7 +43,7 @@ may_begin c place = begins_words c place (line_length (line_at c.text_words plac
 abbrev pub suspicious_first : Contents → Trust → ℕ → List Found
 suspicious_first c t place =
     found_as t.is_sure (is_relocated (slice_get c.text_reloc place) && (t.is_reached || may_begin c place)) (reloc_place c place)
-    RelocatedFirstWord (relocated_first_text (2 * place) t.is_sure)
+    RelocatedFirstWord
 
 -- the pc bit does not suit the mode
 abbrev pub differ : Bool → Bool → Bool
@@ -56,20 +55,20 @@ abbrev pub is_immediate : Addressing → Bool
 is_immediate Immediate = true
 is_immediate _ = false
 
--- the operand word at a place, of the line at start, with this relocation word, if the file has relocation
-abbrev pub suspicious_bit : Contents → Bool → ℕ → ℕ → Addressing → Option Reloc → List Found
-suspicious_bit c is_sure start place a None = []
-suspicious_bit c is_sure start place a (Some r) =
+-- the operand word at a place, with this relocation word, if the file has relocation
+abbrev pub suspicious_bit : Contents → Bool → ℕ → Addressing → Option Reloc → List Found
+suspicious_bit c is_sure place a None = []
+suspicious_bit c is_sure place a (Some r) =
     found_as (is_sure && not (is_immediate a)) (is_relocated (Some r) && differ (is_pc_relative r) (counts_from_pc a)) (reloc_place c place)
-    UnsuitablePcBit (pc_bit_in c start place (is_pc_relative r) (is_sure && not (is_immediate a)))
+    UnsuitablePcBit
 
-abbrev pub suspicious_by : Contents → Bool → ℕ → ℕ → Option Addressing → List Found
-suspicious_by c is_sure start place None = []
-suspicious_by c is_sure start place (Some a) = suspicious_bit c is_sure start place a (slice_get c.text_reloc place)
+abbrev pub suspicious_by : Contents → Bool → ℕ → Option Addressing → List Found
+suspicious_by c is_sure place None = []
+suspicious_by c is_sure place (Some a) = suspicious_bit c is_sure place a (slice_get c.text_reloc place)
 
-abbrev pub suspicious_operand : Contents → Bool → ℕ → ℕ → Option Operand → List Found
-suspicious_operand c is_sure start place (Some (General m r)) = suspicious_by c is_sure start place (addressing m r)
-suspicious_operand c is_sure start place _ = []
+abbrev pub suspicious_operand : Contents → Bool → ℕ → Option Operand → List Found
+suspicious_operand c is_sure place (Some (General m r)) = suspicious_by c is_sure place (addressing m r)
+suspicious_operand c is_sure place _ = []
 
 -- a word begins an instruction of another PDP-11: `mtps`, `mfps`, or one of the floating or the commercial instruction set
 abbrev pub is_foreign : ℕ → Bool
@@ -78,8 +77,8 @@ is_foreign w = eqb (w / 0o100) 0o1064 || (eqb (w / 0o100) 0o1067 || (eqb (w / 0o
 -- a word that begins no line of more words, by the instruction that it would begin
 abbrev pub suspicious_lack : Bool → ℕ → ℕ → Option Instruction → List Found
 suspicious_lack is_sure place w None =
-    found_as is_sure (not (is_foreign w)) (word_place place) NoInstruction (no_instruction_text (2 * place) is_sure)
-suspicious_lack is_sure place w (Some i) = found_as is_sure true (word_place place) CutInstruction (cut_text (2 * place) is_sure)
+    found_as is_sure (not (is_foreign w)) (word_place place) NoInstruction
+suspicious_lack is_sure place w (Some i) = found_as is_sure true (word_place place) CutInstruction
 
 abbrev pub suspicious_plain : Contents → Trust → ℕ → ℕ → List Found
 suspicious_plain c t place w =
@@ -90,8 +89,8 @@ suspicious_plain c t place w =
 abbrev pub suspicious_line : Evidence → Contents → Trust → ℕ → UnixLine → List Found
 suspicious_line e c t place (Machine (Plain w)) = suspicious_plain c t place w
 suspicious_line e c t place (Machine (Decoded i a b)) =
-    (suspicious_operand c t.is_sure place (place + 1) i.first
-    ++ suspicious_operand c t.is_sure place (place + 1 + word_count_of i.first) i.second)
+    (suspicious_operand c t.is_sure (place + 1) i.first
+    ++ suspicious_operand c t.is_sure (place + 1 + word_count_of i.first) i.second)
     ++ (suspicious_branch e c t place (branch_of (2 * place) i.first) ++ suspicious_branch e c t place (branch_of (2 * place) i.second))
 suspicious_line e c t place (Call k) = []
 

@@ -2,20 +2,18 @@
 ghost use Rattle.std.specs.Prelude.{◌≡◌, ◌+◌, ◌*◌, ◌^◌, ◌<◌, ◌≤◌, if◌then◌else◌, [], ℕ, false, length, get_or};
 ghost use Rattle.std.specs.List.{list_any};
 ghost use Rattle.aout_core.specs.Encoding.{symbols_at};
-ghost use Rattle.findings.specs.Found.{Finds, Holds};
-ghost use Rattle.texts.specs.Texts.{Puts};
+ghost use Rattle.findings.specs.Found.{Finds};
 ghost use Rattle.suspicions.specs.declared.evidence.Evidence.TheVariants.{Promise};
 ghost use Rattle.suspicions.specs.Reached.{is_text, is_reached};
-ghost use Rattle.suspicions.specs.SuspicionTexts.{misplaced_text, symbol_text, text_word_text, absolute_text};
-ghost use Rattle.suspicions.specs.Addresses.{misplaced_even, misplaced_at, misplaced_symbol, is_absolute_text, suspicious_symbol, suspicious_symbols, misplaced_word, suspicious_word, suspicious_segment, suspicious_addresses};
+ghost use Rattle.suspicions.specs.Addresses.{misplaced_even, misplaced_at, misplaced_found, is_absolute_text, suspicious_symbol, suspicious_symbols, suspicious_word, suspicious_segment, suspicious_addresses};
 
 use crate::evidence::Evidence;
 use crate::leads::is_text;
 use crate::referent::bss_to;
 use crate::trust::{Reached, entered};
 use aout_core::{File, Reloc, Segment, Symbol};
-use findings::{FilePlaces, FindingKind, Findings, put_symbol_title};
-use texts::Text;
+use findings::{FilePlaces, FindingKind, Findings, Title};
+use std::fmt::{self, Display, Formatter, Write};
 
 /// Why no instruction begins at an address.
 #[derive(Clone, Copy)]
@@ -63,64 +61,27 @@ fn misplaced_at(reached: &Reached<'_>, address: u16) -> Option<Misplaced>
     }
 }
 
-/// Appends why no instruction begins there, and what to do.
-#[tactic(auto, unfolding(crate::specs::SuspicionTexts::misplaced_text))]
-fn put_misplaced(text: &mut Text, misplaced: Misplaced)
-    ensures { Puts text.old text.new (misplaced_text misplaced) }
-{
-    match misplaced {
-        Misplaced::Odd => {
-            text.put(", which is odd: an instruction begins at an even address");
-        }
-        Misplaced::AtEnd => {
-            text.put(", where text ends: data begins there, of type 3 and relocation word 4");
-        }
-        Misplaced::Within(address) => {
-            text.put(", within the instruction at ");
-            text.put_six_digits(address);
-            text.put(": count all bytes before it");
+/// Why no instruction begins there, and what to do.
+impl Display for Misplaced {
+    fn fmt<W: fmt::Write>(&self, f: &mut Formatter<W>) -> fmt::Result {
+        match self {
+            Misplaced::Odd => write!(
+                f,
+                ", which is odd: an instruction begins at an even address"
+            ),
+            Misplaced::AtEnd => write!(
+                f,
+                ", where text ends: data begins there, of type 3 and relocation word 4"
+            ),
+            Misplaced::Within(address) => {
+                write!(
+                    f,
+                    ", within the instruction at {:06o}: count all bytes before it",
+                    *address
+                )
+            }
         }
     }
-}
-
-/// A text that symbol `number` of text has the address of no instruction.
-#[tactic(auto, unfolding(crate::specs::SuspicionTexts::symbol_text))]
-fn symbol_text(findings: &Findings, number: usize, symbol: &Symbol, misplaced: Misplaced) -> Text
-    ensures { Holds result (symbol_text number symbol.now.name symbol.now.value misplaced) }
-{
-    let mut text = findings.text();
-    put_symbol_title(&mut text, number, symbol);
-    text.put(" of text has value ");
-    text.put_six_digits(u32::from(symbol.value));
-    put_misplaced(&mut text, misplaced);
-    text
-}
-
-/// A text that a word of kind text refers to the address of no instruction.
-#[tactic(auto, unfolding(crate::specs::SuspicionTexts::text_word_text))]
-fn text_word_text(findings: &Findings, address: u32, word: u16, misplaced: Misplaced) -> Text
-    ensures { Holds result (text_word_text address word misplaced) }
-{
-    let mut text = findings.text();
-    text.put("the word at ");
-    text.put_six_digits(address);
-    text.put(" is of kind text and refers to ");
-    text.put_six_digits(u32::from(word));
-    put_misplaced(&mut text, misplaced);
-    text
-}
-
-/// A text that symbol `number` is absolute, and has an address of the text.
-#[tactic(auto, unfolding(crate::specs::SuspicionTexts::absolute_text))]
-fn absolute_text(findings: &Findings, number: usize, symbol: &Symbol) -> Text
-    ensures { Holds result (absolute_text number symbol.now.name symbol.now.value) }
-{
-    let mut text = findings.text();
-    put_symbol_title(&mut text, number, symbol);
-    text.put(" is absolute with value ");
-    text.put_six_digits(u32::from(symbol.value));
-    text.put(", which is in text, and no symbol is of text: its type is 000042");
-    text
 }
 
 /// Whether an external is absolute and has an address of the text.
@@ -144,15 +105,20 @@ fn find_misplaced_symbol(
     requires marks { (i : ℕ) → get_or reached.now.marks.now i false
         ≡ is_reached reached.now.evidence reached.now.sweep.now i }
     requires near { place < 2 ^ 22 }
-    ensures { Finds findings.old findings.new (if is_text symbol.now then misplaced_symbol place
-        number symbol.now (misplaced_at reached.now.sweep.now symbol.now.value) else []) }
+    ensures { Finds findings.old findings.new (if is_text symbol.now then misplaced_found (place + 10)
+        (misplaced_at reached.now.sweep.now symbol.now.value) else []) }
 {
     if !is_text(symbol) {
         return;
     }
     if let Some(misplaced) = misplaced_at(reached, symbol.value) {
-        let text = symbol_text(findings, number, symbol, misplaced);
-        findings.find(place + 10, FindingKind::UnsuitableAddress, text);
+        let (title, value) = (Title { number, symbol }, symbol.value);
+        findings.find_if(
+            true,
+            place + 10,
+            FindingKind::UnsuitableAddress,
+            format_args!("{title} of text has value {value:06o}{misplaced}"),
+        );
     }
 }
 
@@ -169,15 +135,20 @@ fn find_symbol(
         ≡ is_reached reached.now.evidence reached.now.sweep.now i }
     requires small { number < 65536 }
     ensures { Finds findings.old findings.new (suspicious_symbol reached.now.sweep.now named
-        (symbols_at reached.now.sweep.now.header + 12 * number) number symbol.now) }
+        (symbols_at reached.now.sweep.now.header + 12 * number) symbol.now) }
 {
     let file = reached.sweep.file();
     let place = FilePlaces::of(file.header()).symbols + 12 * number;
     find_misplaced_symbol(findings, reached, place, number, symbol);
-    if !named && is_absolute_text(file, symbol) {
-        let text = absolute_text(findings, number, symbol);
-        findings.find(place + 8, FindingKind::AbsoluteText, text);
-    }
+    let (title, value) = (Title { number, symbol }, symbol.value);
+    findings.find_if(
+        !named && is_absolute_text(file, symbol),
+        place + 8,
+        FindingKind::AbsoluteText,
+        format_args!(
+            "{title} is absolute with value {value:06o}, which is in text, and no symbol is of text: its type is 000042"
+        ),
+    );
 }
 
 /// Whether some symbol is of text.
@@ -217,14 +188,21 @@ fn find_word(findings: &mut Findings, reached: &Reached<'_>, at: Word)
     requires marks { (i : ℕ) → get_or reached.now.marks.now i false
         ≡ is_reached reached.now.evidence reached.now.sweep.now i }
     ensures { Finds findings.old findings.new
-        (suspicious_word reached.now.sweep.now at.place at.address at.word at.reloc) }
+        (suspicious_word reached.now.sweep.now at.place at.word at.reloc) }
 {
     if at.reloc.0 % 0o20 != 2 {
         return;
     }
     if let Some(misplaced) = misplaced_at(reached, at.word) {
-        let text = text_word_text(findings, at.address, at.word, misplaced);
-        findings.find(at.place, FindingKind::UnsuitableAddress, text);
+        let Word { address, word, .. } = at;
+        findings.find_if(
+            true,
+            at.place,
+            FindingKind::UnsuitableAddress,
+            format_args!(
+                "the word at {address:06o} is of kind text and refers to {word:06o}{misplaced}"
+            ),
+        );
     }
 }
 
@@ -247,7 +225,7 @@ fn find_words(findings: &mut Findings, reached: &Reached<'_>, segment: &Words<'_
     requires near { segment.now.place < 2 ^ 20 }
     requires low { segment.now.address < 2 ^ 20 }
     ensures { Finds findings.old findings.new (suspicious_segment reached.now.sweep.now
-        segment.now.place segment.now.address segment.now.words.now 0 segment.now.relocs.now) }
+        segment.now.place segment.now.words.now 0 segment.now.relocs.now) }
 {
     for (number, reloc) in segment.relocs.iter().enumerate() {
         let at = Word {

@@ -2,7 +2,7 @@
 //!
 //! An instruction never begins with a relocated word, and an operand word has the pc bit exactly if its operand counts from the pc.
 //! Instructions lead to instructions. `suspicions_of` finds where an object differs, and whether it does so for sure. docs/OBJECTS.md
-//! shows which mistakes of an assembler that finds.
+//! shows which mistakes of an assembler that finds. Proved: which findings there are, and which are sure. Only tested: what they say.
 #![tactic(auto)]
 
 mod addresses;

@@ -6,10 +6,8 @@ ghost use Rattle.findings.specs.Segments.{bss_to};
 ghost use Rattle.instructions.specs.Modes.{counts_from_pc};
 ghost use Rattle.instructions.specs.Instructions.{jumps, word_count_of};
 ghost use Rattle.instructions.specs.Texts.{number};
-ghost use Rattle.texts.specs.Texts.{Puts};
-ghost use Rattle.findings.specs.Found.{Finds, Holds};
+ghost use Rattle.findings.specs.Found.{Finds};
 ghost use Rattle.suspicions.specs.Branches.{word_place};
-ghost use Rattle.suspicions.specs.SuspicionTexts.{front_text, mismatch_number, back_text, remedy_text, reference_text, mismatch_in};
 ghost use Rattle.suspicions.specs.Referents.{referent_of, referred, access_by, goes, is_after_text, is_storage, is_stored_at, common_size, wrong_place, wrong_storage, wrong_external, mismatch_of};
 ghost use Rattle.suspicions.specs.Referents.{is_certain, suspicious_mismatch, suspicious_referent, suspicious_way, suspicious_reference, suspicious_references};
 
@@ -252,86 +250,40 @@ fn is_certain(promised: bool, mismatch: Mismatch) -> bool
     }
 }
 
-/// What is wrong, up to a number.
-fn front_text(mismatch: Mismatch) -> &'static str
-    ensures { result.now ≡ front_text mismatch }
-{
+/// Appends what is wrong with a word, and what to do.
+fn put_mismatch(text: &mut Text, mismatch: Mismatch, doubt: &str) {
     match mismatch {
-        Mismatch::Unmarked(_) => " is not relocated, and ",
-        Mismatch::Unrelocated(_) | Mismatch::Absolute(_) => " counts from the pc to ",
-        Mismatch::Beyond(_) => " is of a call or a jump, and adds ",
-        Mismatch::CommonCalled(_) => " is of a call or a jump, and refers to a common of ",
-        Mismatch::Outgrown(_) => " adds ",
-        Mismatch::OddPlace(_) => " is of a call or a jump, and refers to the odd address ",
-        Mismatch::DataCalled(_) => " is of a call or a jump, and refers to ",
+        Mismatch::Unmarked(n) => text.say(format_args!(
+            " is not relocated, and {n:06o} is the address of a symbol of data or bss{doubt}: \
+             if that is meant, its relocation word is 4 for data or 6 for bss"
+        )),
+        Mismatch::Unrelocated(n) => text.say(format_args!(
+            " counts from the pc to {n:06o}, which is after text, and is not relocated{doubt}: \
+             give it the relocation word of what is there, 5 for data or 7 for bss"
+        )),
+        Mismatch::Absolute(n) => text.say(format_args!(
+            " counts from the pc to {n:06o}, which is in data or bss, and is of kind absolute{doubt}: \
+             make its relocation word 5 for data or 7 for bss"
+        )),
+        Mismatch::Beyond(n) => text.say(format_args!(
+            " is of a call or a jump, and adds {n:06o} to an external{doubt}: subtract that number"
+        )),
+        Mismatch::CommonCalled(n) => text.say(format_args!(
+            " is of a call or a jump, and refers to a common of {n:06o} bytes{doubt}: \
+             a function that is not defined has value 000000"
+        )),
+        Mismatch::Outgrown(n) => text.say(format_args!(
+            " adds {n:06o} to a common, which is beyond it{doubt}: add no value of a symbol that is not defined"
+        )),
+        Mismatch::OddPlace(n) => text.say(format_args!(
+            " is of a call or a jump, and refers to the odd address {n:06o}{doubt}: \
+             an instruction begins at an even address"
+        )),
+        Mismatch::DataCalled(n) => text.say(format_args!(
+            " is of a call or a jump, and refers to {n:06o}, which is in data or bss{doubt}: \
+             a word that refers to text has relocation word 2, or 3 from the pc"
+        )),
     }
-}
-
-/// The number.
-fn mismatch_number(mismatch: Mismatch) -> u16
-    ensures { result ≡ mismatch_number mismatch }
-{
-    match mismatch {
-        Mismatch::Unmarked(number)
-        | Mismatch::Unrelocated(number)
-        | Mismatch::Absolute(number)
-        | Mismatch::Beyond(number)
-        | Mismatch::CommonCalled(number)
-        | Mismatch::Outgrown(number)
-        | Mismatch::OddPlace(number)
-        | Mismatch::DataCalled(number) => number,
-    }
-}
-
-/// What is wrong, after the number.
-fn back_text(mismatch: Mismatch) -> &'static str
-    ensures { result.now ≡ back_text mismatch }
-{
-    match mismatch {
-        Mismatch::Unmarked(_) => " is the address of a symbol of data or bss",
-        Mismatch::Unrelocated(_) => ", which is after text, and is not relocated",
-        Mismatch::Absolute(_) => ", which is in data or bss, and is of kind absolute",
-        Mismatch::Beyond(_) => " to an external",
-        Mismatch::CommonCalled(_) => " bytes",
-        Mismatch::Outgrown(_) => " to a common, which is beyond it",
-        Mismatch::OddPlace(_) => "",
-        Mismatch::DataCalled(_) => ", which is in data or bss",
-    }
-}
-
-/// What to do.
-fn remedy_text(mismatch: Mismatch) -> &'static str
-    ensures { result.now ≡ remedy_text mismatch }
-{
-    match mismatch {
-        Mismatch::Unmarked(_) =>
-            ": if that is meant, its relocation word is 4 for data or 6 for bss",
-        Mismatch::Unrelocated(_) =>
-            ": give it the relocation word of what is there, 5 for data or 7 for bss",
-        Mismatch::Absolute(_) => ": make its relocation word 5 for data or 7 for bss",
-        Mismatch::Beyond(_) => ": subtract that number",
-        Mismatch::CommonCalled(_) => ": a function that is not defined has value 000000",
-        Mismatch::Outgrown(_) => ": add no value of a symbol that is not defined",
-        Mismatch::OddPlace(_) => ": an instruction begins at an even address",
-        Mismatch::DataCalled(_) =>
-            ": a word that refers to text has relocation word 2, or 3 from the pc",
-    }
-}
-
-/// A text of what is wrong with the word at an address, and what to do.
-#[tactic(auto, unfolding(crate::specs::SuspicionTexts::reference_text))]
-fn reference_text(findings: &Findings, address: u32, mismatch: Mismatch, is_sure: bool) -> Text
-    ensures { Holds result (reference_text address mismatch is_sure) }
-{
-    let mut text = findings.text();
-    text.put("the word at ");
-    text.put_six_digits(address);
-    text.put(front_text(mismatch));
-    text.put_six_digits(u32::from(mismatch_number(mismatch)));
-    text.put(back_text(mismatch));
-    text.put(doubt_text(is_sure));
-    text.put(remedy_text(mismatch));
-    text
 }
 
 /// Adds what is wrong with what the word at a place refers to.
@@ -342,14 +294,16 @@ fn find_mismatch(
     mismatch: Option<Mismatch>,
 )
     requires { place < 2 ^ 20 }
-    ensures { Finds findings.old findings.new (suspicious_mismatch at.now.lines.evidence
-        at.now.lines.sweep.now at.now.trust at.now.start place mismatch) }
+    ensures { Finds findings.old findings.new (suspicious_mismatch at.now.lines.evidence at.now.trust place mismatch) }
 {
     let Some(mismatch) = mismatch else {
         return;
     };
     let is_sure = at.trust.is_sure && is_certain(is_promised(at.lines.evidence), mismatch);
-    let mut text = reference_text(findings, (2 * place) as u32, mismatch, is_sure);
+    let address = 2 * place;
+    let mut text = findings.text();
+    text.say(format_args!("the word at {address:06o}"));
+    put_mismatch(&mut text, mismatch, doubt_text(is_sure));
     put_instruction(&mut text, at.sweep().named(), at.start);
     findings.find_as(
         is_sure,
@@ -371,7 +325,7 @@ struct Placed {
 fn find_referent(findings: &mut Findings, at: &Suspect<'_>, placed: Placed, addressing: Addressing)
     requires { placed.place ≤ 32770 }
     ensures { Finds findings.old findings.new (suspicious_referent at.now.lines.evidence
-        at.now.lines.sweep.now at.now.trust at.now.start placed.place placed.jumps placed.word
+        at.now.lines.sweep.now at.now.trust placed.place placed.jumps placed.word
         addressing (slice_get at.now.lines.sweep.now.text_reloc placed.place)) }
 {
     let file = at.sweep().file();
@@ -393,7 +347,7 @@ fn find_reference(
 )
     requires { placed.place ≤ 32770 }
     ensures { Finds findings.old findings.new (suspicious_reference at.now.lines.evidence
-        at.now.lines.sweep.now at.now.trust at.now.start placed.place placed.jumps operand
+        at.now.lines.sweep.now at.now.trust placed.place placed.jumps operand
         placed.word) }
 {
     let Some(Operand::General(mode, register)) = operand else {

@@ -1,5 +1,4 @@
 //! A line that is looked at.
-ghost use Rattle.suspicions.specs.SuspicionTexts.{doubt_text};
 ghost use Rattle.std.specs.Prelude.{◌≡◌, ◌<◌, ◌*◌, length};
 
 use crate::leads::address_of;
@@ -33,9 +32,7 @@ impl<'a> Suspect<'a> {
 }
 
 /// What is said of a line that may be of data.
-pub(crate) fn doubt_text(is_sure: bool) -> &'static str
-    ensures { result.now ≡ doubt_text is_sure }
-{
+pub(crate) fn doubt_text(is_sure: bool) -> &'static str {
     if is_sure {
         ""
     } else {

@@ -1,4 +1,4 @@
-//! What is suspicious in a text.
+//! What is suspicious in a text. Only tested: what the findings say.
 ghost use Rattle.std.specs.Prelude.{◌≡◌, ◌+◌, ◌*◌, ◌^◌, ◌<◌, ◌&&◌, ◌++◌, ℕ, false, Some, length, drop, get_or, slice_get, IfOk};
 ghost use Rattle.aout_core.specs.WellFormed.{is_pc_relative};
 ghost use Rattle.instructions.specs.Modes.{counts_from_pc};
@@ -6,12 +6,11 @@ ghost use Rattle.instructions.specs.declared.unix.Decoder.TheVariants.{Unix};
 ghost use Rattle.instructions.specs.Instructions.{instruction_of, word_count_of};
 ghost use Rattle.instructions.specs.Relocated.{is_relocated};
 ghost use Rattle.disassemblies.specs.Starts.{starts, is_start};
-ghost use Rattle.findings.specs.Found.{all_found, Finds, Holds};
+ghost use Rattle.findings.specs.Found.{all_found, Finds};
 ghost use Rattle.suspicions.specs.declared.evidence.Evidence.TheVariants.{Names};
 ghost use Rattle.suspicions.specs.Reached.{branch_of, is_reached};
 ghost use Rattle.suspicions.specs.Trust.{trust};
 ghost use Rattle.suspicions.specs.Branches.{of_lines, suspicious_branch};
-ghost use Rattle.suspicions.specs.SuspicionTexts.{relocated_first_text, bit_text, pc_bit_text, pc_bit_in, cut_text, no_instruction_text};
 ghost use Rattle.suspicions.specs.Suspicions.{reloc_place, may_begin, suspicious_first, differ, is_immediate, suspicious_bit, suspicious_by, suspicious_operand};
 ghost use Rattle.suspicions.specs.Suspicions.{is_foreign, suspicious_lack, suspicious_plain, suspicious_line, suspicious_at, suspicious_place, suspicious_words, suspicions, all_odd};
 
@@ -28,60 +27,6 @@ use disassemblies::Sweep;
 use findings::{FilePlaces, Finding, FindingKind, Findings, odd_of, put_instruction};
 use instructions::{Addressing, Instruction, Line, Operand, UnixLine, decode, is_relocated};
 use std::alloc::{AllocError, Global};
-use texts::Text;
-
-/// A text that the first word of an instruction at an address is relocated.
-#[tactic(auto, unfolding(crate::specs::SuspicionTexts::relocated_first_text))]
-fn relocated_first_text(findings: &Findings, address: u32, is_sure: bool) -> Text
-    ensures { Holds result (relocated_first_text address is_sure) }
-{
-    let mut text = findings.text();
-    text.put("the first word of the instruction at ");
-    text.put_six_digits(address);
-    text.put(" is relocated");
-    text.put(doubt_text(is_sure));
-    text
-}
-
-fn bit_text(is_set: bool) -> &'static str
-    ensures { result.now ≡ bit_text is_set }
-{
-    if is_set {
-        " is set, and its operand does not count from the pc"
-    } else {
-        " is not set, and its operand counts from the pc"
-    }
-}
-
-/// A text that the operand word at an address has a pc bit that does not suit its mode.
-#[tactic(auto, unfolding(crate::specs::SuspicionTexts::pc_bit_text))]
-fn pc_bit_text(findings: &Findings, address: u32, is_set: bool, is_sure: bool) -> Text
-    ensures { Holds result (pc_bit_text address is_set is_sure) }
-{
-    let mut text = findings.text();
-    text.put("the pc bit of the word at ");
-    text.put_six_digits(address);
-    text.put(bit_text(is_set));
-    text.put(doubt_text(is_sure));
-    text
-}
-
-/// The same of a word at a place of a line, with the instruction.
-fn pc_bit_in(
-    findings: &Findings,
-    at: &Suspect<'_>,
-    place: usize,
-    is_set: bool,
-    is_sure: bool,
-) -> Text
-    requires { place < 2 ^ 20 }
-    ensures { Holds result
-        (pc_bit_in at.now.lines.sweep.now at.now.start place is_set is_sure) }
-{
-    let mut text = pc_bit_text(findings, (2 * place) as u32, is_set, is_sure);
-    put_instruction(&mut text, at.sweep().named(), at.start);
-    text
-}
 
 /// The byte of the file at which the relocation word of a word of text is.
 fn reloc_place(file: &File, place: usize) -> usize
@@ -111,7 +56,11 @@ fn find_first(findings: &mut Findings, at: &Suspect<'_>)
     if is_relocated(reloc_at(file, at.start))
         && (at.trust.is_reached || may_begin(file, at.start))
     {
-        let text = relocated_first_text(findings, u32::from(at.address()), at.trust.is_sure);
+        let (address, doubt) = (at.address(), doubt_text(at.trust.is_sure));
+        let mut text = findings.text();
+        text.say(format_args!(
+            "the first word of the instruction at {address:06o} is relocated{doubt}"
+        ));
         findings.find_as(
             at.trust.is_sure,
             reloc_place(file, at.start),
@@ -143,7 +92,7 @@ fn is_immediate(addressing: Addressing) -> bool
 fn find_bit(findings: &mut Findings, at: &Suspect<'_>, place: usize, addressing: Addressing)
     requires { place < 2 ^ 20 }
     ensures { Finds findings.old findings.new
-        (suspicious_bit at.now.lines.sweep.now at.now.trust.is_sure at.now.start place addressing
+        (suspicious_bit at.now.lines.sweep.now at.now.trust.is_sure place addressing
         (slice_get at.now.lines.sweep.now.text_reloc place)) }
 {
     let file = at.sweep().file();
@@ -152,7 +101,15 @@ fn find_bit(findings: &mut Findings, at: &Suspect<'_>, place: usize, addressing:
     };
     if is_unsuitable(reloc, addressing) {
         let is_sure = at.trust.is_sure && !is_immediate(addressing);
-        let text = pc_bit_in(findings, at, place, reloc.is_pc(), is_sure);
+        let what = if reloc.is_pc() {
+            "is set, and its operand does not count"
+        } else {
+            "is not set, and its operand counts"
+        };
+        let (address, doubt) = (2 * place, doubt_text(is_sure));
+        let mut text = findings.text();
+        text.say(format_args!("the pc bit of the word at {address:06o} {what} from the pc{doubt}"));
+        put_instruction(&mut text, at.sweep().named(), at.start);
         findings.find_as(
             is_sure,
             reloc_place(file, place),
@@ -166,7 +123,7 @@ fn find_bit(findings: &mut Findings, at: &Suspect<'_>, place: usize, addressing:
 fn find_operand(findings: &mut Findings, at: &Suspect<'_>, place: usize, operand: Option<Operand>)
     requires { place < 2 ^ 20 }
     ensures { Finds findings.old findings.new
-        (suspicious_operand at.now.lines.sweep.now at.now.trust.is_sure at.now.start place operand) }
+        (suspicious_operand at.now.lines.sweep.now at.now.trust.is_sure place operand) }
 {
     let Some(Operand::General(mode, register)) = operand else {
         return;
@@ -175,32 +132,6 @@ fn find_operand(findings: &mut Findings, at: &Suspect<'_>, place: usize, operand
         return;
     };
     find_bit(findings, at, place, addressing);
-}
-
-/// A text that the instruction at an address is cut.
-#[tactic(auto, unfolding(crate::specs::SuspicionTexts::cut_text))]
-fn cut_text(findings: &Findings, address: u32, is_sure: bool) -> Text
-    ensures { Holds result (cut_text address is_sure) }
-{
-    let mut text = findings.text();
-    text.put("the instruction at ");
-    text.put_six_digits(address);
-    text.put(" is cut by the end of the text");
-    text.put(doubt_text(is_sure));
-    text
-}
-
-/// A text that no instruction begins at an address to which one leads.
-#[tactic(auto, unfolding(crate::specs::SuspicionTexts::no_instruction_text))]
-fn no_instruction_text(findings: &Findings, address: u32, is_sure: bool) -> Text
-    ensures { Holds result (no_instruction_text address is_sure) }
-{
-    let mut text = findings.text();
-    text.put("an instruction leads to ");
-    text.put_six_digits(address);
-    text.put(", where none begins");
-    text.put(doubt_text(is_sure));
-    text
 }
 
 /// Whether a word begins an instruction of another PDP-11.
@@ -219,13 +150,16 @@ fn find_lack(findings: &mut Findings, at: &Suspect<'_>, word: u16)
     ensures { Finds findings.old findings.new
         (suspicious_lack at.now.trust.is_sure at.now.start word (instruction_of word)) }
 {
-    let address = u32::from(at.address());
-    let is_sure = at.trust.is_sure;
+    let (address, is_sure) = (at.address(), at.trust.is_sure);
+    let doubt = doubt_text(is_sure);
+    let mut text = findings.text();
     if Instruction::from_first_word(word).is_some() {
-        let text = cut_text(findings, address, is_sure);
+        text.say(format_args!(
+            "the instruction at {address:06o} is cut by the end of the text{doubt}"
+        ));
         findings.find_as(is_sure, word_place(at), FindingKind::CutInstruction, text);
     } else if !is_foreign(word) {
-        let text = no_instruction_text(findings, address, is_sure);
+        text.say(format_args!("an instruction leads to {address:06o}, where none begins{doubt}"));
         findings.find_as(is_sure, word_place(at), FindingKind::NoInstruction, text);
     }
 }
@@ -247,8 +181,8 @@ fn find_plain(findings: &mut Findings, at: &Suspect<'_>, word: u16)
 fn find_operands(findings: &mut Findings, at: &Suspect<'_>, instruction: &Instruction)
     requires { at.now.start < 2 ^ 19 }
     ensures { Finds findings.old findings.new (suspicious_operand at.now.lines.sweep.now
-        at.now.trust.is_sure at.now.start (at.now.start + 1) instruction.now.first
-        ++ suspicious_operand at.now.lines.sweep.now at.now.trust.is_sure at.now.start
+        at.now.trust.is_sure (at.now.start + 1) instruction.now.first
+        ++ suspicious_operand at.now.lines.sweep.now at.now.trust.is_sure
         (at.now.start + 1 + word_count_of instruction.now.first) instruction.now.second) }
 {
     let place = at.start + 1;

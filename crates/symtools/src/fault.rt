@@ -1,6 +1,6 @@
 //! Why not all lines went out.
 ghost use Rattle.std.specs.Prelude.{◌≡◌};
-ghost use Rattle.aout_core.specs.Refusals.{refused};
+ghost use Rattle.aout_core.specs.Refusals.{device_fault, refused};
 ghost use Rattle.symtools.specs.declared.fault.ToolFault.TheVariants.{Memory, Device};
 
 use aout_core::{DeviceFault, Refused};
@@ -15,14 +15,14 @@ pub enum ToolFault {
     Memory(Refused),
     /// 2: the device failed, in this call or before it.
     #[error("write error")]
-    Device,
+    Device(DeviceFault),
 }
 
 impl From<DeviceFault> for ToolFault {
-    ghost from_gives = { λ _ e. e ≡ Device };
+    ghost from_gives = { λ _ e. e ≡ Device device_fault };
 
-    fn from(_fault: DeviceFault) -> ToolFault {
-        ToolFault::Device
+    fn from(fault: DeviceFault) -> ToolFault {
+        ToolFault::Device(fault)
     }
 }
 

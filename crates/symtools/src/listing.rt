@@ -1,7 +1,7 @@
 //! The list of nm.
 ghost use Rattle.std.specs.Prelude.{◌≡◌, ◌≢◌, ◌↔◌, ◌++◌, ◌∷◌, [], false, if◌then◌else◌, IfErr, IfOk, IsOk, IsTrue, OnErr, OnOk, Err, filter, string_bytes};
 ghost use Rattle.std.specs.List.{flat_map};
-ghost use Rattle.aout_core.specs.Refusals.{refused};
+ghost use Rattle.aout_core.specs.Refusals.{device_fault, refused};
 ghost use Rattle.aout_core.specs.Wires.{Puts, Writes};
 ghost use Rattle.symtools.specs.Files.{by_bytes};
 ghost use Rattle.symtools.specs.SymbolLines.{symbol_line};
@@ -28,16 +28,14 @@ pub fn nm<W: Write>(
     options: NmOptions,
     out: &mut Wire<W>,
 ) -> Result<(), ToolFault>
-    ensures device { (result ≡ Err Device) ↔ IsTrue out.new.has_failed }
+    ensures device { (result ≡ Err (Device device_fault)) ↔ IsTrue out.new.has_failed }
     ensures latched { IsTrue out.old.has_failed → (out.new ≡ out.old) }
     ensures bytes { Puts result (W.contents out.old.device) (W.contents out.new.device)
         (nm_text options (by_bytes files.now)) }
     ensures memory { result ≡ Err (Memory refused) → ListsUpTo options (by_bytes files.now)
         (W.contents out.old.device) (W.contents out.new.device) }
 {
-    if out.failed() {
-        return Err(ToolFault::Device);
-    }
+    out.working()?;
     let is_headed = !options.each_line && files.len() > 1;
     for file in files {
         list_file(alloc, file, options, is_headed, out)?;
@@ -54,7 +52,7 @@ fn list_file<W: Write>(
     out: &mut Wire<W>,
 ) -> Result<(), ToolFault>
     requires { out.old.has_failed ≡ false }
-    ensures device { (result ≡ Err Device) ↔ IsTrue out.new.has_failed }
+    ensures device { (result ≡ Err (Device device_fault)) ↔ IsTrue out.new.has_failed }
     ensures memory { result ≡ Err (Memory refused) → (out.new ≡ out.old) }
     ensures shows { result ≡ Err (Memory refused) → filter (is_shown options) file.now.1.symbols ≢ [] }
     ensures bytes { Puts result (W.contents out.old.device) (W.contents out.new.device)

@@ -4,6 +4,7 @@ ghost use Rattle.aout_core.specs.Wires.{Writes};
 ghost use Rattle.symtools.specs.Files.{by_bytes};
 ghost use Rattle.symtools.specs.SizeLines.{size_line, size_text};
 ghost use Rattle.symtools.specs.declared.fault.ToolFault.TheVariants.{Device};
+ghost use Rattle.aout_core.specs.Refusals.{device_fault};
 
 use crate::buffer::LineBuffer;
 use crate::fault::ToolFault;
@@ -17,11 +18,9 @@ use std::io::Write;
 /// It takes no memory. Its only error is `Device`, 2: the device failed, in this call or before it.
 pub fn size<W: Write>(files: &[(String, File)], out: &mut Wire<W>) -> Result<(), ToolFault>
     ensures written { Writes W.contents result out.old out.new (size_text (by_bytes files.now)) }
-    ensures device { IfErr result (λ e. e ≡ Device) }
+    ensures device { IfErr result (λ e. e ≡ Device device_fault) }
 {
-    if out.failed() {
-        return Err(ToolFault::Device);
-    }
+    out.working()?;
     let is_named = files.len() > 1;
     for (path, file) in files {
         put_size(path, file.header(), is_named, out)?;

@@ -32,4 +32,4 @@ mod text;
 
 pub use names::is_printable;
 pub use numbers::{OctalBuffer, six_digits, three_digits};
-pub use text::Text;
+pub use text::{Printable, Text};

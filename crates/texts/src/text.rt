@@ -9,6 +9,7 @@ use crate::names::{escaped, is_printable};
 use crate::numbers::{OctalBuffer, six_digits, three_digits};
 use itoa::Buffer;
 use std::alloc::{AllocError, Global};
+use std::fmt::{self, Display, Formatter, Write};
 use std::marker::Model;
 
 /// A text that grows. Once memory runs out for it the text is cut: it takes nothing more, and `finish` returns the error. So
@@ -194,6 +195,11 @@ impl Text {
         self.put_bytes(bytes);
     }
 
+    /// Puts what a format says at the end.
+    pub fn say<D: Display + Drop>(&mut self, what: D) {
+        let _ = write!(self, "{what}");
+    }
+
     /// The bytes. An error, out of memory, if the text is cut.
     pub fn finish(self) -> Result<Vec<u8>, AllocError>
         ensures bytes { IfOk result (λ bytes. (self.is_cut ≡ false) × (bytes.items ≡ self.bytes)) }
@@ -204,5 +210,29 @@ impl Text {
             Some(error) => Err(error),
             None => Ok(bytes),
         }
+    }
+}
+
+impl fmt::Write for Text {
+    fn write_str(&mut self, characters: &str) -> fmt::Result {
+        self.put(characters);
+        Ok(())
+    }
+}
+
+/// Bytes of a name or a path in a format, each as `put_printable_byte` does.
+#[derive(Clone, Copy)]
+pub struct Printable<'a>(pub &'a [u8]);
+
+impl Display for Printable<'_> {
+    fn fmt<W: fmt::Write>(&self, f: &mut Formatter<W>) -> fmt::Result {
+        for byte in self.0 {
+            if is_printable(*byte) {
+                write!(f, "{}", *byte as char)?;
+            } else {
+                write!(f, "\\{:03o}", *byte)?;
+            }
+        }
+        Ok(())
     }
 }

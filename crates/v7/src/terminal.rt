@@ -10,6 +10,7 @@ mod prompts;
 mod reasons;
 
 use answers::{Answer, Answers};
+use aout_core::Wire;
 use lines::{put_hint, put_reason};
 use pages::{asked_shown, page_asked};
 use prompts::Prompts;
@@ -17,8 +18,8 @@ use reasons::{Tool, first_reason};
 use std::cell::Cell;
 use std::rt::Runtime;
 use std::{env, io};
-use surroundings::{show, words};
-use v7tools::{CliFault, attempt};
+use surroundings::{Disk, show, words};
+use v7tools::{BlockWriter, CliFault, attempt};
 
 /// The arguments once more.
 fn arguments<H: Runtime + AllocGlobal>(rt: &H) -> io::Result<Vec<String>> {
@@ -68,11 +69,12 @@ pub(crate) fn command_at_terminal<H: Runtime + AllocGlobal>(
 {
     let answer = Cell::new(Answer::NONE);
     let mut prompts = Prompts::new(rt, &answer);
-    let output = Answers::new(io::writer(rt), &answer);
+    let mut office = Disk::new(rt);
+    let mut output = Wire::new(BlockWriter::new(Answers::new(io::writer(rt), &answer)));
     let done = if is_typed {
-        attempt(rt, &mut prompts, output, words)
+        attempt(rt.alloc(), &mut office, &mut prompts, &mut output, words)
     } else {
-        attempt(rt, rt.reader(), output, words)
+        attempt(rt.alloc(), &mut office, rt.reader(), &mut output, words)
     };
     match done {
         Ok(status) => {

@@ -13,7 +13,7 @@ use Rattle.library_calls.specs.{declared.parts.ObjectWord.ObjectWord, declared.p
 use Rattle.library_calls.specs.{declared.parts.SymbolRow.SymbolRow, declared.remarks_call.RemarkRecord.RemarkRecord}
 use Rattle.library_calls.specs.{declared.remarks_call.Remarks.Remarks, ObjectParts.Pieces}
 use Rattle.library_calls.specs.{ObjectParts.file_for, ObjectParts.made_of, ObjectParts.pieces_in, RemarkAnswers.Output}
-use Rattle.library_calls.specs.{RemarkAnswers.remarks_in}
+use Rattle.library_calls.specs.RemarkAnswers.{IsRemarked, remarks_in}
 use Rattle.library_calls.proofs.NumberLemmas.{IsNotMemory, CauseIsNotMemory, not_memory_made, not_memory_reason}
 use Rattle.v7_c.specs.Left.{BothLeft, FileLeft, Left, PartsLeft, apart_left, both_left, bytes_or, counted_by, counts_of}
 use Rattle.v7_c.specs.Left.{file_left, given, items_of, left, left_at, left_by, no_bytes_at, no_counts, no_header, no_output, of_none}
@@ -214,12 +214,12 @@ module _ {A : Type 0} (status : ℕ) (answer : Answer) (old new : List ℕ) (rep
 
 module _ (status : ℕ) (answer : Answer) (old new : List ℕ) (records_old records_new : List RemarkRecord) where
   -- remarks are given, or memory ran out
-  pub remarks_value : (x : Output RemarkRecord) (r : Result Remarks Cause) → IfOk r (λ m. remarks_in m ≡ x) →
+  pub remarks_value : (bytes : List ℕ) (r : Result Remarks Cause) → IfOk r (λ m. IsRemarked bytes (remarks_in m)) →
       IfErr r (λ cause. cause ≡ Memory memory.refused) →
       both_left status answer new records_new ≡ output_left (remarks_or r) old records_old → (answer.fault ≡ 50 → ⊥) →
-      both_left status answer new records_new ≡ output_left (Ok x) old records_old
-  remarks_value x (Ok m) ok err is other = is ∙ ap (λ (y : Output RemarkRecord). output_left (Ok y) old records_old) ok
-  remarks_value x (Err cause) ok err is other = absurd (other (ap (λ (l : BothLeft RemarkRecord). l.answer.fault) is ∙ ap number_of err))
+      (x : Output RemarkRecord) × IsRemarked bytes x × (both_left status answer new records_new ≡ output_left (Ok x) old records_old)
+  remarks_value bytes (Ok m) ok err is other = (remarks_in m, ok, is)
+  remarks_value bytes (Err cause) ok err is other = absurd (other (ap (λ (l : BothLeft RemarkRecord). l.answer.fault) is ∙ ap number_of err))
 
   pub remarks_memory : (r : Result Remarks Cause) → IfErr r (λ cause. cause ≡ Memory memory.refused) →
       both_left status answer new records_new ≡ output_left (remarks_or r) old records_old → answer.fault ≡ 50 →

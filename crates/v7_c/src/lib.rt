@@ -22,7 +22,8 @@ ghost use Rattle.library_calls.specs.GnuAnswers.{ConversionMayRunOut, converted_
 ghost use Rattle.library_calls.specs.ListingAnswers.{DescribedMayRunOut, described_in, listed_in};
 ghost use Rattle.library_calls.specs.MemoryWanted.{HasBody};
 ghost use Rattle.library_calls.specs.ObjectParts.{file_for, made_of, parts_in, pieces, whole_in};
-ghost use Rattle.library_calls.specs.RemarkAnswers.{remarked_in};
+ghost use Rattle.library_calls.specs.RemarkAnswers.{IsRemarked, Output};
+ghost use Rattle.library_calls.specs.declared.remarks_call.RemarkRecord.{RemarkRecord};
 ghost use Rattle.library_calls.specs.Sizes.{IsMostOfMaps, IsMostOfRuns, IsMostOfSessions, most_of};
 ghost use Rattle.v7_c.specs.KeptLeft.{LeavesAdded, LeavesBegun, LeavesLink, LeavesShown, LeavesWithdrawn, kept_by};
 ghost use Rattle.v7_c.specs.RunLeft.{LeavesRun};
@@ -192,8 +193,8 @@ pub extern "C" fn v7_remarks(
     remarks: &mut [RemarkRecord],
     answer: &mut Answer,
 ) -> u32
-    ensures value { answer.new.fault ≢ 50 → both_left result answer.new texts.new remarks.new
-        ≡ output_left (Ok (remarked_in bytes.now)) texts.old remarks.old }
+    ensures value { answer.new.fault ≢ 50 → (x : Output RemarkRecord) × IsRemarked bytes.now x
+        × (both_left result answer.new texts.new remarks.new ≡ output_left (Ok x) texts.old remarks.old) }
     ensures memory { answer.new.fault ≡ 50 → both_left result answer.new texts.new remarks.new
         ≡ no_output 0 texts.old remarks.old }
 {

@@ -3,29 +3,32 @@ use Rattle.std.proofs.Common.{◌≡◌, ◌≢◌, ℕ, suc, ◌<◌, ◌+◌, 
 use Rattle.std.proofs.Common.{string_bytes, refl, sym, ap, ◌∙◌, subst, inl, inr, arith}
 use Rattle.std.specs.{Prelude.Result, Prelude.Ok, Prelude.Err, Prelude.String, declared.alloc.Global.Global}
 use Rattle.aout_core.specs.Refusals.{refused}
-use Rattle.surroundings.specs.{Answer.Answer, Events.History, declared.answer.Fault.Fault, Answers.AnswersOr, Answers.failed_at}
-use Rattle.surroundings.specs.{Sources.EndsReading, Sources.unread_text}
-use Rattle.explanations.specs.{Inventories.plain_row, declared.file_kind.FileKind.FileKind}
-use Rattle.v7_explain.specs.{Files.program, Files.row_said, Files.unnamed_said, Joined.either, Joined.joined, Joined.nothing_said}
+use Rattle.surroundings.specs.{Answer.Answer, Events.History, declared.answer.Fault.Fault}
+use Rattle.surroundings.specs.Sources.{EndsReading}
+use Rattle.explanations.specs.declared.file_kind.FileKind.{FileKind}
+use Rattle.v7_explain.specs.{Files.IsRow, Files.IsUnnamed, Files.program, Joined.either, Joined.joined, Joined.nothing_said}
 use Rattle.v7_explain.specs.{Walks.Folders, Walks.Found, Walks.kind_in, Walks.path_found}
-use Rattle.v7_explain.specs.Runs.{Explains, ExplainsFound, ExplainsNamed, IsExplaining, IsKind, ReadsFor, SaysFound, SaysNamed}
-use Rattle.v7_explain.specs.{Runs.said_of, declared.explaining.Mode.TheVariants.Listing, declared.explaining.Mode.TheVariants.Show}
+use Rattle.v7_explain.specs.Runs.{Explains, ExplainsFound, ExplainsNamed, GivesOr, IsExplaining, IsKind, IsSaid, ReadsFor}
+use Rattle.v7_explain.specs.{declared.explaining.Mode.TheVariants.Listing, declared.explaining.Mode.TheVariants.Show}
 use Rattle.v7_explain.specs.{declared.explaining.Mode.TheVariants.Check, declared.explaining.Mode.TheVariants.Inventory}
 use Rattle.v7_explain.specs.{declared.explaining.Mode.Mode}
 use Rattle.surroundings.specs.declared.answer.Fault.TheVariants as faults
 
 -- ---- one file
 
--- it is read, and there is no memory for what is said of it
-pub explains_out : (mode : Mode) (old new : History) (path bytes : List ℕ) (result : Result Answer Fault) →
-    ReadsFor mode old new path bytes → result ≡ Err (faults.Memory refused) → Explains mode old new path result
-explains_out mode old new path bytes result reads memory = (said_of mode path bytes, inl (bytes, reads, refl), inr memory)
+-- there is no memory for an answer
+gives_out : (Holds : Answer → Type 0) (result : Result Answer Fault) → result ≡ Err (faults.Memory refused) → GivesOr Holds result
+gives_out Holds result memory = subst (GivesOr Holds) (sym memory) refl
 
--- it is not read, and there is no memory for its line
-pub explains_unread : (mode : Mode) (old new : History) (path : List ℕ) (fault : Fault) →
-    EndsReading program old new path fault → Explains mode old new path (Err (faults.Memory refused))
-explains_unread mode old new path fault (found, grows, answered) =
-    (failed_at program path (unread_text found), inr (found, grows, refl), inr refl)
+module _ (mode : Mode) (old new : History) (path : List ℕ) where
+  -- it is read, and there is no memory for what is said of it
+  pub explains_out : (bytes : List ℕ) (result : Result Answer Fault) → ReadsFor mode old new path bytes →
+      result ≡ Err (faults.Memory refused) → Explains mode old new path result
+  explains_out bytes result reads memory = inl (bytes, reads, gives_out (IsSaid mode bytes) result memory)
+
+  -- it is not read, and there is no memory for its line
+  pub explains_unread : (fault : Fault) → EndsReading program old new path fault → Explains mode old new path (Err (faults.Memory refused))
+  explains_unread fault (found, grows, answered) = inr (found, grows, inr refl)
 
 -- ---- what is not read, and what is
 
@@ -46,19 +49,18 @@ pub ruleset by_mode = (kind_asked, no_kind)
 module _ (folders : Option Folders) (mode : Mode) (path : List ℕ) (found : Option FileKind) where
   -- it has a kind, and its line
   pub kind_said : (kind : FileKind) (h : History) (answer : Answer) → found ≡ Some kind → IsKind folders mode path found →
-      answer ≡ row_said path (plain_row kind) → ExplainsNamed folders mode h h path (Ok answer)
-  kind_said kind h answer is asked said = (answer, (Some kind, subst (IsKind folders mode path) is asked, (refl, said)), inl refl)
+      IsRow answer → ExplainsNamed folders mode h h path (Ok answer)
+  kind_said kind h answer is asked row = (Some kind, subst (IsKind folders mode path) is asked, (refl, row))
 
   -- there is no memory for its line
   pub kind_out : (kind : FileKind) (h : History) (result : Result Answer Fault) → found ≡ Some kind → IsKind folders mode path found →
       result ≡ Err (faults.Memory refused) → ExplainsNamed folders mode h h path result
-  kind_out kind h result is asked memory =
-      (row_said path (plain_row kind), (Some kind, subst (IsKind folders mode path) is asked, (refl, refl)), inr memory)
+  kind_out kind h result is asked memory = (Some kind, subst (IsKind folders mode path) is asked, (refl, gives_out IsRow result memory))
 
   -- it is explained
   pub file_said : (old new : History) (result : Result Answer Fault) → found ≡ None → IsKind folders mode path found →
       Explains mode old new path result → ExplainsNamed folders mode old new path result
-  file_said old new result is asked (said, says, answers) = (said, (None, subst (IsKind folders mode path) is asked, says), answers)
+  file_said old new result is asked explains = (None, subst (IsKind folders mode path) is asked, explains)
 
 pub ruleset by_kind = (kind_said, kind_out, file_said)
 
@@ -66,27 +68,24 @@ module _ (folders : Option Folders) (mode : Mode) (found : Found) where
   -- what is named is explained
   pub found_named : (old new : History) (result : Result Answer Fault) → found.is_named ≡ true →
       ExplainsNamed folders mode old new found.path result → ExplainsFound folders mode old new found result
-  found_named old new result is (said, says, answers) = (
-    said,
-    subst (λ b. either b (SaysNamed folders mode old new found.path said) ((new ≡ old) × (said ≡ unnamed_said found.path)))
-        (sym is) says,
-    answers,
-  )
+  found_named old new result is explains =
+      subst (λ b. either b (ExplainsNamed folders mode old new found.path result) ((new ≡ old) × GivesOr IsUnnamed result))
+      (sym is) explains
 
-  not_named : (h : History) (said : Answer) → found.is_named ≡ false → said ≡ unnamed_said found.path →
-      SaysFound folders mode h h found said
-  not_named h said is e =
-      subst (λ b. either b (SaysNamed folders mode h h found.path said) ((h ≡ h) × (said ≡ unnamed_said found.path))) (sym is) (refl, e)
+  not_named : (h : History) (result : Result Answer Fault) → found.is_named ≡ false → GivesOr IsUnnamed result →
+      ExplainsFound folders mode h h found result
+  not_named h result is gives =
+      subst (λ b. either b (ExplainsNamed folders mode h h found.path result) ((h ≡ h) × GivesOr IsUnnamed result)) (sym is) (refl, gives)
 
   -- what is not has its line
-  pub found_unnamed : (h : History) (answer : Answer) → found.is_named ≡ false → answer ≡ unnamed_said found.path →
+  pub found_unnamed : (h : History) (answer : Answer) → found.is_named ≡ false → IsUnnamed answer →
       ExplainsFound folders mode h h found (Ok answer)
-  found_unnamed h answer is e = (answer, not_named h answer is e, inl refl)
+  found_unnamed h answer is e = not_named h (Ok answer) is e
 
   -- there is no memory for that
   pub found_out : (h : History) (result : Result Answer Fault) → found.is_named ≡ false → result ≡ Err (faults.Memory refused) →
       ExplainsFound folders mode h h found result
-  found_out h result is memory = (unnamed_said found.path, not_named h (unnamed_said found.path) is refl, inr memory)
+  found_out h result is memory = not_named h result is (gives_out IsUnnamed result memory)
 
 pub ruleset by_found = (found_named, found_unnamed, found_out)
 
@@ -120,38 +119,29 @@ GoesOn folders mode old mid said left all =
     (new : History) → (result : Result Answer Fault) → IsExplaining folders mode mid new said left result →
     IsExplaining folders mode old new nothing_said all result
 
-abbrev answer_of : Answer → Result Answer Fault → Answer
-answer_of other (Ok answer) = answer
-answer_of other (Err fault) = other
-
-same_answer : (a b : Answer) → AnswersOr (Ok a) b → a ≡ b
-same_answer a b (inl e) = ap (answer_of a) e
-same_answer a b (inr e) = absurd (cc)
-
 -- there is no answer to one
 pub explaining_ends : (folders : Option Folders) (mode : Mode) (old mid new : History) (said : Answer) (left later all : List Found) (found : Found)
     (fault : Fault) →
     GoesOn folders mode old mid said left all → left ≡ found ∷ later → ExplainsFound folders mode mid new found (Err fault) →
     IsExplaining folders mode old new nothing_said all (Err fault)
-explaining_ends folders mode old mid new said left later all found fault inv e (more, says, inl never) = absurd (cc)
-explaining_ends folders mode old mid new said left later all found fault inv e (more, says, inr memory) =
-    inv new (Err fault) (subst (λ l. IsExplaining folders mode mid new said l (Err fault)) (sym e) (more, new, says, inl (refl, memory)))
+explaining_ends folders mode old mid new said left later all found fault inv e explains =
+    inv new (Err fault) (subst (λ l. IsExplaining folders mode mid new said l (Err fault)) (sym e)
+    (Err fault, new, explains, (refl, refl)))
 
 -- one is explained, and there is no memory to add that
 pub explaining_stops : (folders : Option Folders) (mode : Mode) (old mid new : History) (said more : Answer)
     (left later all : List Found) (found : Found) →
     GoesOn folders mode old mid said left all → left ≡ found ∷ later → ExplainsFound folders mode mid new found (Ok more) →
     IsExplaining folders mode old new nothing_said all (Err (faults.Memory refused))
-explaining_stops folders mode old mid new said more left later all found inv e (one, says, answers) =
+explaining_stops folders mode old mid new said more left later all found inv e explains =
     inv new (Err (faults.Memory refused)) (subst (λ l. IsExplaining folders mode mid new said l (Err (faults.Memory refused))) (sym e)
-    (one, new, says, inl (refl, refl)))
+    (Ok more, new, explains, inl (refl, refl)))
 
 -- one is explained, and that is added
 pub explaining_more : (folders : Option Folders) (mode : Mode) (old mid next : History) (said more longer : Answer)
     (left later all : List Found) (found : Found) →
     GoesOn folders mode old mid said left all → left ≡ found ∷ later → ExplainsFound folders mode mid next found (Ok more) →
     longer ≡ joined said more → GoesOn folders mode old next longer later all
-explaining_more folders mode old mid next said more longer left later all found inv e (one, says, answers) is new result h =
-    let same : longer ≡ joined said one = is ∙ ap (joined said) (same_answer more one answers) in
+explaining_more folders mode old mid next said more longer left later all found inv e explains is new result h =
     inv new result (subst (λ l. IsExplaining folders mode mid new said l result) (sym e)
-    (one, next, says, inr (subst (λ a. IsExplaining folders mode next new a later result) same h)))
+    (Ok more, next, explains, inr (subst (λ a. IsExplaining folders mode next new a later result) is h)))

@@ -1,19 +1,45 @@
--- Findings as notes and in lines, and what is sure among them.
-use Rattle.std.proofs.Common.{◌≡◌, ℕ, Bool, ◌||◌, List, [], ◌∷◌, length, map, min, take, refl, sym, ap, ◌∙◌}
-use Rattle.std.proofs.lemmas.List.{take_min, take-map}
+-- What is sure among findings, and what is reported of them.
+use Rattle.std.proofs.Common.{◌≡◌, ◌≢◌, ℕ, Bool, true, false, ◌&&◌, ◌||◌, Option, List, [], ◌∷◌, Result, IfOk, refl, ap, ◌∙◌}
+use Rattle.std.proofs.lemmas.Result.{IfOk-weaker}
+use Rattle.std.specs.Prelude.{if◌then◌else◌}
 use Rattle.std.specs.List.{list_any}
-use Rattle.findings.specs.{Found.all_found, Found.found_in, Notes.finding_note, declared.finding.Finding.Finding}
-use Rattle.v7_explain.specs.Files.{found_notes}
-
-pub notes_found : (word : List ℕ) (fs : List Finding) → map (finding_note word) fs ≡ found_notes word (all_found fs)
-notes_found word [] = refl
-notes_found word (f ∷ fs) = ap (λ (notes : List (List ℕ)). finding_note word f ∷ notes) (notes_found word fs)
-
-pub first_found : (n : ℕ) (fs : List Finding) → all_found (take (min n (length fs)) fs) ≡ take n (all_found fs)
-first_found n fs = ap all_found (take_min n fs) ∙ sym (take-map found_in n fs)
+use Rattle.aout_core.specs.{Contents.Contents, declared.object.ObjectFault.ObjectFault}
+use Rattle.surroundings.specs.{Answer.Answer, Answers.only_errors}
+use Rattle.suspicions.specs.{Suspicions.all_odd, declared.evidence.Evidence.Evidence}
+use Rattle.v7_explain.specs.Files.{IsOdd, status_of}
+use Rattle.findings.specs.{Found.Found, Found.all_found, Wrong.is_damaged, Wrong.wrong_in, Wrong.wrong_words, declared.finding.Finding.Finding}
 
 pub sure_found : (fs : List Finding) → list_any (λ f. f.is_sure) fs ≡ list_any (λ f. f.is_sure) (all_found fs)
 sure_found [] = refl
 sure_found (f ∷ fs) = ap (λ (b : Bool). f.is_sure || b) (sure_found fs)
 
-pub ruleset by_found = (notes_found, first_found)
+none_found : (fs : List Finding) → all_found fs ≡ [] → fs ≡ []
+none_found [] none = refl
+none_found (f ∷ fs) none = absurd cc
+
+quiet_by : (is_reported damaged : Bool) (words : List Found) (wrong : List Finding) (errors : List ℕ) →
+    all_found wrong ≡ (if damaged then words else []) → (is_reported ≡ false → errors ≡ []) → (wrong ≡ [] → errors ≡ []) →
+    (is_reported && damaged) ≡ false → errors ≡ []
+quiet_by false damaged words wrong errors are untold nothing h = untold refl
+quiet_by true false words wrong errors are untold nothing h = nothing (none_found wrong are)
+quiet_by true true words wrong errors are untold nothing h = absurd cc
+
+-- nothing is reported of a file that is not damaged
+pub untold : (is_reported : Bool) (refused : Option ObjectFault) (c : Contents) (wrong : List Finding) (errors : List ℕ) →
+    all_found wrong ≡ wrong_in refused c → (is_reported ≡ false → errors ≡ []) → (wrong ≡ [] → errors ≡ []) →
+    (is_reported && is_damaged refused) ≡ false → errors ≡ []
+untold is_reported refused c wrong errors = quiet_by is_reported (is_damaged refused) (wrong_words c) wrong errors
+
+-- what is odd is reported, if there is anything
+pub said_odd : {E : Type 0} (e : Evidence) (bytes : List ℕ) (c : Contents) (odd : List Finding) (errors : List ℕ) (status : ℕ) (is_cut : Bool)
+    (result : Result Answer E) → all_found odd ≡ all_odd e false bytes c → odd ≢ [] → status ≡ status_of (all_found odd) →
+    IfOk result (λ a. (is_cut ≡ false) × (a ≡ only_errors errors status)) → IfOk result (λ a. IsOdd (all_odd e false bytes c) a)
+said_odd e bytes c odd errors status is_cut result are some by = IfOk-weaker result _ _ (λ a h. record {
+  has_status = ap (λ (x : Answer). x.status) h.1 ∙ by ∙ ap status_of are;
+  no_output = ap (λ (x : Answer). x.output) h.1;
+  nothing = λ none. absurd (some (none_found odd (are ∙ none)));
+})
+
+-- nothing is reported if nothing is found
+pub nothing_odd : (fs : List Finding) (found : List Found) → all_found fs ≡ found → found ≡ [] → fs ≡ []
+nothing_odd fs found are none = none_found fs (are ∙ none)

@@ -19,8 +19,8 @@ use Rattle.link_session.specs.{Labelled.Labelled, Labelled.objects, Sessions.not
 use Rattle.surroundings.specs.{Answer.Answer, Answers.AnswersOr, Events.History, declared.answer.Fault.Fault}
 use Rattle.tool_options.specs.Choices.{Choices}
 use Rattle.v7_explain.specs.Joined.{either}
-use Rattle.v7_explain.specs.Maps.{AreTaken, HaveObjects, IsMap, IsMapCall, IsMapping, IsTaking, MapsCall, answer_of, link_words, not_of_ld, nothing_taken}
-use Rattle.v7_explain.specs.Maps.{status_linked}
+use Rattle.v7_explain.specs.Maps.{AreTaken, HaveObjects, IsMap, IsMapCall, IsMapping, IsTaking, MapsCall, link_words, not_of_ld, nothing_taken}
+use Rattle.v7_explain.specs.Maps.{status_asked, status_linked}
 use Rattle.v7_explain.specs.internal.Takes.{IsMapAnswer, KeepsSplit, TakesAll, status_made, status_mapped}
 use Rattle.v7_explain.proofs.TakingLemmas.{taking_memory}
 use Rattle.surroundings.specs.declared.answer.Fault.TheVariants as faults
@@ -104,9 +104,6 @@ pub map_out : (asked forced : List (List ℕ)) (choices : Choices) (paths : List
 map_out asked forced choices paths old new xs said result takes status memory =
     maps_by asked forced choices paths old new xs said result takes status (λ inputs have. inl memory)
 
-abbrev answer_with : List (List ℕ) → Choices → Objects → LinkMap → ℕ → Result Answer Fault
-answer_with asked choices o m status = Ok (answer_of asked choices o m status)
-
 maps_all : (asked forced : List (List ℕ)) (choices : Choices) (inputs : List (List ℕ × List ℕ)) (n : Objects) (a : Answer) →
     AreTaken forced inputs n → IsMapAnswer asked n forced choices a → IsMap asked forced choices inputs (Ok a)
 maps_all asked forced choices inputs n a taken (m, map, same) =
@@ -116,7 +113,16 @@ maps_all asked forced choices inputs n a taken (m, map, same) =
     let status : status_mapped m.outcome ≡ status_linked (linked forced inputs choices) =
     mapped_status (linked forced inputs choices) n.refused m.outcome (path_at inputs (length n.session.entries)) map.made shows.refused
     shows.made in
-    inr (n, m, taken, map, shows, ap answered same ∙ ap (answer_with asked choices n m) status)
+    inr (
+      n,
+      m,
+      taken,
+      map,
+      shows,
+      a,
+      record { no_errors = same.no_errors; has_status = same.has_status ∙ ap (status_asked asked m) status },
+      refl,
+    )
 
 -- and there is a map
 pub map_made : (asked forced : List (List ℕ)) (choices : Choices) (paths : List (List ℕ)) (old new : History) (o n : Objects)

@@ -11,7 +11,7 @@ use Rattle.link_maps.specs.{declared.map.LinkMap.LinkMap, declared.members.Objec
 use Rattle.link_out.specs.Inputs.{Cause, Refusal, bad_file, bad_object, linked, object_in}
 use Rattle.link_out.specs.{function.Link.Outcome, function.Reports.status_of}
 use Rattle.link_session.specs.Labelled.{Labelled}
-use Rattle.map_texts.specs.{Asked.asked_of, Asked.has_some, Whole.asked_map, Whole.map_text}
+use Rattle.map_texts.specs.Asked.{has_absent}
 use Rattle.surroundings.specs.{Answer.Answer, Answers.AnswersOr, Answers.failed_at, Answers.only_errors, Answers.says_reason, Events.History}
 use Rattle.surroundings.specs.{Events.Extends, Events.opened, Sources.ReadsAt, Sources.unread_text, declared.answer.Fault.Fault}
 use Rattle.surroundings.specs.{declared.reasons.Reason.Reason, declared.reasons.Reason.TheVariants.NotOfLd}
@@ -80,29 +80,24 @@ pub record AreTaken (forced : List (List ℕ)) (inputs : List (List ℕ × List 
   pub objects : HaveObjects inputs (all_of o)
   pub taken : split_of o ≡ split forced (all_of o)
 
--- the text of a map: the whole one, or only what is asked for
-abbrev pub text_asked : List (List ℕ) → Choices → Objects → LinkMap → List ℕ
-text_asked [] choices o m = map_text choices o m
-text_asked (argument ∷ more) choices o m = asked_map o m (asked_of m (argument ∷ more))
-
 abbrev pub status_with : Bool → ℕ → ℕ
 status_with has_absent status = if has_absent then max status 1 else status
 
 -- what is asked for and absent is something to report
 abbrev pub status_asked : List (List ℕ) → LinkMap → ℕ → ℕ
-status_asked asked m status = status_with (has_some (asked_of m asked).absent) status
+status_asked asked m status = status_with (has_absent m asked) status
 
--- the map of these objects, with its status
-abbrev pub answer_of : List (List ℕ) → Choices → Objects → LinkMap → ℕ → Answer
-answer_of asked choices o m status =
-    record { output = text_asked asked choices o m; errors = []; status = status_asked asked m status }
+-- a map has its status, and there are no errors; what its text is, no definition says
+pub record HasStatus (asked : List (List ℕ)) (m : LinkMap) (linked : ℕ) (a : Answer) : Type 0 where
+  pub no_errors : a.errors ≡ []
+  pub has_status : a.status ≡ status_asked asked m linked
 
 -- the map shows the link that `ld` makes of these inputs, and has its status; or memory ran out for it
 abbrev pub IsMap : List (List ℕ) → List (List ℕ) → Choices → List (List ℕ × List ℕ) → Result Answer Fault → Type 0
 IsMap asked forced choices inputs result =
     (result ≡ Err (faults.Memory refused))
     ⊎ ((o : Objects) × (m : LinkMap) × AreTaken forced inputs o × IsMapOf o forced choices m × ShowsLink forced choices inputs o m.outcome
-    × (result ≡ Ok (answer_of asked choices o m (status_linked (linked forced inputs choices)))))
+    × (a : Answer) × HasStatus asked m (status_linked (linked forced inputs choices)) a × (result ≡ Ok a))
 
 -- there is a map if each file is an object
 abbrev pub MapsTaken : List (List ℕ) → List (List ℕ) → Choices → Result Answer Fault → Taken → Type 0

@@ -4,16 +4,14 @@
 -- status. If memory runs out, that is the answer, and nothing was stored.
 use Rattle.std.specs.Prelude.{◌≡◌, ◌⊎◌, ℕ, true, false, eqb, List, [], ◌∷◌, map, Option, Some, None, Result, Ok, Err}
 use Rattle.aout_core.specs.Refusals.{refused}
-use Rattle.explanations.specs.Inventories.{plain_row}
 use Rattle.explanations.specs.declared.file_kind.FileKind.{FileKind}
 use Rattle.surroundings.specs.Answers.{AnswersOr, IsPerformed, failed_at, only_errors}
 use Rattle.surroundings.specs.Events.{History, Extends, Surroundings, opened, written}
-use Rattle.surroundings.specs.Programs.{AnswersGiven, CallsOr, Finds, Reads, Step, Stores, Then}
+use Rattle.surroundings.specs.Programs.{AnswersGiven, CallsOr, Reads, Step, Stores, Then}
 use Rattle.surroundings.specs.Sources.{ReadsAt, ReadsFront, unread_text}
 use Rattle.surroundings.specs.{Answer.Answer, Nodes.ChecksOutput, declared.answer.Fault.Fault}
-use Rattle.suspicions.specs.declared.evidence.Evidence.TheVariants.{Flow}
 use Rattle.v7_explain.specs.Calls.{Call, asked_in, explain, map_link, mapping, store, walk}
-use Rattle.v7_explain.specs.Files.{checked, inventoried, listed, program, row_said, unnamed_said, viewed}
+use Rattle.v7_explain.specs.Files.{IsChecked, IsListed, IsRow, IsUnnamed, IsViewed, program}
 use Rattle.v7_explain.specs.Help.{help, usage}
 use Rattle.v7_explain.specs.Joined.{either, joined, nothing_said}
 use Rattle.v7_explain.specs.declared.explaining.Mode.TheVariants.{Listing, Show, Check, Inventory}
@@ -23,12 +21,17 @@ use Rattle.surroundings.specs.declared.answer.Fault.TheVariants as faults
 
 -- ---- files one after another
 
--- what is shown of a file with this path and these bytes
-abbrev pub said_of : Mode → List ℕ → List ℕ → Answer
-said_of (Listing e) path bytes = listed e false path bytes
-said_of (Show view) path bytes = viewed view path bytes
-said_of (Check e) path bytes = checked e path bytes
-said_of Inventory path bytes = inventoried path bytes
+-- what is said of a file with these bytes
+abbrev pub IsSaid : Mode → List ℕ → Answer → Type 0
+IsSaid (Listing e) bytes a = IsListed false bytes a
+IsSaid (Show view) bytes a = IsViewed bytes a
+IsSaid (Check e) bytes a = IsChecked e bytes a
+IsSaid Inventory bytes a = IsRow a
+
+-- an answer of which this holds, or memory runs out for it
+abbrev pub GivesOr : (Answer → Type 0) → Result Answer Fault → Type 0
+GivesOr Holds (Ok a) = Holds a
+GivesOr Holds (Err fault) = fault ≡ faults.Memory refused
 
 -- an inventory reads the front of a file: one byte more than the largest core file has, 1,024 bytes and 131,070 blocks of 64
 abbrev pub ReadsFor : Mode → History → History → List ℕ → List ℕ → Type 0
@@ -36,44 +39,41 @@ ReadsFor Inventory old new path bytes = ReadsFront 8389505 old new path bytes
 ReadsFor _ old new path bytes = ReadsAt old new path bytes
 
 -- the file at a path is read and explained, or it is not opened or not read, and a line reports that
-abbrev pub SaysAt : Mode → History → History → List ℕ → Answer → Type 0
-SaysAt mode old new path said =
-    ((bytes : List ℕ) × ReadsFor mode old new path bytes × (said ≡ said_of mode path bytes))
-    ⊎ ((found : Option (Option (List ℕ))) × Extends old new (opened path found ∷ []) × (said ≡ failed_at program path (unread_text found)))
-
 abbrev pub Explains : Mode → History → History → List ℕ → Result Answer Fault → Type 0
-Explains mode old new path result = (said : Answer) × SaysAt mode old new path said × AnswersOr result said
+Explains mode old new path result =
+    ((bytes : List ℕ) × ReadsFor mode old new path bytes × GivesOr (IsSaid mode bytes) result)
+    ⊎ ((found : Option (Option (List ℕ))) × Extends old new (opened path found ∷ [])
+    × AnswersOr result (failed_at program path (unread_text found)))
 
 -- an inventory does not read what has a kind of its own, as a device
 abbrev pub IsKind : Option Folders → Mode → List ℕ → Option FileKind → Type 0
 IsKind folders Inventory path kind = (at : Folders) → folders ≡ Some at → kind ≡ kind_in (at path)
 IsKind folders _ path kind = kind ≡ None
 
-abbrev pub SaysBy : Option FileKind → Mode → History → History → List ℕ → Answer → Type 0
-SaysBy None mode old new path said = SaysAt mode old new path said
-SaysBy (Some kind) mode old new path said = (new ≡ old) × (said ≡ row_said path (plain_row kind))
-
-abbrev pub SaysNamed : Option Folders → Mode → History → History → List ℕ → Answer → Type 0
-SaysNamed folders mode old new path said =
-    (kind : Option FileKind) × IsKind folders mode path kind × SaysBy kind mode old new path said
+abbrev pub ExplainsBy : Option FileKind → Mode → History → History → List ℕ → Result Answer Fault → Type 0
+ExplainsBy None mode old new path result = Explains mode old new path result
+ExplainsBy (Some kind) mode old new path result = (new ≡ old) × GivesOr IsRow result
 
 abbrev pub ExplainsNamed : Option Folders → Mode → History → History → List ℕ → Result Answer Fault → Type 0
-ExplainsNamed folders mode old new path result = (said : Answer) × SaysNamed folders mode old new path said × AnswersOr result said
+ExplainsNamed folders mode old new path result =
+    (kind : Option FileKind) × IsKind folders mode path kind × ExplainsBy kind mode old new path result
 
 -- what was found is explained; what is not named can't be opened
-abbrev pub SaysFound : Option Folders → Mode → History → History → Found → Answer → Type 0
-SaysFound folders mode old new found said =
-    either found.is_named (SaysNamed folders mode old new found.path said) ((new ≡ old) × (said ≡ unnamed_said found.path))
-
 abbrev pub ExplainsFound : Option Folders → Mode → History → History → Found → Result Answer Fault → Type 0
-ExplainsFound folders mode old new found result = (said : Answer) × SaysFound folders mode old new found said × AnswersOr result said
+ExplainsFound folders mode old new found result =
+    either found.is_named (ExplainsNamed folders mode old new found.path result) ((new ≡ old) × GivesOr IsUnnamed result)
 
--- what is shown of each, after what was shown before; or memory runs out after one
+-- after one answer there are others, or memory ran out for it, or for all together
+abbrev pub Follows : (Answer → Type 0) → History → History → Result Answer Fault → Result Answer Fault → Type 0
+Follows Others between new (Ok more) result = ((new ≡ between) × (result ≡ Err (faults.Memory refused))) ⊎ Others more
+Follows Others between new (Err fault) result = (new ≡ between) × (result ≡ Err fault)
+
+-- what is shown of each, after what was shown before
 abbrev pub IsExplaining : Option Folders → Mode → History → History → Answer → List Found → Result Answer Fault → Type 0
 IsExplaining folders mode old new said [] result = (new ≡ old) × AnswersOr result said
 IsExplaining folders mode old new said (found ∷ all) result =
-    (more : Answer) × (between : History) × SaysFound folders mode old between found more
-    × (((new ≡ between) × (result ≡ Err (faults.Memory refused))) ⊎ IsExplaining folders mode between new (joined said more) all result)
+    (one : Result Answer Fault) × (between : History) × ExplainsFound folders mode old between found one
+    × Follows (λ more. IsExplaining folders mode between new (joined said more) all result) between new one result
 
 -- ---- folders
 
@@ -89,6 +89,10 @@ IsWalk folders old new paths result =
 abbrev pub rest_of : Answer → Answer
 rest_of said = only_errors said.errors said.status
 
+-- bytes are listed, and what is wrong is reported; nothing is asked of the system
+abbrev pub Lists : List ℕ → Step Answer
+Lists bytes old new result = (new ≡ old) × GivesOr (IsListed true bytes) result
+
 -- the listing is stored if there is nothing to report
 abbrev pub IsStoring : List ℕ → Answer → Step Answer
 IsStoring to said old new result =
@@ -100,7 +104,7 @@ abbrev pub StoresListing : List ℕ → List ℕ → Step Answer
 StoresListing to path =
     Then (ChecksOutput program path to) (λ _.
     Then (Reads program path) (λ bytes.
-    Then (Finds (Ok (listed Flow true path bytes))) (IsStoring to)))
+    Then (Lists bytes) (IsStoring to)))
 
 -- ---- the program
 

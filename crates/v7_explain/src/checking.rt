@@ -1,66 +1,36 @@
-//! Why files are not objects, and what is odd in objects.
-ghost use Rattle.std.specs.Prelude.{◌≡◌, None, IfOk, OnOk, option_map};
+//! Why files are not objects, and what is odd in objects. Only tested: what is said of them.
+ghost use Rattle.std.specs.Prelude.{◌≡◌, None, IfOk};
 ghost use Rattle.std.specs.List.{list_any};
 ghost use Rattle.aout_core.specs.WellFormed.{first_object_fault};
 ghost use Rattle.findings.specs.Found.{all_found};
-ghost use Rattle.findings.specs.Kinds.{kind_text, or_nothing};
-ghost use Rattle.texts.specs.Texts.{Puts};
-ghost use Rattle.surroundings.specs.Answers.{only_errors};
-ghost use Rattle.v7_explain.specs.Files.{checked, checked_as, gnu_line, has_sure, line_if, line_of, refused_lines, status_of};
+ghost use Rattle.v7_explain.specs.Files.{IsCheck, IsChecked, IsNoObject, has_sure, status_of};
 
+use crate::explaining::nothing_said;
 use crate::source::{
     GNU_NOTE, Source, likeness_of, put_front, put_odd_lines, put_reports, put_text_line,
 };
-use aout_core::{File, Header, ObjectFault, ReadFault, decode_file, object_fault};
+use aout_core::{File, ReadFault, decode_file, object_fault};
 use disassemblies::Sweep;
-use findings::{Finding, is_damaged, is_of_gnu, put_kind, wrong_bytes, wrong_words};
+use findings::{Finding, KindText, is_damaged, is_of_gnu, wrong_bytes, wrong_words};
 use std::alloc::{AllocError, Global};
 use surroundings::{Answer, error_answer};
 use suspicions::{Evidence, all_odd_of};
 use texts::Text;
 
-/// Puts a line with a text, if there is one.
-fn put_line_if(lines: &mut Text, path: &str, text: Option<&str>)
-    ensures { Puts lines.old lines.new
-        (line_if path.now (option_map (λ text. text.now) text.entry)) }
-{
-    if let Some(text) = text {
-        put_text_line(lines, path, text);
-    }
-}
-
-/// Puts a line if bytes are in the form of GNU's assembler.
-fn put_gnu_line(alloc: Global, lines: &mut Text, path: &str, bytes: &[u8]) -> Result<(), AllocError>
-    ensures { OnOk result (Puts lines.old lines.new (gnu_line path.now bytes.now)) }
-{
-    if is_of_gnu(alloc, bytes, true)? {
-        put_text_line(lines, path, GNU_NOTE);
-    }
-    Ok(())
-}
-
 /// Why bytes that are not a file are not an object.
 fn check_refused(alloc: Global, source: Source<'_>, fault: ReadFault) -> Result<Answer, AllocError>
-    ensures { IfOk result (λ answer.
-        answer ≡ only_errors (refused_lines source.entry.path.now source.entry.bytes.now fault) 1) }
+    ensures { IfOk result (λ answer. IsNoObject answer) }
 {
     let wrong = wrong_bytes(alloc, source.bytes, fault)?;
     let mut lines = Text::new(alloc);
     put_reports(&mut lines, source.path, &wrong);
-    put_line_if(&mut lines, source.path, likeness_of(source.bytes, fault));
-    put_gnu_line(alloc, &mut lines, source.path, source.bytes)?;
+    if let Some(text) = likeness_of(source.bytes, fault) {
+        put_text_line(&mut lines, source.path, text);
+    }
+    if is_of_gnu(alloc, source.bytes, true)? {
+        put_text_line(&mut lines, source.path, GNU_NOTE);
+    }
     error_answer(alloc, lines, 1)
-}
-
-/// The line with what a file is that is neither an object nor damaged.
-#[tactic(auto, unfolding(crate::specs::Files::line_of))]
-fn put_kind_line(lines: &mut Text, path: &str, header: &Header, refused: Option<ObjectFault>)
-    ensures { Puts lines.old lines.new
-        (line_of path.now (or_nothing (kind_text header.now refused))) }
-{
-    put_front(lines, path);
-    put_kind(lines, header, refused);
-    lines.put("\n");
 }
 
 fn is_any_sure(found: &[Finding]) -> bool
@@ -84,17 +54,21 @@ fn status_of(found: &[Finding]) -> u8
 }
 
 /// What is odd in an object.
+#[tactic(auto, using(crate::proofs::FoundLemmas::nothing_odd))]
 fn check_object(
     alloc: Global,
     evidence: Evidence,
     source: Source<'_>,
     file: &File,
 ) -> Result<Answer, AllocError>
-    ensures { IfOk result (λ answer. answer
-        ≡ checked_as evidence source.entry.path.now source.entry.bytes.now file.now None) }
+    ensures { IfOk result (λ answer.
+        IsCheck evidence source.entry.bytes.now file.now None answer) }
 {
     let sweep = Sweep::new(alloc, file)?;
     let odd = all_odd_of(alloc, evidence, source.bytes, &sweep, false)?;
+    if odd.is_empty() {
+        return Ok(nothing_said(alloc));
+    }
     let mut lines = Text::new(alloc);
     put_odd_lines(&mut lines, source.path, &odd);
     error_answer(alloc, lines, status_of(&odd))
@@ -107,8 +81,8 @@ fn check_file(
     source: Source<'_>,
     file: &File,
 ) -> Result<Answer, AllocError>
-    ensures { IfOk result (λ answer. answer ≡ checked_as evidence source.entry.path.now
-        source.entry.bytes.now file.now (first_object_fault file.now)) }
+    ensures { IfOk result (λ answer. IsCheck evidence source.entry.bytes.now file.now
+        (first_object_fault file.now) answer) }
 {
     let refused = object_fault(file);
     if refused.is_none() {
@@ -120,7 +94,12 @@ fn check_file(
         let wrong = wrong_words(alloc, file)?;
         put_reports(&mut lines, path, &wrong);
     } else {
-        put_kind_line(&mut lines, path, file.header(), refused);
+        put_front(&mut lines, path);
+        lines.say(KindText {
+            header: file.header(),
+            is_object: false,
+        });
+        lines.put("\n");
     }
     error_answer(alloc, lines, 1)
 }
@@ -131,8 +110,7 @@ pub(crate) fn check(
     evidence: Evidence,
     source: Source<'_>,
 ) -> Result<Answer, AllocError>
-    ensures { IfOk result (λ answer.
-        answer ≡ checked evidence source.entry.path.now source.entry.bytes.now) }
+    ensures { IfOk result (λ answer. IsChecked evidence source.entry.bytes.now answer) }
 {
     match decode_file(alloc, source.bytes)? {
         Ok(file) => check_file(alloc, evidence, source, &file),

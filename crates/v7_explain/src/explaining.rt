@@ -4,7 +4,7 @@ ghost use Rattle.surroundings.specs.Sources.{EndsReading};
 ghost use Rattle.v7_explain.specs.Files.{program};
 ghost use Rattle.v7_explain.specs.Joined.{joined, nothing_said};
 ghost use Rattle.v7_explain.specs.Walks.{path_found};
-ghost use Rattle.v7_explain.specs.Runs.{Explains, ExplainsFound, ExplainsNamed, IsExplaining, IsKind, IsWalk, ReadsFor, said_of};
+ghost use Rattle.v7_explain.specs.Runs.{Explains, ExplainsFound, ExplainsNamed, IsExplaining, IsKind, IsSaid, IsWalk, ReadsFor};
 
 use crate::checking::check;
 use crate::folders::{Explainable, Folders, walk_all};
@@ -54,7 +54,7 @@ pub(crate) fn join(said: &mut Answer, more: &Answer) -> Result<(), AllocError>
 
 /// What is said of the bytes of a file.
 fn explain(alloc: Global, mode: Mode, source: Source<'_>) -> Result<Answer, AllocError>
-    ensures { IfOk result (λ a. a ≡ said_of mode source.entry.path.now source.entry.bytes.now) }
+    ensures { IfOk result (λ a. IsSaid mode source.entry.bytes.now a) }
 {
     match mode {
         Mode::Listing(evidence) => list(alloc, evidence, source, false),

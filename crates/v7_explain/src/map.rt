@@ -1,9 +1,8 @@
 //! The map of a link, made or refused.
 ghost use Rattle.std.specs.Prelude.{◌≡◌, ◌⊎◌, IfOk, Err, map, string_bytes};
 ghost use Rattle.aout_core.specs.Refusals.{refused};
-ghost use Rattle.map_texts.specs.Asked.{asked_of};
 ghost use Rattle.surroundings.specs.declared.answer.Fault.TheVariants.{Memory};
-ghost use Rattle.v7_explain.specs.Maps.{IsMapCall, IsMapping, MapsCall, link_words, not_of_ld, status_with, text_asked};
+ghost use Rattle.v7_explain.specs.Maps.{IsMapCall, IsMapping, MapsCall, link_words, not_of_ld, status_with};
 ghost use Rattle.v7_explain.specs.Runs.{MapsAsked};
 ghost use Rattle.v7_explain.specs.internal.Takes.{IsMapAnswer, status_mapped};
 
@@ -40,11 +39,7 @@ fn text_with(
     options: &Options,
     arguments: &[String],
     asked: &Asked,
-) -> Result<Vec<u8>, AllocError>
-    requires { asked.now ≡ asked_of link.now (map string_bytes arguments.now) }
-    ensures { IfOk result (λ text.
-        text.items ≡ text_asked (map string_bytes arguments.now) options.now objects.now link.now) }
-{
+) -> Result<Vec<u8>, AllocError> {
     match arguments {
         [] => map_text(alloc, objects, link, options),
         _ => asked_map(alloc, objects, link, asked),

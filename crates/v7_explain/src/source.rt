@@ -1,16 +1,8 @@
-//! A file that is explained, and what is said of it whatever becomes of it.
-ghost use Rattle.std.specs.Prelude.{◌≡◌, ◌∷◌, ◌++◌, [], false, length, option_map, take, IfOk, OnOk};
-ghost use Rattle.findings.specs.Found.{all_found};
-ghost use Rattle.findings.specs.Notes.{AddsNotes, finding_text};
-ghost use Rattle.findings.specs.Kinds.{kind_text};
-ghost use Rattle.findings.specs.Wrong.{wrong_bytes};
+//! A file that is explained, and what is said of it whatever becomes of it. Only tested: what is said.
+ghost use Rattle.std.specs.Prelude.{◌≡◌, [], false, IfOk};
 ghost use Rattle.surroundings.specs.Answers.{line_front};
 ghost use Rattle.texts.specs.Texts.{Puts};
-ghost use Rattle.v7_explain.specs.Files.{found_notes, front_notes, gnu_notes, header_notes, likeness_of};
-ghost use Rattle.v7_explain.specs.Files.{line_if, more_odd, more_text, odd_lines, odd_notes};
-ghost use Rattle.v7_explain.specs.Files.{line_of, lines_of, note_if, program, refused_in, refused_notes, remains, reported, reports};
-ghost use Rattle.v7_explain.specs.Files.{status_in, title};
-ghost use Rattle.v7_explain.specs.internal.Notes.{HasNotes};
+ghost use Rattle.v7_explain.specs.Files.{IsRefused, line_of, program, status_in};
 
 use crate::program::NAME;
 use crate::remains::put_remains;
@@ -18,8 +10,8 @@ use crate::views::View;
 use aout_core::{Header, ObjectFault, ReadFault};
 use explanations::put_lines;
 use findings::{
-    Finding, Notes, header_of, is_damaged, is_of_gnu, likeness, put_finding_text, put_findings,
-    put_header, put_kind, wrong_bytes,
+    Finding, KindText, Notes, header_of, is_damaged, is_of_gnu, likeness, put_finding_text,
+    put_findings, put_header, wrong_bytes,
 };
 use std::alloc::{AllocError, Global};
 use surroundings::{Answer, put_line_front};
@@ -48,9 +40,7 @@ pub(crate) fn status_in(refused: Option<ObjectFault>) -> u8
 }
 
 /// What bytes are that are not a file, if it is known.
-pub(crate) fn likeness_of(bytes: &[u8], fault: ReadFault) -> Option<&'static str>
-    ensures { option_map (λ text. text.now) result ≡ likeness_of fault bytes.now }
-{
+pub(crate) fn likeness_of(bytes: &[u8], fault: ReadFault) -> Option<&'static str> {
     match fault {
         ReadFault::BadMagic | ReadFault::ShortHeader => likeness(bytes),
         _ => None,
@@ -74,61 +64,32 @@ pub(crate) fn put_text_line(lines: &mut Text, path: &str, text: &str)
     lines.put("\n");
 }
 
-/// Puts a line with a finding in a file.
-#[tactic(auto, unfolding(crate::specs::Files::line_of))]
-fn put_finding_line(lines: &mut Text, path: &str, finding: &Finding)
-    ensures { Puts lines.old lines.new (line_of path.now (finding_text finding.now)) }
-{
-    put_front(lines, path);
-    put_finding_text(lines, finding);
-    lines.put("\n");
-}
-
 /// Puts findings as lines for standard error.
-pub(crate) fn put_reports(lines: &mut Text, path: &str, wrong: &[Finding])
-    ensures { Puts lines.old lines.new (reports path.now (all_found wrong.now)) }
-{
+pub(crate) fn put_reports(lines: &mut Text, path: &str, wrong: &[Finding]) {
     for finding in wrong {
-        put_finding_line(lines, path, finding);
-    }
-}
-
-/// The findings that are shown one by one.
-#[tactic(auto, using(crate::proofs::FoundLemmas::by_found))]
-fn first_of(found: &[Finding]) -> &[Finding]
-    ensures { all_found result.now ≡ take 16 (all_found found.now) }
-{
-    &found[..MOST_ODD.min(found.len())]
-}
-
-/// Puts that so many more are odd.
-#[tactic(auto, unfolding(crate::specs::Files::more_text))]
-fn put_more(text: &mut Text, more: usize)
-    ensures { Puts text.old text.new (more_text more) }
-{
-    text.put("and ");
-    text.put_decimal(more as u64);
-    text.put(" more that are odd");
-}
-
-/// Puts a line that more are odd than are shown, if they are so many.
-#[tactic(auto, unfolding(crate::specs::Files::line_of))]
-fn put_more_line(lines: &mut Text, path: &str, count: usize)
-    ensures { Puts lines.old lines.new (line_if path.now (more_odd count)) }
-{
-    if count > MOST_ODD {
         put_front(lines, path);
-        put_more(lines, count - MOST_ODD);
+        put_finding_text(lines, finding);
         lines.put("\n");
     }
 }
 
+/// The findings that are shown one by one, and how many more there are.
+fn shown(found: &[Finding]) -> (&[Finding], usize) {
+    let count = found.len();
+    (
+        &found[..MOST_ODD.min(count)],
+        count.saturating_sub(MOST_ODD),
+    )
+}
+
 /// Puts what is odd as lines for standard error.
-pub(crate) fn put_odd_lines(lines: &mut Text, path: &str, odd: &[Finding])
-    ensures { Puts lines.old lines.new (odd_lines path.now (all_found odd.now)) }
-{
-    put_reports(lines, path, first_of(odd));
-    put_more_line(lines, path, odd.len());
+pub(crate) fn put_odd_lines(lines: &mut Text, path: &str, odd: &[Finding]) {
+    let (first, more) = shown(odd);
+    put_reports(lines, path, first);
+    if more > 0 {
+        put_front(lines, path);
+        lines.say(format_args!("and {more} more that are odd\n"));
+    }
 }
 
 /// What is wrong as lines for standard error, if it is reported.
@@ -138,66 +99,30 @@ pub(crate) fn reported(
     path: &str,
     wrong: &[Finding],
 ) -> Result<Vec<u8>, AllocError>
-    ensures { IfOk result (λ lines.
-        lines.items ≡ reported is_reported path.now (all_found wrong.now)) }
+    ensures untold { is_reported ≡ false → IfOk result (λ lines. lines.items ≡ []) }
+    ensures nothing { wrong.now ≡ [] → IfOk result (λ lines. lines.items ≡ []) }
 {
-    let mut lines = Text::new(alloc);
-    if is_reported {
-        put_reports(&mut lines, path, wrong);
+    if !is_reported || wrong.is_empty() {
+        return Ok(Vec::new(alloc));
     }
+    let mut lines = Text::new(alloc);
+    put_reports(&mut lines, path, wrong);
     lines.finish()
 }
 
-/// Adds what is found as notes, after a word.
-#[tactic(auto, using(crate::proofs::FoundLemmas::by_found))]
-pub(crate) fn put_found(notes: &mut Notes, word: &str, found: &[Finding])
-    ensures { AddsNotes notes.old notes.new (found_notes word.now (all_found found.now)) }
-{
-    put_findings(notes, word, found);
-}
-
-/// Adds a note that more are odd than are shown, if they are so many.
-fn put_more_note(notes: &mut Notes, count: usize)
-    ensures { AddsNotes notes.old notes.new (note_if (more_odd count)) }
-{
-    if count > MOST_ODD {
-        let mut note = notes.begin();
-        put_more(&mut note, count - MOST_ODD);
-        notes.add(note);
-    }
-}
-
 /// Adds what is odd as notes.
-pub(crate) fn put_odd(notes: &mut Notes, odd: &[Finding])
-    ensures { AddsNotes notes.old notes.new (odd_notes (all_found odd.now)) }
-{
-    put_found(notes, "odd", first_of(odd));
-    put_more_note(notes, odd.len());
+pub(crate) fn put_odd(notes: &mut Notes, odd: &[Finding]) {
+    let (first, more) = shown(odd);
+    put_findings(notes, "odd", first);
+    if more > 0 {
+        notes.say(format_args!("and {more} more that are odd"));
+    }
 }
 
 /// Adds a note with the path and the size.
-#[tactic(auto, unfolding(crate::specs::Files::title))]
-fn put_title(notes: &mut Notes, source: Source<'_>)
-    ensures { AddsNotes notes.old notes.new
-        (title source.entry.path.now (length source.entry.bytes.now) ∷ []) }
-{
-    let size = source.bytes.len() as u64;
-    let mut note = notes.begin();
-    note.put(source.path);
-    note.put(": ");
-    note.put_octal_and_decimal(size);
-    note.put(" bytes");
-    notes.add(note);
-}
-
-/// Adds a note with what a file is, unless it is damaged.
-fn put_kind_note(notes: &mut Notes, header: &Header, refused: Option<ObjectFault>)
-    ensures { AddsNotes notes.old notes.new (note_if (kind_text header.now refused)) }
-{
-    let mut note = notes.begin();
-    if put_kind(&mut note, header, refused) {
-        notes.add(note);
-    }
+fn put_title(notes: &mut Notes, source: Source<'_>) {
+    let (path, size) = (source.path, source.bytes.len());
+    notes.say(format_args!("{path}: 0{size:o} ({size}) bytes"));
 }
 
 /// Adds a note if a file is in the form of GNU's assembler.
@@ -206,67 +131,48 @@ pub(crate) fn put_gnu_note(
     notes: &mut Notes,
     bytes: &[u8],
     is_odd: bool,
-) -> Result<(), AllocError>
-    ensures { OnOk result (AddsNotes notes.old notes.new (gnu_notes is_odd bytes.now)) }
-{
+) -> Result<(), AllocError> {
     if is_of_gnu(alloc, bytes, is_odd)? {
-        notes.put(GNU_NOTE);
+        notes.say(GNU_NOTE);
     }
     Ok(())
 }
 
-/// The notes with which a file begins.
+/// The notes with which a file begins: the path with the size, and what the file is unless it is damaged.
 pub(crate) fn front_notes(
     alloc: Global,
     source: Source<'_>,
     header: &Header,
     refused: Option<ObjectFault>,
-) -> Notes
-    ensures { HasNotes result
-        (front_notes source.entry.path.now source.entry.bytes.now header.now refused) }
-{
+) -> Notes {
     let mut notes = Notes::new(alloc);
     put_title(&mut notes, source);
-    put_kind_note(&mut notes, header, refused);
+    if !is_damaged(refused) {
+        notes.say(KindText {
+            header,
+            is_object: refused.is_none(),
+        });
+    }
     notes
 }
 
-/// Adds the header that bytes begin with, unless it is known what else they are.
-fn put_header_notes(notes: &mut Notes, bytes: &[u8], known: Option<&str>)
-    ensures { AddsNotes notes.old notes.new
-        (header_notes (option_map (λ text. text.now) known.entry) bytes.now) }
-{
-    if let (None, Some(header)) = (known, header_of(bytes)) {
-        put_header(notes, &header);
-    }
-}
-
-/// Adds a note with a text, if there is one.
-fn put_note_if(notes: &mut Notes, text: Option<&str>)
-    ensures { AddsNotes notes.old notes.new (note_if (option_map (λ text. text.now) text.entry)) }
-{
-    if let Some(text) = text {
-        notes.put(text);
-    }
-}
-
-/// The notes on bytes that are not a file.
+/// The notes on bytes that are not a file: the header, unless it is known what else they are, and what is wrong.
 fn refused_notes(
     alloc: Global,
     source: Source<'_>,
     fault: ReadFault,
     wrong: &[Finding],
-) -> Result<Notes, AllocError>
-    requires { all_found wrong.now ≡ wrong_bytes fault source.bytes.now }
-    ensures { IfOk result (λ notes.
-        HasNotes notes (refused_notes source.entry.path.now source.entry.bytes.now fault)) }
-{
+) -> Result<Notes, AllocError> {
     let known = likeness_of(source.bytes, fault);
     let mut notes = Notes::new(alloc);
     put_title(&mut notes, source);
-    put_header_notes(&mut notes, source.bytes, known);
-    put_found(&mut notes, "wrong", wrong);
-    put_note_if(&mut notes, known);
+    if let (None, Some(header)) = (known, header_of(source.bytes)) {
+        put_header(&mut notes, &header);
+    }
+    put_findings(&mut notes, "wrong", wrong);
+    if let Some(text) = known {
+        notes.say(text);
+    }
     put_gnu_note(alloc, &mut notes, source.bytes, true)?;
     Ok(notes)
 }
@@ -278,11 +184,7 @@ fn refused_text(
     bytes: &[u8],
     fault: ReadFault,
     notes: &Notes,
-) -> Result<Vec<u8>, AllocError>
-    ensures whole { IfOk result (λ text. notes.now.is_cut ≡ false) }
-    ensures text { IfOk result (λ text.
-        text.items ≡ lines_of notes.now.lines ++ remains view fault bytes.now) }
-{
+) -> Result<Vec<u8>, AllocError> {
     notes.whole()?;
     let mut text = Text::new(alloc);
     put_lines(&mut text, notes);
@@ -298,8 +200,7 @@ pub(crate) fn explain_refused(
     is_reported: bool,
     fault: ReadFault,
 ) -> Result<Answer, AllocError>
-    ensures { IfOk result (λ answer. answer
-        ≡ refused_in view is_reported source.entry.path.now source.entry.bytes.now fault) }
+    ensures { IfOk result (λ answer. IsRefused is_reported answer) }
 {
     let wrong = wrong_bytes(alloc, source.bytes, fault)?;
     let notes = refused_notes(alloc, source, fault, &wrong)?;

@@ -1,4 +1,1 @@
 pub mod AnswerLemmas
-pub mod ChangeLemmas
-pub mod RowLemmas
-pub mod WalkLemmas

@@ -4,7 +4,7 @@
 use Rattle.std.specs.Prelude.{ℕ, Bool, true, false, not, ◌&&◌, ◌||◌, if◌then◌else◌, List, [], ◌∷◌, codes, bytes_eq}
 use Rattle.std.specs.List.{list_any}
 use Rattle.v7_lesson.specs.declared.{choices.Choices.Choices, questions.Begun.Begun}
-use Rattle.v7_lesson.specs.declared.questions.Begun.TheVariants.{Nothing, Lesson, Choice, Known, Computed}
+use Rattle.v7_lesson.specs.declared.questions.Begun.TheVariants.{Nothing, Lesson, Choice, Computed}
 
 abbrev pub no_choices : Choices
 no_choices = record { has_right = false; has_wrong = false; needs_reason = false }
@@ -37,5 +37,4 @@ abbrev pub may_begin : Begun → List ℕ → Bool
 may_begin Nothing word = bytes_eq word (codes "lesson")
 may_begin Lesson word = true
 may_begin (Choice line c) word = may_follow c word
-may_begin Known word = true
 may_begin (Computed line) word = is_key_or_step word

@@ -1,9 +1,3 @@
-pub mod Meant
-pub mod Places
-pub mod Instructions
-pub mod Rows
-pub mod Steps
-pub mod Walks
 pub mod Prose
 pub mod Choices
 pub mod Calls

@@ -1,75 +1,146 @@
 //! The instructions of the objects' texts.
-ghost use Rattle.std.specs.Prelude.{◌≡◌, ◌<◌, ◌++◌, false, length, OnOk};
-ghost use Rattle.instructions.specs.declared.unix.Decoder.TheVariants.{Pdp11};
-ghost use Rattle.disassemblies.specs.Starts.{starts};
-ghost use Rattle.v7_lesson.specs.Instructions.{instruction_at, instructions};
+ghost use Rattle.std.specs.Prelude.{◌≡◌, ◌<◌, length};
 
-use crate::row_list::RowList;
 use aout_core::File;
 use disassemblies::{ListedLines, NamedFile, is_start, line_starts, put_line_text};
-use instructions::{Decoder, Line, UnixLine};
+use instructions::{Decoder, Line, Operand, UnixLine, branch_back_target, branch_target};
 use session_states::JsonWriter;
 use std::alloc::{AllocError, Global};
-use texts::Text;
+use texts::{OctalBuffer, Text};
 
-/// The instruction that begins at a place of a file's text, whose lines begin so; an empty text if none does.
-fn instruction_at(
+/// What begins at a word of an object's text.
+#[derive(Drop)]
+struct Decoded {
+    /// The instruction, as a listing of the object has it; empty if none begins there.
+    text: Vec<u8>,
+    /// The address to which it branches, if it ends with this number.
+    target: Option<u16>,
+}
+
+/// The address to which an instruction at an address branches.
+fn branched_to(line: &Line, address: u16) -> Option<u16> {
+    let Line::Decoded(instruction, ..) = line else {
+        return None;
+    };
+    match (instruction.first, instruction.second) {
+        (Some(Operand::Forward(offset)), _) => Some(branch_target(address, offset)),
+        (_, Some(Operand::Backward(offset))) => Some(branch_back_target(address, offset)),
+        _ => None,
+    }
+}
+
+/// An instruction without the number at its end, if it ends with this one.
+fn without_number(text: &[u8], number: u16) -> Option<&[u8]> {
+    let front = text.strip_suffix(OctalBuffer::new().format(u64::from(number)))?;
+    if front.ends_with(b" ") || front.ends_with(b",") {
+        Some(front)
+    } else {
+        None
+    }
+}
+
+/// The offset in bytes of a word of a segment, which has fewer than 32,768 words.
+pub(crate) fn offset_of(index: usize) -> u16 {
+    match u16::try_from(index) {
+        Ok(index) => index.wrapping_mul(2),
+        Err(_) => 0,
+    }
+}
+
+/// What begins at a place of a file's text, whose lines begin so.
+fn decoded_at(
     alloc: Global,
     file: &NamedFile<'_>,
     lines: &ListedLines<'_>,
     begins: &[bool],
     place: usize,
-) -> Text
+) -> Result<Decoded, AllocError>
     requires lines { lines.now ≡ file.now }
-    requires begins { begins.now ≡ starts Pdp11 file.now }
     requires place { place < length file.now.text_words }
-    ensures { result.is_cut ≡ false → result.bytes ≡ instruction_at file.now place }
 {
     let mut text = Text::new(alloc);
+    let mut target = None;
     if is_start(begins, place)
-        && let UnixLine::Machine(Line::Decoded(..)) = lines.at(Decoder::Pdp11, place)
+        && let UnixLine::Machine(line) = lines.at(Decoder::Pdp11, place)
+        && matches!(line, Line::Decoded(..))
     {
         put_line_text(&mut text, Decoder::Pdp11, file, place);
+        target = branched_to(&line, offset_of(place));
     }
-    text
+    let text = text.finish()?;
+    let target = target.filter(|target| without_number(&text, *target).is_some());
+    Ok(Decoded { text, target })
 }
 
-/// Adds for each word of a file's text the instruction that begins there; an empty row if none does. An error: out of memory.
-pub(crate) fn push_instructions(
-    alloc: Global,
-    rows: &mut RowList,
-    file: &File,
-) -> Result<(), AllocError>
-    ensures { OnOk result (rows.new ≡ rows.old ++ instructions file.now) }
-{
+/// What begins at each word of a file's text.
+fn decoded_of(alloc: Global, file: &File) -> Result<Vec<Decoded>, AllocError> {
     let named = NamedFile::new(alloc, file)?;
     let lines = ListedLines::new(alloc, file)?;
     let starts = line_starts(alloc, Decoder::Pdp11, file)?;
+    let mut all = Vec::new(alloc);
     for (place, _) in file.text_words().iter().enumerate() {
-        rows.push(instruction_at(alloc, &named, &lines, &starts, place))?;
+        all.push(decoded_at(alloc, &named, &lines, &starts, place)?)?;
+    }
+    Ok(all)
+}
+
+impl Decoded {
+    /// Appends it as it is in an image in which the object's text begins here: a branch has its place there, and in the object.
+    fn put_moved(&self, text: &mut Text, front: u16, object: &str) {
+        let moved = self.target.filter(|_| front > 0);
+        match moved.and_then(|target| without_number(&self.text, target)) {
+            Some(before) => {
+                let target = self.target.unwrap_or(0);
+                text.put_bytes(before);
+                text.put_octal(u64::from(target.wrapping_add(front)));
+                text.say(format_args!(", in {object} {target:o}"));
+            }
+            None => text.put_bytes(&self.text),
+        }
+    }
+}
+
+/// Adds for each word of a file's text the instruction that begins there in an image; an empty row if none does.
+pub(crate) fn push_instructions(
+    alloc: Global,
+    rows: &mut Vec<Vec<u8>>,
+    file: &File,
+    front: u16,
+    object: &str,
+) -> Result<(), AllocError> {
+    let all = decoded_of(alloc, file)?;
+    for decoded in &all {
+        let mut text = Text::new(alloc);
+        decoded.put_moved(&mut text, front, object);
+        rows.push(text.finish()?)?;
     }
     Ok(())
 }
 
-/// Adds the instructions of a text, by the indices of their first words.
+/// Adds the instructions of a text by the indices of their first words, and the addresses to which some of them branch.
 pub(crate) fn put_instructions(
     alloc: Global,
     out: &mut JsonWriter,
     file: &File,
 ) -> Result<(), AllocError> {
-    let mut texts = RowList::new(alloc);
-    push_instructions(alloc, &mut texts, file)?;
+    let all = decoded_of(alloc, file)?;
     out.put_key("instructions");
     out.begin_object();
-    out.put_key("text");
-    out.begin_object();
-    for (index, text) in texts.rows().iter().enumerate() {
-        if !text.is_empty() {
+    for (index, decoded) in all.iter().enumerate() {
+        if !decoded.text.is_empty() {
             out.put_number_key(index as u64);
-            out.put_bytes(b"", text);
+            out.put_bytes(b"", &decoded.text);
         }
     }
     out.end_object();
+    out.put_key("branches");
+    out.begin_object();
+    for (index, decoded) in all.iter().enumerate() {
+        if let Some(target) = decoded.target {
+            out.put_number_key(index as u64);
+            out.put_number(u64::from(target));
+        }
+    }
     out.end_object();
     Ok(())
 }

@@ -3,15 +3,14 @@ use crate::decoded::put_instructions;
 use crate::files::{bytes_at, object_in};
 use crate::fronts::Fronts;
 use crate::json::put_words;
-use crate::parts::{put_name_meant, target_number};
+use crate::parts::Referent;
 use crate::shapes::{put_labels, put_operands, put_texts};
-use crate::sources::put_sources;
-use crate::symbols::put_lines;
 use anyhow::{Result, anyhow};
 use aout_core::{File, Kind, Reloc, Segment, Symbol};
-use link_session::{AddFault, Session, Starts, Target};
+use link_session::{AddFault, Session, Starts};
 use session_states::JsonWriter;
 use std::alloc::{AllocError, Global};
+use symtools::line_of;
 
 /// The segments that have words.
 pub(crate) static SEGMENTS: [Segment; 2] = [Segment::TextSeg, Segment::DataSeg];
@@ -80,6 +79,14 @@ pub(crate) fn given_at(rt: &HostRuntime, path: String) -> Result<Given> {
     Ok(given)
 }
 
+/// The relocation words of a segment.
+pub(crate) fn relocs_of(file: &File, segment: Segment) -> &[Reloc] {
+    match segment {
+        Segment::DataSeg => file.data_reloc(),
+        _ => file.text_reloc(),
+    }
+}
+
 /// The words of a segment.
 pub(crate) fn words_of(file: &File, segment: Segment) -> &[u16] {
     match segment {
@@ -90,12 +97,8 @@ pub(crate) fn words_of(file: &File, segment: Segment) -> &[u16] {
 
 /// Adds the words of a segment that refer to something.
 fn gather(given: &mut Given, file: &File, segment: Segment) -> Result<(), AllocError> {
-    let relocs = match segment {
-        Segment::DataSeg => file.data_reloc(),
-        _ => file.text_reloc(),
-    };
     let mut offset = 0u16;
-    for (word, reloc) in words_of(file, segment).iter().zip(relocs) {
+    for (word, reloc) in words_of(file, segment).iter().zip(relocs_of(file, segment)) {
         if reloc.is_pc() || !matches!(reloc.kind(), Some(Kind::Absolute)) {
             gather_word(given, segment, offset, *word, *reloc)?;
         }
@@ -130,51 +133,50 @@ fn gather_word(
     Ok(())
 }
 
-/// Adds a group: 0 for text and 1 for data, and what its words refer to.
-fn put_group(out: &mut JsonWriter, symbols: &[Symbol], first: RelocatedWord) {
-    let pc = first.reloc.is_pc();
-    out.put_number(u64::from(first.segment == Segment::DataSeg));
-    let target = match first.reloc.kind() {
-        Some(Kind::External) => {
-            if let Some(symbol) = symbols.get(usize::from(first.reloc.number())) {
-                return put_name_meant(out, &symbol.name, pc);
-            }
-            Target::Absolute
-        }
-        Some(Kind::TextSeg) => Target::TextSeg,
-        Some(Kind::DataSeg) => Target::DataSeg,
-        Some(Kind::BssSeg) => Target::BssSeg,
-        Some(Kind::Absolute) | None => Target::Absolute,
-    };
-    out.put_number(u64::from(target_number(target, pc)));
+/// What the words of a group refer to.
+fn referent_of(symbols: &[Symbol], reloc: Reloc) -> Referent {
+    match reloc.kind() {
+        Some(Kind::External) => match symbols.get(usize::from(reloc.number())) {
+            Some(symbol) => Referent::Name(symbol.name),
+            None => Referent::Number,
+        },
+        Some(Kind::TextSeg) => Referent::Text,
+        Some(Kind::DataSeg) => Referent::Data,
+        Some(Kind::BssSeg) => Referent::Bss,
+        Some(Kind::Absolute) | None => Referent::Number,
+    }
 }
 
-/// Adds the groups, as a list.
+/// Adds the groups, as a list: what the words of each refer to, and their relocation word.
 fn put_groups(out: &mut JsonWriter, symbols: &[Symbol], given: &Given) {
     out.put_key("groups");
     out.begin_list();
     for first in &given.groups {
-        put_group(out, symbols, *first);
+        out.begin_list();
+        referent_of(symbols, first.reloc).put(out);
+        out.put_number(u64::from(first.reloc.0));
+        out.end_list();
     }
     out.end_list();
 }
 
-/// Adds the words of a segment that refer to something, as a list: the index of each, its group, and to which place of
-/// what it refers.
+/// Adds the words of a segment that refer to something, as a list: the index of each, its group, and the place of what it refers to.
 fn put_references(out: &mut JsonWriter, key: &str, given: &Given, segment: Segment) {
     out.put_key(key);
     out.begin_list();
     for reference in &given.references {
         if reference.segment == segment {
+            out.begin_list();
             out.put_number(u64::from(reference.offset / 2));
             out.put_number(reference.group as u64);
             out.put_number(u64::from(given.meant(*reference)));
+            out.end_list();
         }
     }
     out.end_list();
 }
 
-/// Adds the words and symbols of an object.
+/// Adds the words and symbols of an object; the symbols as the lines of `nm -p`.
 fn put_file(
     alloc: Global,
     out: &mut JsonWriter,
@@ -203,7 +205,13 @@ fn put_file(
     put_labels(out, given, file.symbols());
     put_texts(alloc, out, file)?;
     out.put_key("symbols");
-    put_lines(out, file.symbols());
+    out.begin_list();
+    for symbol in file.symbols() {
+        let line = line_of(symbol);
+        let text = line.as_bytes();
+        out.put_bytes(b"", text.strip_suffix(b"\n").unwrap_or(text));
+    }
+    out.end_list();
     Ok(())
 }
 
@@ -215,7 +223,6 @@ pub(crate) fn put_given(rt: &HostRuntime, out: &mut JsonWriter, given: &Given) -
     out.put_key("path");
     out.put_text(given.path.as_str());
     put_file(alloc, out, given, object.file())?;
-    put_sources(rt, out, given, object.file())?;
     out.end_object();
     Ok(())
 }

@@ -1,12 +1,12 @@
 //! The answers to questions: what a session knows after a step.
-ghost use Rattle.std.specs.Prelude.{◌≡◌, true, false, IfOk, OnOk, OnErr};
-ghost use Rattle.link_session.specs.Sessions.{newest};
-ghost use Rattle.v7_lesson.specs.Answers.{are_changed, changed_words, is_among, is_key, was_before, word_of};
+ghost use Rattle.std.specs.Prelude.{◌≡◌, true, false, OnOk, OnErr};
+ghost use Rattle.v7_lesson.specs.Answers.{are_changed, is_among, is_key};
 
 use crate::links::links_of;
 use crate::numbers::{cell_at, linked_word};
 use anyhow::{Result, anyhow};
 use aout_core::{Name, Segment};
+use itoa::Buffer;
 use link_session::{Mark, Place, Session, State};
 use session_states::JsonWriter;
 use std::alloc::{AllocError, Global};
@@ -59,9 +59,7 @@ impl WordPlace {
     }
 
     /// The word that a mark is about.
-    fn of(place: Place) -> WordPlace
-        ensures { result ≡ word_of place }
-    {
+    fn of(place: Place) -> WordPlace {
         let (segment, index) = match place {
             Place::InText(index) => (Segment::TextSeg, index),
             Place::InData(index) => (Segment::DataSeg, index),
@@ -72,11 +70,13 @@ impl WordPlace {
         }
     }
 
-    /// Adds two values: the segment and the offset.
+    /// Adds it as the page calls its row.
     pub(crate) fn put(self, out: &mut JsonWriter) {
-        let is_data = self.segment == Segment::DataSeg;
-        out.put_text(if is_data { "data" } else { "text" });
-        out.put_number(u64::from(self.offset));
+        let front: &[u8] = match self.segment {
+            Segment::DataSeg => b"data-",
+            _ => b"text-",
+        };
+        out.put_bytes(front, Buffer::new().format(self.offset).as_bytes());
     }
 
     /// Whether the image has the word.
@@ -86,9 +86,10 @@ impl WordPlace {
 }
 
 /// The words that the last addition overwrote, in the order of its marks.
-pub(crate) fn changed_words(alloc: Global, session: &Session) -> Result<Vec<WordPlace>, AllocError>
-    ensures { IfOk result (λ words. words.items ≡ changed_words (newest session.now.journal)) }
-{
+pub(crate) fn changed_words(
+    alloc: Global,
+    session: &Session,
+) -> Result<Vec<WordPlace>, AllocError> {
     let mut words = Vec::new(alloc);
     for mark in session.last_marks() {
         if let Mark::CellWas(place, _) = *mark {
@@ -99,10 +100,7 @@ pub(crate) fn changed_words(alloc: Global, session: &Session) -> Result<Vec<Word
 }
 
 /// What a word was before the last addition, if this overwrote it.
-#[tactic(auto, using(crate::proofs::AnswerLemmas::same_word))]
-pub(crate) fn was_before(session: &Session, word: WordPlace) -> Option<u16>
-    ensures { result ≡ was_before (newest session.now.journal) word }
-{
+pub(crate) fn was_before(session: &Session, word: WordPlace) -> Option<u16> {
     for mark in session.last_marks() {
         if let Mark::CellWas(place, cell) = *mark
             && WordPlace::of(place) == word
@@ -219,7 +217,7 @@ pub(crate) struct Asked<'a> {
 
 /// Whether a word is among these.
 #[tactic(auto, using(crate::proofs::AnswerLemmas::any_word))]
-pub(crate) fn is_among(words: &[WordPlace], word: WordPlace) -> bool
+fn is_among(words: &[WordPlace], word: WordPlace) -> bool
     ensures { result ≡ is_among words.now word }
 {
     words.contains(&word)

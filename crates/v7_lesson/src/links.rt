@@ -40,8 +40,11 @@ impl Link {
     }
 }
 
+/// How many links are shown.
+pub(crate) const LINK_COUNT: usize = 4;
+
 /// The links that are shown.
-static LINKS: [(Layout, bool); 4] = [
+static LINKS: [(Layout, bool); LINK_COUNT] = [
     (Layout::Plain, false),
     (Layout::Pure, false),
     (Layout::Split, false),
@@ -49,7 +52,7 @@ static LINKS: [(Layout, bool); 4] = [
 ];
 
 /// What a link that is shown is called, by its place among them.
-static LAYOUTS: [&str; 4] = ["plain", "-n", "-i", "-r"];
+static LAYOUTS: [&str; LINK_COUNT] = ["plain", "-n", "-i", "-r"];
 
 /// The link that is called so.
 pub(crate) fn layout_named(name: &str) -> Option<usize> {

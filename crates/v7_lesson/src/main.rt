@@ -1,7 +1,6 @@
 //! The program `v7-lesson`, for a class: what a linker knows after each addition and withdrawal, as text or as a page.
 #![tactic(auto)]
 
-mod answers;
 mod arguments;
 mod choices;
 mod decoded;
@@ -11,26 +10,18 @@ mod given;
 mod help;
 mod json;
 mod keys;
-mod lines;
 mod links;
 mod marks;
-mod meant;
-mod number_list;
 mod numbers;
 mod page;
 mod parts;
 mod places;
 mod prose;
 mod questions;
-mod row_list;
-mod rows;
-mod same;
 mod shapes;
-mod sources;
 mod stage;
 mod states;
 mod steps;
-mod symbols;
 mod walk;
 
 use anyhow::{Error, Result};

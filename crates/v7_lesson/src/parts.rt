@@ -1,70 +1,96 @@
-//! Words, names and states as JSON.
-ghost use Rattle.std.specs.Prelude.{◌≡◌};
-ghost use Rattle.v7_lesson.specs.Meant.{place_meant};
-
+//! What words refer to, what is known of names, and sizes.
 use aout_core::{Name, Segment, pc_target};
 use link_session::{Cell, Session, State, Target};
 use session_states::JsonWriter;
+use std::fmt::{self, Display, Formatter, Write};
+use texts::{Printable, Text};
 
-/// What a word refers to is a number in its segment: that of its value, counted from the word after it if it is
-/// relative to the pc.
-pub(crate) fn place_meant(value: u16, pc: bool, offset: u16) -> u16
-    ensures { result ≡ place_meant value pc offset }
-{
-    if pc { pc_target(value, offset) } else { value }
-}
+/// A number of bytes: in octal, with the decimal number after it.
+#[derive(Clone, Copy, PartialEq, Eq)]
+pub(crate) struct Size(pub(crate) u16);
 
-/// What a word refers to or waits for, as a number: twice that of the segment, from 0 for a number to 3 for bss, or from 8 on
-/// twice the number of the name; and 1 more where the word is relative to the pc.
-pub(crate) fn target_number(target: Target, pc: bool) -> u32 {
-    let number = match target {
-        Target::Absolute => 0,
-        Target::TextSeg => 1,
-        Target::DataSeg => 2,
-        Target::BssSeg => 3,
-        Target::External(index) => u32::from(index) + 4,
-    };
-    2 * number + u32::from(pc)
-}
-
-/// Adds the name that a word waits for: `p` before it where the word is relative to the pc, and else `-`.
-pub(crate) fn put_name_meant(out: &mut JsonWriter, name: &Name, pc: bool) {
-    out.put_bytes(if pc { b"p" } else { b"-" }, name.as_bytes());
-}
-
-/// Adds three values: the word of a cell, what it refers to or waits for, and at which place of that.
-pub(crate) fn put_cell(out: &mut JsonWriter, session: &Session, offset: u16, cell: Cell) {
-    let Cell { value, target, pc } = cell;
-    let waits_for = match target {
-        Target::External(index) => session.external(index),
-        _ => None,
-    };
-    out.put_number(u64::from(value));
-    match waits_for {
-        Some((name, _)) => put_name_meant(out, &name, pc),
-        None => out.put_number(u64::from(target_number(target, pc))),
-    }
-    out.put_number(u64::from(place_meant(value, pc, offset)));
-}
-
-/// The kind of a state, from 0 for undefined over common, text, data and bss to 5 for a number, and its number.
-pub(crate) fn state_numbers(state: State) -> (u32, u16) {
-    match state {
-        State::Wanted(0) => (0, 0),
-        State::Wanted(size) => (1, size),
-        State::Defined(Segment::TextSeg, offset) => (2, offset),
-        State::Defined(Segment::DataSeg, offset) => (3, offset),
-        State::Defined(Segment::BssSeg, offset) => (4, offset),
-        State::Defined(_, value) => (5, value),
+impl Display for Size {
+    fn fmt<W: Write>(&self, f: &mut Formatter<W>) -> fmt::Result {
+        write!(f, "0{:o} ({}.)", self.0, self.0)
     }
 }
 
-/// Adds three values: a name, the kind of its state, and the number of that.
-pub(crate) fn put_state(out: &mut JsonWriter, name: &Name, state: State) {
-    let (kind, number) = state_numbers(state);
-    out.put_bytes(b"", name.as_bytes());
-    out.put_number(u64::from(kind));
+/// The place that a word at an offset refers to, in its segment: its value, counted from the word after it if it is relative to the
+/// pc.
+pub(crate) fn place_meant(cell: Cell, offset: u16) -> u16 {
+    if cell.pc {
+        pc_target(cell.value, offset)
+    } else {
+        cell.value
+    }
+}
+
+/// What a word refers to or waits for.
+#[derive(Clone, Copy, PartialEq, Eq)]
+pub(crate) enum Referent {
+    Number,
+    Text,
+    Data,
+    Bss,
+    Name(Name),
+}
+
+impl Referent {
+    /// That of a target in a session.
+    pub(crate) fn of(session: &Session, target: Target) -> Referent {
+        match target {
+            Target::Absolute => Referent::Number,
+            Target::TextSeg => Referent::Text,
+            Target::DataSeg => Referent::Data,
+            Target::BssSeg => Referent::Bss,
+            Target::External(index) => match session.external(index) {
+                Some((name, _)) => Referent::Name(name),
+                None => Referent::Number,
+            },
+        }
+    }
+
+    /// Adds it: a name as a text, or 0 for a number, 1 for text, 2 for data, 3 for bss.
+    pub(crate) fn put(&self, out: &mut JsonWriter) {
+        match self {
+            Referent::Number => out.put_number(0),
+            Referent::Text => out.put_number(1),
+            Referent::Data => out.put_number(2),
+            Referent::Bss => out.put_number(3),
+            Referent::Name(name) => out.put_bytes(b"", name.as_bytes()),
+        }
+    }
+}
+
+/// Adds two values: the kind of a state, and its number.
+pub(crate) fn put_state(out: &mut JsonWriter, state: State) {
+    let (kind, number) = match state {
+        State::Wanted(0) => ("undefined", 0),
+        State::Wanted(size) => ("common", size),
+        State::Defined(Segment::TextSeg, offset) => ("text", offset),
+        State::Defined(Segment::DataSeg, offset) => ("data", offset),
+        State::Defined(Segment::BssSeg, offset) => ("bss", offset),
+        State::Defined(_, value) => ("number", value),
+    };
+    out.put_text(kind);
     out.put_number(u64::from(number));
+}
+
+/// Appends what is known of a name.
+pub(crate) fn say_state(text: &mut Text, state: State) {
+    match state {
+        State::Wanted(0) => text.put("undefined"),
+        State::Wanted(size) => text.say(format_args!("a common of {} bytes", Size(size))),
+        State::Defined(Segment::TextSeg, offset) => text.say(format_args!("text {offset:06o}")),
+        State::Defined(Segment::DataSeg, offset) => text.say(format_args!("data {offset:06o}")),
+        State::Defined(Segment::BssSeg, offset) => text.say(format_args!("bss {offset:06o}")),
+        State::Defined(_, value) => text.say(format_args!("the number {value:06o}")),
+    }
+}
+
+/// Appends a name as it prints.
+pub(crate) fn say_name(text: &mut Text, name: &Name) {
+    text.say(Printable(name.as_bytes()));
 }
 
 /// Adds names as a list.

@@ -1,15 +1,11 @@
 //! The places that words refer to: where an arrow of the page ends.
-ghost use Rattle.std.specs.Prelude.{◌≡◌};
-ghost use Rattle.link_session.specs.Undo.{image_of};
-ghost use Rattle.v7_lesson.specs.Meant.{place_meant, size_of};
-ghost use Rattle.v7_lesson.specs.declared.places.ArrowEnd.TheVariants.{AsInImage};
-ghost use Rattle.v7_lesson.specs.Places.{end_of, found_at, image_place, is_end, merged_segment, named_segment, place_in_link, place_numbered, place_of_kind, place_in_segment, row_with, target_segment, start_of};
-
 use crate::links::Link;
 use crate::parts::place_meant;
 use aout_core::Segment;
+use itoa::Buffer;
 use link_out::Bases;
 use link_session::{Cell, Session, Target};
+use session_states::JsonWriter;
 
 /// A merged segment.
 #[derive(Clone, Copy, PartialEq, Eq)]
@@ -28,8 +24,8 @@ pub(crate) enum ArrowEnd {
     AsInImage,
     /// The word at an offset of a segment; of bss, where no words are, the byte.
     Row(Merged, u16),
-    /// The end of a segment: its offset in the image, its address in a link.
-    End(Merged, u16),
+    /// The end of a segment.
+    End(Merged),
     /// An offset that is beyond the end of its segment.
     Beyond(Merged, u16),
     /// A place of the commons, by its address.
@@ -40,49 +36,36 @@ pub(crate) enum ArrowEnd {
 
 impl ArrowEnd {
     /// The row that has this byte of a segment.
-    fn row(segment: Merged, offset: u16) -> ArrowEnd
-        ensures { result ≡ row_with segment offset }
-    {
+    fn row(segment: Merged, offset: u16) -> ArrowEnd {
         match segment {
             Merged::Bss => ArrowEnd::Row(segment, offset),
             Merged::Text | Merged::Data => ArrowEnd::Row(segment, offset - offset % 2),
         }
     }
 
-    /// What the page has for the kind of the place, and its offset or address.
-    fn kind_and_offset(self) -> (u16, u16)
-        ensures { place_of_kind result.0 result.1 ≡ self }
-    {
-        match self {
-            ArrowEnd::AsInImage => (0, 0),
-            ArrowEnd::Nowhere => (0, 1),
-            ArrowEnd::Row(Merged::Text, offset) => (1, offset),
-            ArrowEnd::Row(Merged::Data, offset) => (2, offset),
-            ArrowEnd::Row(Merged::Bss, offset) => (3, offset),
-            ArrowEnd::End(Merged::Text, offset) => (4, offset),
-            ArrowEnd::End(Merged::Data, offset) => (5, offset),
-            ArrowEnd::End(Merged::Bss, offset) => (6, offset),
-            ArrowEnd::Beyond(Merged::Text, offset) => (7, offset),
-            ArrowEnd::Beyond(Merged::Data, offset) => (8, offset),
-            ArrowEnd::Beyond(Merged::Bss, offset) => (9, offset),
-            ArrowEnd::Common(address) => (10, address),
-            ArrowEnd::Outside(address) => (11, address),
-        }
-    }
-
-    /// The place as the page has it: 65,536 times its kind, and its offset or address.
-    pub(crate) fn number(self) -> u32
-        ensures { place_numbered result ≡ self }
-    {
-        let (kind, offset) = self.kind_and_offset();
-        u32::from(kind) * 65_536 + u32::from(offset)
+    /// Adds it as the page calls its row: `text-6`, `text-end`, `text-beyond-10`, `common-20`, `outside-20`; `null` if it is as in the image.
+    pub(crate) fn put(self, out: &mut JsonWriter) {
+        let (front, number) = match self {
+            ArrowEnd::AsInImage => return out.put_null(),
+            ArrowEnd::Nowhere => return out.put_text(""),
+            ArrowEnd::End(Merged::Text) => return out.put_text("text-end"),
+            ArrowEnd::End(Merged::Data) => return out.put_text("data-end"),
+            ArrowEnd::End(Merged::Bss) => return out.put_text("bss-end"),
+            ArrowEnd::Row(Merged::Text, offset) => ("text-", offset),
+            ArrowEnd::Row(Merged::Data, offset) => ("data-", offset),
+            ArrowEnd::Row(Merged::Bss, offset) => ("bss-", offset),
+            ArrowEnd::Beyond(Merged::Text, offset) => ("text-beyond-", offset),
+            ArrowEnd::Beyond(Merged::Data, offset) => ("data-beyond-", offset),
+            ArrowEnd::Beyond(Merged::Bss, offset) => ("bss-beyond-", offset),
+            ArrowEnd::Common(address) => ("common-", address),
+            ArrowEnd::Outside(address) => ("outside-", address),
+        };
+        out.put_bytes(front.as_bytes(), Buffer::new().format(number).as_bytes());
     }
 }
 
 /// The size of a merged segment, in bytes.
-pub(crate) fn size_of(session: &Session, segment: Merged) -> usize
-    ensures { result ≡ size_of (image_of session.now) segment }
-{
+pub(crate) fn size_of(session: &Session, segment: Merged) -> usize {
     match segment {
         Merged::Text => 2 * session.text_cells().len(),
         Merged::Data => 2 * session.data_cells().len(),
@@ -91,23 +74,19 @@ pub(crate) fn size_of(session: &Session, segment: Merged) -> usize
 }
 
 /// The place of this number of a segment of so many bytes.
-fn place_in_segment(segment: Merged, size: usize, number: u16) -> ArrowEnd
-    ensures { result ≡ place_in_segment segment size number }
-{
+fn place_in_segment(segment: Merged, size: usize, number: u16) -> ArrowEnd {
     if usize::from(number) < size {
         ArrowEnd::row(segment, number)
     } else if usize::from(number) == size {
-        ArrowEnd::End(segment, number)
+        ArrowEnd::End(segment)
     } else {
         ArrowEnd::Beyond(segment, number)
     }
 }
 
 /// The place in the merged image that the cell at an offset refers to.
-pub(crate) fn image_place(session: &Session, cell: Cell, offset: u16) -> ArrowEnd
-    ensures { result ≡ image_place (image_of session.now) cell offset }
-{
-    let number = place_meant(cell.value, cell.pc, offset);
+pub(crate) fn image_place(session: &Session, cell: Cell, offset: u16) -> ArrowEnd {
+    let number = place_meant(cell, offset);
     match cell.target {
         Target::TextSeg => {
             place_in_segment(Merged::Text, size_of(session, Merged::Text), number)
@@ -122,9 +101,7 @@ pub(crate) fn image_place(session: &Session, cell: Cell, offset: u16) -> ArrowEn
 }
 
 /// The address at which a segment of a link begins; the commons are the first bytes of its bss.
-fn start_of(bases: &Bases, segment: Merged) -> u64
-    ensures { result ≡ start_of bases.now segment }
-{
+fn start_of(bases: &Bases, segment: Merged) -> u64 {
     match segment {
         Merged::Text => 0,
         Merged::Data => bases.data_start,
@@ -133,9 +110,7 @@ fn start_of(bases: &Bases, segment: Merged) -> u64
 }
 
 /// The address after a segment of a link.
-fn end_of(bases: &Bases, segment: Merged) -> u64
-    ensures { result ≡ end_of bases.now segment }
-{
+fn end_of(bases: &Bases, segment: Merged) -> u64 {
     match segment {
         Merged::Text => bases.text_end,
         Merged::Data => bases.data_end,
@@ -144,17 +119,13 @@ fn end_of(bases: &Bases, segment: Merged) -> u64
 }
 
 /// Whether an address is the end of a segment that has bytes.
-fn is_end(bases: &Bases, segment: Merged, address: u16) -> bool
-    ensures { result ≡ is_end bases.now segment address }
-{
+fn is_end(bases: &Bases, segment: Merged, address: u16) -> bool {
     let at = u64::from(address);
     start_of(bases, segment) < at && at == end_of(bases, segment)
 }
 
 /// What a link has at an address. With `-i` there are two spaces of addresses: `in_text` says whether that of text is meant.
-fn found_at(bases: &Bases, is_split: bool, in_text: bool, address: u16) -> ArrowEnd
-    ensures { result ≡ found_at bases.now is_split in_text address }
-{
+fn found_at(bases: &Bases, is_split: bool, in_text: bool, address: u16) -> ArrowEnd {
     let at = u64::from(address);
     if (in_text || !is_split) && at < bases.text_end {
         ArrowEnd::row(Merged::Text, address)
@@ -170,9 +141,7 @@ fn found_at(bases: &Bases, is_split: bool, in_text: bool, address: u16) -> Arrow
 }
 
 /// The merged segment of a symbol's segment, if it is one.
-fn merged_segment(segment: Segment) -> Option<Merged>
-    ensures { result ≡ merged_segment segment }
-{
+fn merged_segment(segment: Segment) -> Option<Merged> {
     match segment {
         Segment::TextSeg => Some(Merged::Text),
         Segment::DataSeg => Some(Merged::Data),
@@ -182,9 +151,7 @@ fn merged_segment(segment: Segment) -> Option<Merged>
 }
 
 /// The segment in which a link has a name, if it has it in one.
-fn named_segment(link: &Link, index: u16) -> Option<Merged>
-    ensures { result ≡ named_segment link.now.externals.items index }
-{
+fn named_segment(link: &Link, index: u16) -> Option<Merged> {
     match link.externals.get(usize::from(index)) {
         Some(symbol) => merged_segment(symbol.segment()),
         None => None,
@@ -192,9 +159,7 @@ fn named_segment(link: &Link, index: u16) -> Option<Merged>
 }
 
 /// The segment of a link that a target is in.
-fn target_segment(link: &Link, target: Target) -> Option<Merged>
-    ensures { result ≡ target_segment link.now.externals.items target }
-{
+fn target_segment(link: &Link, target: Target) -> Option<Merged> {
     match target {
         Target::TextSeg => Some(Merged::Text),
         Target::DataSeg => Some(Merged::Data),
@@ -205,12 +170,10 @@ fn target_segment(link: &Link, target: Target) -> Option<Merged>
 }
 
 /// The place at an address of a link that a cell refers to: the end of the segment that it names goes before what follows it.
-fn place_in_link(link: &Link, cell: Cell, address: u16) -> ArrowEnd
-    ensures { result ≡ place_in_link link.now.bases link.now.is_split link.now.externals.items cell address }
-{
+fn place_in_link(link: &Link, cell: Cell, address: u16) -> ArrowEnd {
     let bases = &link.bases;
     match target_segment(link, cell.target) {
-        Some(segment) if is_end(bases, segment, address) => ArrowEnd::End(segment, address),
+        Some(segment) if is_end(bases, segment, address) => ArrowEnd::End(segment),
         Some(segment) => found_at(bases, link.is_split, segment == Merged::Text, address),
         None if cell.pc && matches!(cell.target, Target::Absolute) => {
             found_at(bases, link.is_split, true, address)
@@ -226,13 +189,18 @@ pub(crate) fn link_place(
     word: u16,
     address: u16,
     in_image: ArrowEnd,
-) -> ArrowEnd
-    ensures same { let place = place_in_link link.now.bases link.now.is_split link.now.externals.items cell (place_meant word cell.pc address) in
-        place ≡ in_image → result ≡ AsInImage }
-    ensures other { let place = place_in_link link.now.bases link.now.is_split link.now.externals.items cell (place_meant word cell.pc address) in
-        (place ≡ in_image → ⊥) → result ≡ place }
-{
-    let place = place_in_link(link, cell, place_meant(word, cell.pc, address));
+) -> ArrowEnd {
+    let place = place_in_link(
+        link,
+        cell,
+        place_meant(
+            Cell {
+                value: word,
+                ..cell
+            },
+            address,
+        ),
+    );
     if place == in_image {
         ArrowEnd::AsInImage
     } else {

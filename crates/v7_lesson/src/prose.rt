@@ -4,12 +4,13 @@ ghost use Rattle.std.specs.Prelude.{◌≡◌};
 ghost use Rattle.v7_lesson.specs.declared.prose.Within.TheVariants.{Nothing};
 ghost use Rattle.v7_lesson.specs.Prose.{begins_word, begun_by, continues_word, has_bare_number, is_bare, is_digit, within_after};
 
+use crate::given::{relocs_of, words_of};
 use crate::keys::{WordPlace, first_word, was_before};
 use crate::links::{Link, layout_named, links_of};
 use crate::numbers::{cell_at, linked_word};
-use crate::parts::place_meant;
+use crate::parts::{Size, place_meant};
 use crate::places::{Merged, size_of};
-use anyhow::{Error, Result, anyhow};
+use anyhow::{Result, anyhow};
 use aout_core::{Name, Segment};
 use link_session::{Session, State};
 use session_states::JsonWriter;
@@ -97,20 +98,18 @@ fn has_bare_number(text: &str) -> bool
 }
 
 /// The number of a reference.
-#[derive(Clone, Copy, PartialEq, Eq)]
+#[derive(Clone, Copy)]
 enum Number {
     /// A word or a place, which the page shows in the base that is chosen.
     Word(u16),
-    /// A size in bytes, which is decimal everywhere on the page.
+    /// A size in bytes, which the page shows in both bases.
     Size(u16),
 }
 
 impl Number {
-    /// The number in digits of its base.
-    fn parse(self, digits: &str) -> Option<Number> {
+    fn value(self) -> u16 {
         match self {
-            Number::Word(_) => u16::from_str_radix(digits, 8).ok().map(Number::Word),
-            Number::Size(_) => u16::from_str_radix(digits, 10).ok().map(Number::Size),
+            Number::Word(number) | Number::Size(number) => number,
         }
     }
 
@@ -118,17 +117,9 @@ impl Number {
     fn put(self, alloc: Global, out: &mut JsonWriter) -> Result<()> {
         match self {
             Number::Word(word) => out.put_number(u64::from(word)),
-            Number::Size(size) => out.put_text(format!(in alloc; "{size}")?.as_str()),
+            Number::Size(size) => out.put_text(format!(in alloc; "{}", Size(size))?.as_str()),
         }
         Ok(())
-    }
-
-    /// That a reference is not what its file says.
-    fn unlike(self, said: &str) -> Error {
-        match self {
-            Number::Word(word) => anyhow!("{said} in braces is {word:o}"),
-            Number::Size(size) => anyhow!("{said} in braces is {size}"),
-        }
     }
 }
 
@@ -155,8 +146,21 @@ fn size_named(session: &Session, segment: &str) -> Option<Number> {
         .map(Number::Size)
 }
 
-/// What is asked of a word of the image: what it is, what it was before the last addition, its offset, that of the word after it, or how many
-/// bytes before the beginning of what it refers to its place is.
+/// The relocation word of a word of the image, in its object.
+fn relocation_word(session: &Session, word: WordPlace) -> Option<u16> {
+    let mut index = usize::from(word.offset / 2);
+    for entry in session.entries() {
+        let file = entry.object().file();
+        if let Some(reloc) = relocs_of(file, word.segment).get(index) {
+            return Some(reloc.0);
+        }
+        index = index.saturating_sub(words_of(file, word.segment).len());
+    }
+    None
+}
+
+/// What is asked of a word of the image: what it is, what it was before the last addition, its offset, that of the word after it, how many
+/// bytes before the beginning of what it refers to its place is, or its relocation word.
 fn number_of_word(session: &Session, what: &str, word: WordPlace) -> Option<u16> {
     let cell = cell_at(session, word.segment, word.offset)?;
     match what {
@@ -164,7 +168,8 @@ fn number_of_word(session: &Session, what: &str, word: WordPlace) -> Option<u16>
         "was" => was_before(session, word),
         "at" => Some(word.offset),
         "after" => Some(word.offset.wrapping_add(2)),
-        "before" => Some(0u16.wrapping_sub(place_meant(cell.value, cell.pc, word.offset))),
+        "before" => Some(0u16.wrapping_sub(place_meant(cell, word.offset))),
+        "reloc" => relocation_word(session, word),
         _ => None,
     }
 }
@@ -175,7 +180,7 @@ fn number_in_image(session: &Session, text: &str) -> Option<Number> {
     let word = match first {
         "size" => return size_named(session, rest),
         "text" | "data" => number_of_word(session, "", WordPlace::parse(text)?),
-        "was" | "at" | "after" | "before" => number_of_word(
+        "was" | "at" | "after" | "before" | "reloc" => number_of_word(
             session,
             first,
             WordPlace::parse(rest)?,
@@ -224,9 +229,9 @@ fn put_reference(alloc: Global, out: &mut JsonWriter, session: &Session, text: &
         return Err(anyhow!("{said} in braces refers to nothing"));
     };
     if let Some(digits) = key
-        && number.parse(digits) != Some(number)
+        && u16::from_str_radix(digits, 8) != Ok(number.value())
     {
-        return Err(number.unlike(said));
+        return Err(anyhow!("{said} in braces is {:o}", number.value()));
     }
     number.put(alloc, out)
 }

@@ -2,7 +2,6 @@
 ghost use Rattle.std.specs.Prelude.{◌≡◌};
 ghost use Rattle.v7_lesson.specs.Choices.{may_begin};
 
-use crate::answers::{Answers, Known, answers_of};
 use crate::choices::Choices;
 use crate::files::text_at;
 use crate::given::Given;
@@ -24,8 +23,6 @@ enum Begun {
     Lesson,
     /// A question with answers to choose from, in this line, and those that it has.
     Choice(usize, Choices),
-    /// A question about what is known now, whose answers are computed.
-    Known,
     /// A question, in this line, whose answer the next step gives.
     Computed(usize),
 }
@@ -42,7 +39,7 @@ impl Begun {
                 word,
                 "word" | "number" | "add" | "withdraw" | "link" | "image"
             ),
-            Begun::Lesson | Begun::Known => true,
+            Begun::Lesson => true,
         }
     }
 
@@ -71,8 +68,6 @@ struct Reader<'a> {
     /// The words that the file gives as its answer, and the number.
     words: Vec<WordPlace>,
     number: Option<u16>,
-    /// The right answers to the question about what is known now.
-    answers: Option<Answers>,
 }
 
 /// Whether a path is a file's name, or ends by it.
@@ -113,24 +108,6 @@ impl<'a> Reader<'a> {
         self.put_said(out, word, text)
     }
 
-    /// A name or a word that the file gives as an answer to a question about what is known now: it has to be one.
-    fn compare_answer(&self, word: &str, text: &str) -> Result<()> {
-        let Some(answers) = &self.answers else {
-            return Err(anyhow!("an answer to no question"));
-        };
-        let is_right = match word {
-            "name" => {
-                let name = Name::from_bytes(text.as_bytes());
-                name.as_bytes() == text.as_bytes() && answers.has_name(&name)
-            }
-            _ => answers.has_word(self.word_at(text)?),
-        };
-        if !is_right {
-            return Err(anyhow!("{text} is no answer"));
-        }
-        Ok(())
-    }
-
     /// A word of the image, by its segment and its offset in octal digits.
     fn word_at(&self, text: &str) -> Result<WordPlace> {
         match WordPlace::parse(text) {
@@ -141,6 +118,9 @@ impl<'a> Reader<'a> {
 
     /// A word that the file gives as one of those that the next step changes.
     fn answer_word(&mut self, text: &str) -> Result<()> {
+        if !matches!(self.wanted, Wanted::Changes) {
+            return Err(anyhow!("an answer to no question"));
+        }
         let word = self.word_at(text)?;
         self.words.push(word)?;
         Ok(())
@@ -160,29 +140,18 @@ impl<'a> Reader<'a> {
         }
     }
 
-    /// A question: of the step after it, of what is known now, or with answers to choose from.
+    /// A question: of the step after it, or with answers to choose from.
     fn put_ask(&mut self, out: &mut JsonWriter, line: usize, text: &str) -> Result<()> {
         let (word, rest) = first_word(text);
-        let known = known_of(word, rest)?;
         self.wanted = wanted_of(word, rest)?;
         self.name = name_in(rest);
         self.words = Vec::new(self.alloc);
         self.number = None;
-        self.answers = None;
         self.put_said(out, "ask", question_in(word, rest, text).trim())?;
-        self.begun = match (known, self.wanted) {
-            (Some(_), _) => Begun::Known,
-            (None, Wanted::Nothing) => Begun::Choice(line, Choices::none()),
-            (None, _) => Begun::Computed(line),
+        self.begun = match self.wanted {
+            Wanted::Nothing => Begun::Choice(line, Choices::none()),
+            _ => Begun::Computed(line),
         };
-        if let Some(known) = known {
-            let answers = answers_of(self.alloc, &self.session, known, &self.name)?;
-            if answers.is_empty() {
-                return Err(anyhow!("the question has no answer"));
-            }
-            answers.put(out, known, &self.list, &self.name);
-            self.answers = Some(answers);
-        }
         Ok(())
     }
 
@@ -242,7 +211,6 @@ impl<'a> Reader<'a> {
     /// A line that makes a step.
     fn put_step(&mut self, out: &mut JsonWriter, word: &str, rest: &str) -> Result<()> {
         self.begun = Begun::Lesson;
-        self.answers = None;
         let before = self.word_before();
         let overwritten = changed_words(self.alloc, &self.session)?;
         let act = match word {
@@ -286,14 +254,12 @@ impl<'a> Reader<'a> {
         match word {
             "add" | "withdraw" | "link" | "image" => self.put_step(out, word, rest),
             "number" => self.answer_number(rest),
-            "word" if matches!(self.begun, Begun::Computed(_)) => self.answer_word(rest),
-            "word" | "name" => self.compare_answer(word, rest),
+            "word" => self.answer_word(rest),
             "lesson" => self.put_lesson(out, rest),
             "ask" => self.put_ask(out, line, rest),
             "right" | "wrong" | "because" => self.put_choice(out, word, rest),
             "say" => {
                 self.begun = Begun::Lesson;
-                self.answers = None;
                 self.put_said(out, word, rest)
             }
             _ => Err(anyhow!("{word} begins no line of a lesson")),
@@ -310,28 +276,10 @@ fn without_word(text: &str) -> &str {
 /// The text of a question, without what it asks.
 fn question_in<'a>(word: &str, rest: &'a str, text: &'a str) -> &'a str {
     match word {
-        "changes" | "undefined" | "commons" | "reported" => rest,
-        "where" | "defines" => without_word(rest),
-        "value" | "refers" => without_word(without_word(rest)),
+        "changes" => rest,
+        "where" => without_word(rest),
+        "value" => without_word(without_word(rest)),
         _ => text,
-    }
-}
-
-/// What a question asks of what is known now, by its first word and what follows it.
-fn known_of(word: &str, rest: &str) -> Result<Option<Known>> {
-    match word {
-        "undefined" => Ok(Some(Known::Undefined)),
-        "commons" => Ok(Some(Known::Commons)),
-        "reported" => Ok(Some(Known::Reported)),
-        "defines" => Ok(Some(Known::Defines)),
-        "refers" => {
-            let (digits, _) = first_word(without_word(rest).trim_start());
-            match u16::from_str_radix(digits, 8) {
-                Ok(more) => Ok(Some(Known::Refers(more))),
-                Err(_) => Err(anyhow!("refers is followed by a name, a number and a text")),
-            }
-        }
-        _ => Ok(None),
     }
 }
 
@@ -426,7 +374,6 @@ pub(crate) fn put_questions(
         name: name_in(""),
         words: Vec::new(alloc),
         number: None,
-        answers: None,
     };
     out.begin_list();
     put_lines(&mut reader, out, path, text.as_str())?;

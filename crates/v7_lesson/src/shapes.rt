@@ -27,12 +27,14 @@ pub(crate) fn put_operands(
     Ok(())
 }
 
-/// Adds a label: 0 for text and 1 for data, the index of the word, 1 if other objects see the name, and the name.
-fn put_label(out: &mut JsonWriter, symbol: &Symbol, segment: u64, at: u16) {
-    out.put_number(segment);
+/// Adds a label: its segment, the index of the word, whether other objects see the name, and the name.
+fn put_label(out: &mut JsonWriter, symbol: &Symbol, segment: &str, at: u16) {
+    out.begin_list();
+    out.put_text(segment);
     out.put_number(u64::from(symbol.value.wrapping_sub(at) / 2));
-    out.put_number(u64::from(symbol.is_external()));
+    out.put_bool(symbol.is_external());
     out.put_bytes(b"", symbol.name.as_bytes());
+    out.end_list();
 }
 
 /// Adds the names that an object defines in text and in data, as a list.
@@ -41,8 +43,8 @@ pub(crate) fn put_labels(out: &mut JsonWriter, given: &Given, symbols: &[Symbol]
     out.begin_list();
     for symbol in symbols {
         match symbol.segment() {
-            Segment::TextSeg => put_label(out, symbol, 0, given.alone.own(Segment::TextSeg)),
-            Segment::DataSeg => put_label(out, symbol, 1, given.alone.own(Segment::DataSeg)),
+            Segment::TextSeg => put_label(out, symbol, "text", given.alone.own(Segment::TextSeg)),
+            Segment::DataSeg => put_label(out, symbol, "data", given.alone.own(Segment::DataSeg)),
             _ => {}
         }
     }
@@ -99,11 +101,13 @@ pub(crate) fn put_texts(
     for (index, length) in lengths.iter().enumerate() {
         let next = index.saturating_add(1);
         if SHORTEST <= *length && lengths.get(next).is_none_or(|after| *after <= *length) {
+            out.begin_list();
             out.put_number(next as u64);
             out.put_number(*length as u64);
             let first = next.saturating_sub(*length);
             let words = file.data_words().get(first..next).unwrap_or(&[]);
             put_bytes_of(alloc, out, words);
+            out.end_list();
         }
     }
     out.end_list();

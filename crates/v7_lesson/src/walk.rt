@@ -1,6 +1,5 @@
 //! Every list of objects without repetition, depth first.
 use std::alloc::AllocError;
-use std::marker::Model;
 
 /// The largest number of objects of which every order is walked through.
 pub(crate) const ALL_ORDERS: usize = 5;
@@ -16,23 +15,9 @@ pub(crate) struct Walk {
     passed: Option<usize>,
 }
 
-impl Model for Walk {
-    ghost use Rattle.v7_lesson.specs.Walks.{Walked};
-
-    ghost Value = { Walked };
-
-    ghost view = { λ w. record { count = w.count; list = w.list.items; passed = w.passed } };
-}
-
 impl Walk {
-    ghost use Rattle.std.specs.Prelude.{◌≡◌, [], true, false, OnOk, OnErr};
-    ghost use Rattle.v7_lesson.specs.Walks.{begun, first_free, is_after, may_come, next_in_order, next_object, with_object, without_object, Leaves};
-
     /// The walk through the lists of so many objects, at the empty one. `room` is an empty list.
-    pub(crate) fn new(count: usize, room: Vec<usize>) -> Walk
-        requires { room.items ≡ [] }
-        ensures { result ≡ begun count }
-    {
+    pub(crate) fn new(count: usize, room: Vec<usize>) -> Walk {
         Walk {
             count,
             list: room,
@@ -47,38 +32,20 @@ impl Walk {
     }
 
     /// Whether an object is after the one that was refused or withdrawn.
-    fn is_after(&self, object: usize) -> bool
-        ensures { result ≡ is_after self.now.passed object }
-    {
+    fn is_after(&self, object: usize) -> bool {
         match self.passed {
             Some(passed) => passed < object,
             None => true,
         }
     }
 
-    /// Whether an object may come, if all orders are walked through.
-    fn may_come(&self, object: usize) -> bool
-        ensures { result ≡ may_come self.now object }
-    {
-        self.is_after(object) && !self.list.contains(&object)
-    }
-
     /// The first object that may come.
-    fn first_free(&self) -> Option<usize>
-        ensures { result ≡ first_free self.now.count 0 self.now }
-    {
-        for object in 0..self.count {
-            if self.may_come(object) {
-                return Some(object);
-            }
-        }
-        None
+    fn first_free(&self) -> Option<usize> {
+        (0..self.count).find(|object| self.is_after(*object) && !self.list.contains(object))
     }
 
     /// The object after those of the list, if it may come.
-    fn next_in_order(&self) -> Option<usize>
-        ensures { result ≡ next_in_order self.now }
-    {
+    fn next_in_order(&self) -> Option<usize> {
         let next = self.list.len();
         if self.is_after(next) && next < self.count {
             Some(next)
@@ -88,9 +55,7 @@ impl Walk {
     }
 
     /// The object that comes next; `None` where all that may come have been there.
-    pub(crate) fn next(&self) -> Option<usize>
-        ensures { result ≡ next_object self.now }
-    {
+    pub(crate) fn next(&self) -> Option<usize> {
         if self.count > ALL_ORDERS {
             self.next_in_order()
         } else {
@@ -99,27 +64,19 @@ impl Walk {
     }
 
     /// The object is added. An error: out of memory; then nothing changes.
-    pub(crate) fn add(&mut self, object: usize) -> Result<(), AllocError>
-        ensures added { OnOk result (self.new ≡ with_object self.old object) }
-        ensures unchanged { OnErr result (self.new ≡ self.old) }
-    {
+    pub(crate) fn add(&mut self, object: usize) -> Result<(), AllocError> {
         self.list.push(object)?;
         self.passed = None;
         Ok(())
     }
 
     /// The object is not added, as it was refused or withdrawn.
-    pub(crate) fn pass(&mut self, object: usize)
-        ensures { self.new ≡ without_object self.old object }
-    {
+    pub(crate) fn pass(&mut self, object: usize) {
         self.passed = Some(object);
     }
 
     /// The last object is withdrawn, or `false` where there is none.
-    pub(crate) fn withdraw(&mut self) -> bool
-        ensures none { result ≡ false → (self.old.list ≡ []) × (self.new ≡ self.old) }
-        ensures last { result ≡ true → Leaves self.old self.new }
-    {
+    pub(crate) fn withdraw(&mut self) -> bool {
         match self.list.pop() {
             Some(object) => {
                 self.pass(object);

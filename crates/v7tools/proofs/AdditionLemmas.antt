@@ -1,6 +1,6 @@
 -- What came of adding the file at a path.
 use Rattle.std.proofs.Common.{rules}
-use Rattle.aout_core.specs.{Refusals.refused, declared.file.ReadFault.ReadFault, Contents.Contents}
+use Rattle.aout_core.specs.{Refusals.device_fault, Refusals.refused, declared.file.ReadFault.ReadFault, Contents.Contents}
 use Rattle.aout_core.specs.{Decoding.decode, Reading.IsReadOf, Reading.LeavesAfter}
 use Rattle.std.specs.{declared.alloc.Global.Global, Prelude.String, Prelude.IfSome}
 use Rattle.std.proofs.Common.{◌≡◌, ℕ, List, Option, Some, None, Result, Ok, Err, refl, sym, ap, ◌∙◌, inl, inr}
@@ -44,21 +44,21 @@ bad_read known left old path at fault same encodes read = (
 )
 
 failed_read : (known : Option (List ℕ)) (old : Kept) (path at : String Global) → at ≡ path →
-    IsAddition known old old path (Err (faults.BadFile at reads.Device))
+    IsAddition known old old path (Err (faults.BadFile at (reads.Device device_fault)))
 failed_read known old path at same = (
   refl,
   inr (record {
-    found = Err (bad_file reads.Device);
-    cause = bad_file reads.Device;
+    found = Err (bad_file (reads.Device device_fault));
+    cause = bad_file (reads.Device device_fault);
     is_found = inl refl;
     refuses = refl;
-    names = ap (λ (p : String Global). faults.BadFile p reads.Device) same;
+    names = ap (λ (p : String Global). faults.BadFile p (reads.Device device_fault)) same;
   }),
 )
 
 pub addition_unread : (known left : Option (List ℕ)) (old : Kept) (path : String Global) (fault : CliFault) →
     IsAtPath path (Err fault) → IsReadWhereKnown known left (read_of (Err fault)) → IsAddition known old old path (Err fault)
-addition_unread known left old path (faults.BadFile at reads.Device) a h = failed_read known old path at a.0
+addition_unread known left old path (faults.BadFile at (reads.Device _)) a h = failed_read known old path at a.0
 addition_unread known left old path (faults.BadFile at (reads.Memory _)) a h = absurd (a.1 refl)
 addition_unread known left old path (faults.BadFile at fault) a h = bad_read known left old path at fault a.0 (λ bytes read. read) h
 addition_unread known left old path (faults.Memory _) a h = search rules

@@ -1,5 +1,5 @@
 -- The inputs one after another, and the link of what is kept of them.
-use Rattle.aout_core.specs.{Refusals.refused, Contents.Contents, Decoding.decode}
+use Rattle.aout_core.specs.{Refusals.device_fault, Refusals.refused, Contents.Contents, Decoding.decode}
 use Rattle.std.specs.{declared.alloc.Global.Global, Prelude.String, Prelude.string_bytes, Prelude.IfSome, Prelude.IsErrAnd, Prelude.IsOk}
 use Rattle.std.proofs.Common.{◌≡◌, ◌≢◌, ℕ, false, List, [], ◌∷◌, Option, Some, None, option_and_then, option_map, Result, Ok, Err, refl}
 use Rattle.std.proofs.Common.{sym, ap, ◌∙◌, subst, inl, inr}
@@ -39,7 +39,7 @@ takes_accepted i old new o works h = record {
 
 -- why an input is not taken
 module _ (i : Input) (path : String Global) (at : string_bytes path ≡ i.path) (old : Kept) where
-  rejects_found : (found : Result Contents Cause) (cause : Cause) → (cause ≡ bad_file reads.Device → ⊥) →
+  rejects_found : (found : Result Contents Cause) (cause : Cause) → (cause ≡ bad_file (reads.Device device_fault) → ⊥) →
       i.has_failed ≡ false → IsFound i.known found → kept_with old.forced old.entries (string_bytes path) found ≡ Err cause →
       Rejects old.forced old.entries i cause
   rejects_found found cause other works is_found h = record {
@@ -57,17 +57,17 @@ module _ (i : Input) (path : String Global) (at : string_bytes path ≡ i.path) 
   Stops cause = StopsAt old.forced old.entries i (said_by (fault_at path cause))
 
   stops_for : (found : Result Contents Cause) (cause : Cause) → IsPossible (said_by (fault_at path cause)) →
-      ((fault_at path cause ≡ faults.BadFile path reads.Device → ⊥) → i.has_failed ≡ false) →
+      ((fault_at path cause ≡ faults.BadFile path (reads.Device device_fault) → ⊥) → i.has_failed ≡ false) →
       IsFound i.known found → kept_with old.forced old.entries (string_bytes path) found ≡ Err cause → Stops cause
   stops_for found cannot_open possible works is_found h = absurd possible
-  stops_for found (bad_file reads.Device) possible works is_found h = at
+  stops_for found (bad_file (reads.Device _)) possible works is_found h = at
   stops_for found (bad_file (reads.Memory _)) possible works is_found h = absurd possible
   stops_for found (not_added (adds.Memory _)) possible works is_found h = absurd possible
   stops_for found cause possible works is_found h =
       (at, rejects_found found cause (λ e. absurd (cc)) (works (λ e. absurd (cc))) is_found h)
 
   pub stops_at : (new : Kept) (fault : CliFault) → IsPossible (said_by fault) →
-      ((fault ≡ faults.BadFile path reads.Device → ⊥) → i.has_failed ≡ false) → IsAddition i.known old new path (Err fault) →
+      ((fault ≡ faults.BadFile path (reads.Device device_fault) → ⊥) → i.has_failed ≡ false) → IsAddition i.known old new path (Err fault) →
       StopsAt old.forced old.entries i (said_by fault)
   stops_at new fault possible works (same, inl (memory, wants)) =
       let stops : StopsAt old.forced old.entries i (said_by (faults.Memory refused)) = (

@@ -3,6 +3,7 @@ pub mod LinkRunLemmas
 pub mod FileRunLemmas
 pub mod LineRunLemmas
 pub mod SessionRunLemmas
+pub mod EmitLemmas
 pub mod AnswerLemmas
 pub mod ScriptCallLemmas
 pub mod ListingLemmas

@@ -1,4 +1,5 @@
 -- A line of a script, from the step or the link that answers it.
+use Rattle.aout_core.specs.Refusals.{device_fault}
 use Rattle.std.proofs.Common.{◌≡◌, ℕ, List, [], ◌∷◌, Option, Some, None, Result, Ok, Err, refl, sym, ap, ◌∙◌, subst, inl, inr, append-nil}
 use Rattle.std.proofs.KnownBytes.{Appends-kept}
 use Rattle.std.specs.Prelude.{IfErr, IfOk, IsErr, IsTrue, ◌↔◌, String, string_bytes}
@@ -80,7 +81,7 @@ module _ {W : Type 0} (contents : W → Option (List ℕ)) where
   broke_off v answer fault before after h = (h.fault.0 refl, h.bytes)
 
   pub answers_fault : (did : Stepped) (left : Kept) (fault : CliFault) (result : Result ℕ CliFault) (before after : Latched W) →
-      Does contents did left (Err fault) before after → fault ≡ faults.WriteFailed → result ≡ Err fault →
+      Does contents did left (Err fault) before after → fault ≡ faults.WriteFailed device_fault → result ≡ Err fault →
       AnswersStep contents did left result before after
   answers_fault did left fault result before after h is e =
       let out = broke_off did.verdict did.answer fault before after h.answer in
@@ -232,7 +233,7 @@ module _ {W : Type 0} (contents : W → Option (List ℕ)) where
 
       -- or only a prefix of it
       pub line_cut_short : (fault : CliFault) (result : Result ℕ CliFault) →
-          TakesStep remaining contents o command kept left (Err fault) before after → fault ≡ faults.WriteFailed →
+          TakesStep remaining contents o command kept left (Err fault) before after → fault ≡ faults.WriteFailed device_fault →
           result ≡ Err fault → AnswersLine contents o (asked_by line) kept left old new result before after
       line_cut_short fault result (did, on, changes, does) is e =
           line_by_step remaining o kept left result before after old new line command asks
@@ -241,7 +242,7 @@ module _ {W : Type 0} (contents : W → Option (List ℕ)) where
   module _ (o : Choices) (path : List ℕ) (kept : Kept) (result : Result ℕ CliFault) (before after : Latched W) where
     -- there is no link
     pub refused_link : (h : History) → RefusesLink contents (link kept.forced (objects kept.entries) o) result before after →
-        IfOk result (λ status. status ≡ 1) → IfErr result (λ e. e ≡ faults.WriteFailed) →
+        IfOk result (λ status. status ≡ 1) → IfErr result (λ e. e ≡ faults.WriteFailed device_fault) →
         AnswersLine contents o (to_link path) kept kept h h result before after
     refused_link h (fault, is, written) status write_failed =
         let did = refused_as kept.entries (cli_text (fault_of_link fault)) in
@@ -259,7 +260,7 @@ module _ {W : Type 0} (contents : W → Option (List ℕ)) where
     pub stored_link : (old new : History) (made : Linked) (what : Stored) → link kept.forced (objects kept.entries) o
         ≡ Ok (outcome_of made) → Extends old new (stored path made.file what ∷ []) →
         IfOk result (λ status. status ≡ link_status (report_names made.report) what) →
-        IfErr result (λ e. e ≡ faults.WriteFailed) → (IsErr result ↔ IsTrue after.has_failed) →
+        IfErr result (λ e. e ≡ faults.WriteFailed device_fault) → (IsErr result ↔ IsTrue after.has_failed) →
         Puts result (contents before.device) (contents after.device) (link_answer_text (report_names made.report) path what) →
         AnswersLine contents o (to_link path) kept kept old new result before after
     stored_link old new made what is asked status write_failed failed bytes = record {

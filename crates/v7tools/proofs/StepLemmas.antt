@@ -1,6 +1,6 @@
 -- What the parts of a step say of the whole.
 use Rattle.std.proofs.Common.{rules}
-use Rattle.aout_core.specs.{Refusals.refused as refused_request, Contents.Contents, Decoding.decode, Wires.Latched, Wires.Writes}
+use Rattle.aout_core.specs.{Refusals.device_fault, Refusals.refused as refused_request, Contents.Contents, Decoding.decode, Wires.Latched, Wires.Writes}
 use Rattle.std.specs.declared.alloc.Global.{Global}
 use Rattle.std.specs.Prelude.{String, string_bytes, codes, slice_get, IfErr, IfOk, IfSome, IsErr, IsTrue}
 use Rattle.std.proofs.Common.{◌≡◌, ◌↔◌, ℕ, suc, ◌-◌, length, arith, Bool, false, List, [], ◌∷◌, ◌++◌, Option, Some, None, Result, Ok}
@@ -56,7 +56,7 @@ failed_with fault = Err fault
 
 -- a step on what was found, where it is what the bytes encode and no device failed
 on_bytes : (known : Option (List ℕ)) (forced : List (List ℕ)) (kept : List Labelled) (path : List ℕ)
-    (found : Result Contents Cause) (r : Result (List Labelled) Cause) → (found ≡ Err (bad_file reads.Device) → ⊥) →
+    (found : Result Contents Cause) (r : Result (List Labelled) Cause) → (found ≡ Err (bad_file (reads.Device device_fault)) → ⊥) →
     IfSome known (λ bytes. found ≡ object_in (decode bytes)) → kept_with forced kept path found ≡ r →
     IsAddWorking known forced kept path (add_step kept path r)
 on_bytes None forced kept path found r sound h e = (found, sound, ap (add_step kept path) (sym e))
@@ -69,7 +69,7 @@ pub added_by : {R : Type 0} (remaining : R → Option (List ℕ)) (from to : Lat
     IsAddOver remaining from to old.forced old.entries path (add_step old.entries path (Ok new.entries))
 added_by remaining from to old new path o before after h = by_found h.is_found
   where
-    by_found : (Ok o ≡ Err (bad_file reads.Device)) ⊎ IfSome (remaining from.device) (λ bytes. Ok o ≡ object_in (decode bytes)) →
+    by_found : (Ok o ≡ Err (bad_file (reads.Device device_fault))) ⊎ IfSome (remaining from.device) (λ bytes. Ok o ≡ object_in (decode bytes)) →
         IsAddOver remaining from to old.forced old.entries path (add_step old.entries path (Ok new.entries))
     by_found (inl e) = absurd (cc)
     by_found (inr e) =
@@ -86,12 +86,12 @@ refused_as kept text = record { verdict = refused; answer = line text; kept = ke
 -- a file is not added: the fault is that of a device exactly where the wire has failed
 module _ {R : Type 0} (remaining : R → Option (List ℕ)) (from to : Latched R) (old : Kept) (path : String Global) (fault : CliFault)
     (latched : IsTrue from.has_failed →
-    to ≡ from) (device : (failed_with fault ≡ failed_with (faults.BadFile path reads.Device)) ↔ IsTrue to.has_failed) where
+    to ≡ from) (device : (failed_with fault ≡ failed_with (faults.BadFile path (reads.Device device_fault))) ↔ IsTrue to.has_failed) where
   abbrev IsRefused : Type 0
   IsRefused = IsAddOver remaining from to old.forced old.entries (string_bytes path) (refused_as old.entries (cli_text fault))
 
   -- what was found is no failure
-  sound : (h : IsRefusal (remaining from.device) old path fault) → to.has_failed ≡ false → h.found ≡ Err (bad_file reads.Device) → ⊥
+  sound : (h : IsRefusal (remaining from.device) old path fault) → to.has_failed ≡ false → h.found ≡ Err (bad_file (reads.Device device_fault)) → ⊥
   sound h after e = search rules
 
   by_refusal : IsRefusal (remaining from.device) old path fault → IsRefused
@@ -192,25 +192,25 @@ label_is old new e h = ap label_of (ap last_of h.entries ∙ last_of-put_last ol
 
 -- the device of a file that is added had not failed
 pub worked_before : {R : Type 0} (before after : Latched R) (path : String Global) → (IsTrue before.has_failed → after ≡ before) →
-    ((Ok tt ≡ failed_with (faults.BadFile path reads.Device)) ↔ IsTrue after.has_failed) → before.has_failed ≡ false
+    ((Ok tt ≡ failed_with (faults.BadFile path (reads.Device device_fault))) ↔ IsTrue after.has_failed) → before.has_failed ≡ false
 worked_before before after path latched device = search rules
 
 -- nor had that of a file that is refused, but for the fault of a device
 pub worked_unless : {R : Type 0} (before after : Latched R) (path : String Global) (fault : CliFault) →
     (IsTrue before.has_failed → after ≡ before) →
-    ((failed_with fault ≡ failed_with (faults.BadFile path reads.Device)) ↔ IsTrue after.has_failed) →
-    (fault ≡ faults.BadFile path reads.Device → ⊥) → before.has_failed ≡ false
+    ((failed_with fault ≡ failed_with (faults.BadFile path (reads.Device device_fault))) ↔ IsTrue after.has_failed) →
+    (fault ≡ faults.BadFile path (reads.Device device_fault) → ⊥) → before.has_failed ≡ false
 worked_unless before after path fault latched device other = search rules
 
 -- nor has it after the addition
 pub worked_after : {R : Type 0} (after : Latched R) (path : String Global) →
-    ((Ok tt ≡ failed_with (faults.BadFile path reads.Device)) ↔ IsTrue after.has_failed) → after.has_failed ≡ false
+    ((Ok tt ≡ failed_with (faults.BadFile path (reads.Device device_fault))) ↔ IsTrue after.has_failed) → after.has_failed ≡ false
 worked_after after path device = false_from_ne_true after.has_failed (λ failed. let bad = device.1 failed in absurd (cc))
 
 -- ---- the fault of a device
 
 -- it is answered exactly where the wire of the file has failed
-pub device_fault : (known : Option (List ℕ)) (old new : Kept) (path : String Global) (fault : CliFault) (latch : Bool) →
+pub is_device_fault : (known : Option (List ℕ)) (old new : Kept) (path : String Global) (fault : CliFault) (latch : Bool) →
     IsAddition known old new path (Err fault) →
-    ((failed_with fault ≡ failed_with (faults.BadFile path reads.Device)) ↔ IsTrue latch) → IsDeviceFault fault ↔ IsTrue latch
-device_fault known old new path fault latch h device = search rules
+    ((failed_with fault ≡ failed_with (faults.BadFile path (reads.Device device_fault))) ↔ IsTrue latch) → IsDeviceFault fault ↔ IsTrue latch
+is_device_fault known old new path fault latch h device = search rules

@@ -4,7 +4,7 @@
 -- the fault. A link is answered once it is known what became of its file.
 use Rattle.std.specs.Prelude.{ℕ, ◌+◌, List, [], ◌++◌, Option, Some, None, Result, Ok, Err, codes, decimal}
 use Rattle.std.specs.List.{flat_map}
-use Rattle.aout_core.specs.{declared.symbol.Symbol.Symbol, declared.file.ReadFault.TheVariants.Device, WellFormed.segment_number}
+use Rattle.aout_core.specs.{declared.symbol.Symbol.Symbol, declared.file.ReadFault.TheVariants.Device, Refusals.device_fault, WellFormed.segment_number}
 use Rattle.link_session.specs.Edits.{without_last, last_of}
 use Rattle.link_session.specs.{declared.state.State.State, declared.state.State.TheVariants.Defined}
 use Rattle.link_session.specs.{declared.state.State.TheVariants.Wanted, Labelled.Labelled, Labelled.objects, Mentions.mentions, Image.image}
@@ -46,7 +46,7 @@ pub record Stepped : Type 0 where
 
 abbrev pub input_from : List (List ℕ) → List Labelled → List ℕ → Source → Result (List Labelled) Cause
 input_from forced kept path absent = Err cannot_open
-input_from forced kept path failing = Err (bad_file Device)
+input_from forced kept path failing = Err (bad_file (Device device_fault))
 input_from forced kept path (giving bytes) = with_input forced kept path bytes
 
 abbrev pub add_step : List Labelled → List ℕ → Result (List Labelled) Cause → Stepped
@@ -84,7 +84,7 @@ step forced o kept anything_else = record { verdict = refused; answer = line (co
 abbrev pub link_answer_text : ReportNames → List ℕ → Stored → List ℕ
 link_answer_text f path Kept = report_text f ++ line (codes "linked " ++ path ++ codes " " ++ decimal (status_of f))
 link_answer_text f path NotCreated = line (at_file path (codes "cannot create"))
-link_answer_text f path Failed = line (at_file path (codes "write error"))
+link_answer_text f path (Failed _) = line (at_file path (codes "write error"))
 
 abbrev pub link_status : ReportNames → Stored → ℕ
 link_status f Kept = status_of f

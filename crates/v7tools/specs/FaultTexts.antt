@@ -1,6 +1,7 @@
 -- The texts of faults. (own choice)
 --
 -- Each fault has one text, which the program writes after `v7: `, and a session without it. A fault of a file begins with its path.
+use Rattle.aout_core.specs.Refusals.{device_fault}
 use Rattle.aout_core.specs.{Refusals.refused, declared.file.ReadFault.ReadFault, FaultTexts.object_text, FaultTexts.read_text}
 use Rattle.std.specs.Prelude.{ℕ, List, ◌++◌, codes, String, string_bytes, [], ◌∷◌}
 use Rattle.std.specs.declared.alloc.Global.{Global}
@@ -46,7 +47,7 @@ cli_text (faults.BadObject path fault) = at_file (string_bytes path) (object_tex
 cli_text (faults.NotAdded path fault) = addition_text (string_bytes path) fault
 cli_text (faults.NotLinked fault) = link_text fault
 cli_text (faults.CannotCreate path) = at_file (string_bytes path) (codes "cannot create")
-cli_text faults.WriteFailed = codes "write error"
+cli_text (faults.WriteFailed _) = codes "write error"
 cli_text (faults.Memory _) = no_memory
 cli_text faults.LongLine = codes "line too long"
 cli_text faults.ManyLines = codes "too many lines"
@@ -76,4 +77,4 @@ fault_of_link fault = faults.NotLinked fault
 -- the fault of the program if a list was not written
 abbrev pub fault_of_tool : ToolFault → CliFault
 fault_of_tool (tools.Memory _) = faults.Memory refused
-fault_of_tool tools.Device = faults.WriteFailed
+fault_of_tool (tools.Device _) = faults.WriteFailed device_fault

@@ -2,6 +2,7 @@
 --
 -- Each file is opened and read before the next one is opened, and nothing is written or stored before all are read, so that one bad
 -- file leaves all as it was (own choice).
+use Rattle.aout_core.specs.Refusals.{device_fault}
 use Rattle.aout_core.specs.{Refusals.refused, Contents.Contents, Decoding.decode, Reading.IsReadOf, Strip.stripped, Wires.Latched}
 use Rattle.aout_core.specs.{Wires.Puts}
 use Rattle.std.specs.declared.alloc.Global.{Global}
@@ -64,18 +65,18 @@ ReadsNotAll old new files fault = ((fault ≡ faults.Memory refused) × Extends 
 
 -- a list of files is cut short only if a device failed
 abbrev pub OnlyWriteFailed : List (List ℕ × Contents) → CliFault → Option (List ℕ) → Option (List ℕ) → Type 0
-OnlyWriteFailed files fault old new = fault ≡ faults.WriteFailed
+OnlyWriteFailed files fault old new = fault ≡ faults.WriteFailed device_fault
 
 -- or also if memory ran out for one file; then all lines of the files before it went out, and nothing else
 abbrev pub OrMemory : NmOptions → List (List ℕ × Contents) → CliFault → Option (List ℕ) → Option (List ℕ) → Type 0
-OrMemory o files fault old new = (fault ≡ faults.WriteFailed) ⊎ ((fault ≡ faults.Memory refused) × ListsUpTo o files old new)
+OrMemory o files fault old new = (fault ≡ faults.WriteFailed device_fault) ⊎ ((fault ≡ faults.Memory refused) × ListsUpTo o files old new)
 
 -- the text went out, or on a fault a prefix of it
 pub record Lists {W : Type 0} (contents : W → Option (List ℕ)) (cut_short : CliFault → Option (List ℕ) → Option (List ℕ) → Type 0)
     (text : List ℕ) (result : Result ℕ CliFault) (before after : Latched W) : Type 0 where
   pub status : IfOk result (λ status. status ≡ 0)
   pub other : IfErr result (λ fault. cut_short fault (contents before.device) (contents after.device))
-  pub failed : (result ≡ Err faults.WriteFailed) ↔ IsTrue after.has_failed
+  pub failed : (result ≡ Err (faults.WriteFailed device_fault)) ↔ IsTrue after.has_failed
   pub bytes : Puts result (contents before.device) (contents after.device) text
 
 -- nothing is written before all files are read
@@ -91,7 +92,7 @@ IsListRun contents cut_short text files old new result before after =
 abbrev pub IsStored : String Global → Stored → Result (Unit {0}) CliFault → Type 0
 IsStored path Kept result = result ≡ Ok tt
 IsStored path NotCreated result = result ≡ Err (faults.CannotCreate path)
-IsStored path Failed result = result ≡ Err faults.WriteFailed
+IsStored path (Failed _) result = result ≡ Err (faults.WriteFailed device_fault)
 
 -- a file is to be stored stripped at its own path
 abbrev pub strips : Loaded → Stored → Event

@@ -42,7 +42,7 @@ pub data Said : Type 0 where
 
 -- no other fault than these comes from a link
 abbrev pub said_by : CliFault → Said
-said_by (faults.BadFile path reads.Device) = breaks (string_bytes path)
+said_by (faults.BadFile path (reads.Device _)) = breaks (string_bytes path)
 said_by (faults.BadFile path (reads.Memory _)) = never
 said_by (faults.BadFile path fault) = refuses (of_input (string_bytes path) (bad_file fault))
 said_by (faults.BadObject path fault) = refuses (of_input (string_bytes path) (bad_object fault))

@@ -2,6 +2,7 @@
 --
 -- All inputs are opened, whatever they hold, or the first that can't be is the fault. Only a link is stored, and only what was stored is
 -- reported.
+use Rattle.aout_core.specs.Refusals.{device_fault}
 use Rattle.aout_core.specs.{Refusals.refused, Wires.Latched, Wires.Writes}
 use Rattle.std.specs.declared.alloc.Global.{Global}
 use Rattle.std.specs.Prelude.{◌≡◌, ◌⊎◌, ℕ, List, [], ◌∷◌, ◌++◌, map, false, Option, None, Result, Ok, Err, IfErr, IfOk, String}
@@ -36,7 +37,7 @@ pub record IsLinkOfFiles (forced : List (List ℕ)) (o : Choices) (files : List 
 pub record Reports {W : Type 0} (contents : W → Option (List ℕ)) (f : ReportNames) (result : Result ℕ CliFault)
     (before after : Latched W) : Type 0 where
   pub status : IfOk result (λ status. status ≡ status_of f)
-  pub write_failed : IfErr result (λ fault. fault ≡ faults.WriteFailed)
+  pub write_failed : IfErr result (λ fault. fault ≡ faults.WriteFailed device_fault)
   pub writes : Writes contents result before after (report_text f)
 
 -- the report goes out only if the file is stored
@@ -44,7 +45,7 @@ abbrev pub ReportsIf : {W : Type 0} → (W → Option (List ℕ)) → Stored →
     Latched W → Latched W → Type 0
 ReportsIf contents Kept out f result before after = Reports contents f result before after
 ReportsIf contents NotCreated out f result before after = (result ≡ Err (faults.CannotCreate out)) × (after ≡ before)
-ReportsIf contents Failed out f result before after = (result ≡ Err faults.WriteFailed) × (after ≡ before)
+ReportsIf contents (Failed _) out f result before after = (result ≡ Err (faults.WriteFailed device_fault)) × (after ≡ before)
 
 -- nothing goes out
 pub record Refuses {W : Type 0} (fault : CliFault) (result : Result ℕ CliFault) (before after : Latched W) : Type 0 where

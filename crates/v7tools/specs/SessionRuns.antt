@@ -3,6 +3,7 @@
 -- Each line is run on what the line before it left (LineRuns). What a session asks of the system, and what it answers, is that of
 -- its lines, one after another, and its status is the largest of theirs. It ends after the last line, at a fault of the script, or
 -- at an answer that can't be written.
+use Rattle.aout_core.specs.Refusals.{device_fault}
 use Rattle.aout_core.specs.{Refusals.refused, Wires.Latched}
 use Rattle.std.specs.Prelude.{◌≡◌, ◌⊎◌, ℕ, max, List, [], ◌∷◌, ◌++◌, map, Option, Some, None, Result, Ok, Err, IfSome, IsTrue}
 use Rattle.std.specs.{List.flat_map, Io.KnownBytes.Appends}
@@ -94,7 +95,7 @@ pub record BreaksOff {W : Type 0} (contents : W → Option (List ℕ)) (forced :
   pub answers : Appends (contents before.device) (contents after.device) (answers_of runs ++ part)
   pub failed : IsTrue after.has_failed
   pub latched : IsTrue before.has_failed → (runs ≡ []) × (after ≡ before)
-  pub refusal : result ≡ Err faults.WriteFailed
+  pub refusal : result ≡ Err (faults.WriteFailed device_fault)
 
 -- a session that begins with these forced names and no objects: memory runs out before a line is read, all lines are
 -- run or those up to a fault of the script, or those up to one whose answer can't be written

@@ -1,7 +1,7 @@
 //! The faults of the program, and their lines.
 ghost use Rattle.std.specs.Prelude.{◌≡◌, ◌++◌, codes, Some};
 ghost use Rattle.aout_core.specs.Wires.{Writes};
-ghost use Rattle.aout_core.specs.Refusals.{refused};
+ghost use Rattle.aout_core.specs.Refusals.{device_fault, refused};
 ghost use Rattle.v7tools.specs.Calls.{fault_of_words};
 ghost use Rattle.v7tools.specs.declared.fault.CliFault.TheVariants.{Memory, WriteFailed};
 ghost use Rattle.v7tools.specs.FaultTexts.{cli_text, fault_line, fault_of_addition, fault_of_link, fault_of_tool};
@@ -39,7 +39,7 @@ pub enum CliFault {
     /// 7: no file can be made at this path.
     CannotCreate(String),
     /// 8: a device failed while it was written.
-    WriteFailed,
+    WriteFailed(DeviceFault),
     /// 9: memory ran out.
     Memory(Refused),
     /// 11: a line of a script has more than 4,096 bytes.
@@ -51,10 +51,10 @@ pub enum CliFault {
 }
 
 impl From<DeviceFault> for CliFault {
-    ghost from_gives = { λ _ fault. fault ≡ WriteFailed };
+    ghost from_gives = { λ _ fault. fault ≡ WriteFailed device_fault };
 
-    fn from(_fault: DeviceFault) -> CliFault {
-        CliFault::WriteFailed
+    fn from(fault: DeviceFault) -> CliFault {
+        CliFault::WriteFailed(fault)
     }
 }
 
@@ -104,7 +104,7 @@ impl From<ToolFault> for CliFault {
     fn from(fault: ToolFault) -> CliFault {
         match fault {
             ToolFault::Memory(refused) => CliFault::Memory(refused),
-            ToolFault::Device => CliFault::WriteFailed,
+            ToolFault::Device(fault) => CliFault::WriteFailed(fault),
         }
     }
 }
@@ -167,7 +167,7 @@ impl CliFault {
             CliFault::NotAdded(path, fault) => addition_text(path.as_str(), *fault),
             CliFault::NotLinked(fault) => says(fault.text()),
             CliFault::CannotCreate(path) => says_of(path.as_str(), "cannot create"),
-            CliFault::WriteFailed => says("write error"),
+            CliFault::WriteFailed(_) => says("write error"),
             CliFault::Memory(_) => says("no memory"),
             CliFault::LongLine => says("line too long"),
             CliFault::ManyLines => says("too many lines"),

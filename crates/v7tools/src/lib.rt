@@ -19,11 +19,12 @@
 //! Functions:
 //!
 //! - `command`: does what the arguments ask for, with the system's files
-//! - `attempt`: the same, from any reader of a session's lines, to any writer, and the fault as a value
 //! - `perform`: the same over any `Office` and any streams
+//! - `attempt`: the same, and the fault as a value
 //! - `words`, `parse`: the arguments of a program, and what they ask for
 //! - `load`: reads the file at a path
 //! - `ld`: links the files that readers give
+//! - `emit`: writes a link's file and its report
 //! - `step`: does what a line of a script asks for, and answers
 //! - `link_answer`: answers to a link of a session
 #![tactic(auto)]
@@ -40,6 +41,7 @@ mod status;
 pub use command_words::{BlockWriter, Call, Line};
 pub use fault::CliFault;
 pub use files::loading::load;
+pub use link::emitting::emit;
 pub use link::linking::ld;
 pub use parsing::parse;
 pub use program::{attempt, command, perform};

@@ -72,6 +72,26 @@ fn run_words<O: Office, R: Read + Drop, W: BufferedWrite>(
     run_call(alloc, office, script, output, call)
 }
 
+/// Does what the arguments ask for, over any `Office` and any streams, and returns a fault in place of writing its line. If nothing
+/// waited on standard output before, nothing waits at the end either, unless it has failed. (own choice)
+pub fn attempt<O: Office, R: Read + Drop, W: BufferedWrite>(
+    alloc: Global,
+    office: &mut O,
+    script: R,
+    output: &mut Wire<W>,
+    words: Vec<String>,
+) -> Result<u8, CliFault>
+    ensures small { IfOk result (λ status. status ≤ 1) }
+    ensures run { RunsWords W.contents (map string_bytes words.items) (R.remaining script)
+        (O.history office.old) (O.history office.new) result output.old output.new }
+    ensures passed { IsPassedOn W.waiting output.old → IsPassedOn W.waiting output.new }
+{
+    match run_words(alloc, office, script, output, words) {
+        Ok(status) => Ok(status.code()),
+        Err(fault) => Err(fault),
+    }
+}
+
 /// Does what the arguments ask for, over any `Office` and any streams: a session's script, standard
 /// output and standard error. It returns the status of the program: 0, or 1 if there was something to report or a
 /// session refused a line or could not store a link, or 2 for a fault, whose line goes to standard error; without a
@@ -91,29 +111,13 @@ pub fn perform<O: Office, R: Read + Drop, W: BufferedWrite, E: Write>(
     ensures passed { IsPassedOn W.waiting outputs.old.output
         → IsPassedOn W.waiting outputs.new.output }
 {
-    match run_words(alloc, office, script, &mut outputs.output, words) {
-        Ok(status) => status.code(),
+    match attempt(alloc, office, script, &mut outputs.output, words) {
+        Ok(status) => status,
         Err(fault) => {
             let _ = fault.write(&mut outputs.error);
             2
         }
     }
-}
-
-/// Does what `command` does, with the lines of a session from any reader and standard output on any writer, and returns a fault in
-/// place of writing its line. (own choice)
-pub fn attempt<H: Runtime + AllocGlobal, R: Read + Drop, W: Write + Drop>(
-    rt: &H,
-    script: R,
-    output: W,
-    words: Vec<String>,
-) -> Result<u8, CliFault>
-    ensures { IfOk result (λ status. status ≤ 1) }
-{
-    let mut office = Disk::new(rt);
-    let mut output = Wire::new(BlockWriter::new(output));
-    let status = run_words(rt.alloc(), &mut office, script, &mut output, words)?;
-    Ok(status.code())
 }
 
 /// Does what the arguments ask for, and returns the status of the program (own choice):

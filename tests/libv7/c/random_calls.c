@@ -286,8 +286,9 @@ static int is_right(uint32_t status, const struct v7_result *wanted, const unsig
            has_alone(&found, filled, 0);
 }
 
-/* whether the call, with its requests for memory refused from each on, answers so, keeps no memory and writes nothing */
-static int is_refused(uint32_t wants, size_t all)
+/* whether the call, with its requests for memory refused from each on, answers so, or has the fault that it has anyway, since a request may be
+ * done without; and keeps no memory and writes nothing */
+static int is_refused(uint32_t wants, size_t all, const struct v7_result *wanted)
 {
     struct v7_result result;
     uint32_t status;
@@ -300,7 +301,7 @@ static int is_refused(uint32_t wants, size_t all)
         refused_from = n;
         status = link_slices(wants, sizeof result, &result);
         refused_from = (size_t)-1;
-        if (status != 2 || result.fault != V7_NO_MEMORY || result.place >= count + (count == 0) || held != 0)
+        if (status != 2 || (result.fault != V7_NO_MEMORY && result.fault != wanted->fault) || result.place >= count + (count == 0) || held != 0)
             return 0;
     }
     return has_alone(&file, filled, 0) && has_alone(&report, filled, 0);
@@ -618,9 +619,9 @@ int main(int argc, char **argv)
         status = link_copies(room, lines, findings, &wanted);
         linked += status != 2;
         requests = 0;
-        if (!is_right(status, &wanted, room, lines, wanted.file_size, wanted.report_size) || !is_refused(V7_REPORT, requests) ||
+        if (!is_right(status, &wanted, room, lines, wanted.file_size, wanted.report_size) || !is_refused(V7_REPORT, requests, &wanted) ||
             !is_right(status, &wanted, room, lines, below(200), below(30)) || !finds(status, &wanted, room, lines, findings) ||
-            !is_mapped(status, &wanted, room, lines) || !is_refused(V7_REPORT | V7_MAP, requests)) {
+            !is_mapped(status, &wanted, room, lines) || !is_refused(V7_REPORT | V7_MAP, requests, &wanted)) {
             printf("call %ld: another answer than that of large buffers: fault %u\n", n, (unsigned)wanted.fault);
             return 1;
         }

@@ -23,7 +23,7 @@ awaited a = length a.waiting + a.missing
 -- the end came before so many bytes, or the device failed
 abbrev pub EndsBefore : ReadFault → Option (List ℕ) → Option (List ℕ) → ℕ → Type 0
 EndsBefore Truncated old new size = EndsEarly old new 0 size
-EndsBefore Device old new size = Unit {0}
+EndsBefore (Device _) old new size = Unit {0}
 EndsBefore fault old new size = ⊥
 
 -- as many bytes were read as a block has space for, or all that were missing if they are fewer

@@ -33,7 +33,7 @@ IsHeaderRead old new (Ok h) = TakesHeader old new h × IsFileHeader h
 IsHeaderRead old new (Err ShortHeader) = EndsEarly old new 0 16
 IsHeaderRead old new (Err BadMagic) = (h : Header) × TakesHeader old new h × (is_magic h.magic ≡ false)
 IsHeaderRead old new (Err OddSize) = (h : Header) × TakesHeader old new h × IsTrue (is_magic h.magic) × (has_whole_sizes h ≡ false)
-IsHeaderRead old new (Err Device) = Unit {0}
+IsHeaderRead old new (Err (Device _)) = Unit {0}
 IsHeaderRead old new (Err fault) = ⊥
 
 -- what the reader of the rest returns
@@ -41,7 +41,7 @@ abbrev pub IsBodyRead : Header → Option (List ℕ) → Option (List ℕ) → R
 IsBodyRead h old new (Ok c) = TakesBody h old new c
 IsBodyRead h old new (Err (Memory _)) = Keeps old new × (16 < file_length h)
 IsBodyRead h old new (Err Truncated) = EndsEarly old new 16 (file_length h)
-IsBodyRead h old new (Err Device) = Unit {0}
+IsBodyRead h old new (Err (Device _)) = Unit {0}
 IsBodyRead h old new (Err fault) = ⊥
 
 -- parts whose lists are empty and have taken no memory

@@ -11,8 +11,13 @@ use Rattle.disassemblies.proofs.ListedLemmas.{listed_short}
 use Rattle.explanations.specs.internal.SilentLabels.{are_labels, labels_append}
 use Rattle.explanations.specs.Said.{printed_byte, printed, from_slash, without_number, word_said_in, data_address, labels_before, explained}
 use Rattle.symtools.specs.SymbolLines.{letter}
+use Rattle.texts.specs.Texts.{Written}
 use Rattle.aout_core.specs.declared.part.Part.TheVariants as parts
 use Rattle.aout_core.specs.declared.symbol.Segment.TheVariants as segments
+
+-- a text has these bytes, unless memory ran out for it
+abbrev pub Holds : Written → List ℕ → Type 0
+Holds text bytes = text.is_cut ≡ false → text.bytes ≡ bytes
 
 append_line : (f g : List ℕ) → IsLine f → IsLine g → IsLine (f ++ g)
 append_line [] g hf hg = hg

@@ -77,7 +77,7 @@ pub(crate) fn put_reason<H: Runtime>(rt: &H, tool: Option<Tool>, words: &[String
 /// Writes a line after the fault of a file that `v7-explain` knows more of.
 pub(crate) fn put_hint<H: Runtime>(rt: &H, fault: &CliFault) {
     let path = match fault {
-        CliFault::BadFile(_, ReadFault::Device) => return,
+        CliFault::BadFile(_, ReadFault::Device(_)) => return,
         CliFault::BadFile(path, _) | CliFault::BadObject(path, _) => path,
         _ => return,
     };

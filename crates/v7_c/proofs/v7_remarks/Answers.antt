@@ -1,4 +1,3 @@
-use Rattle.library_calls.specs.RemarkAnswers.{remarked_in}
 use Rattle.v7_c.proofs.LeftLemmas.{remarks_memory, remarks_value}
 use Rattle.v7_c.proofs.v7_remarks.Goals as goal
 
@@ -6,7 +5,7 @@ pub returns-clause-value : goal.returns-clause-value
 returns-clause-value c =
     remarks_value c.leave_remarks.result c.leave_remarks.new.answer c.args.texts.now c.leave_remarks.new.texts
     c.args.remarks.now c.leave_remarks.new.records
-    (remarked_in c.args.bytes.now) c.remarks_of.result c.remarks_of.ensures.ok c.remarks_of.ensures.err c.leave_remarks.ensures
+    c.args.bytes.now c.remarks_of.result c.remarks_of.ensures.ok c.remarks_of.ensures.err c.leave_remarks.ensures
 
 pub returns-clause-memory : goal.returns-clause-memory
 returns-clause-memory c =

@@ -9,7 +9,7 @@ use Rattle.link_session.specs.Labelled.{Labelled}
 use Rattle.surroundings.specs.{Answer.Answer, Events.History, declared.answer.Fault.Fault, declared.answer.Fault.TheVariants.Answered}
 use Rattle.surroundings.specs.{declared.answer.Fault.TheVariants.Memory}
 use Rattle.tool_options.specs.Choices.{Choices}
-use Rattle.v7_explain.specs.{Joined.joined, Maps.HaveObjects, Maps.IsTaking, Maps.Taken, Maps.TakesAt, Maps.answer_of, Maps.nothing_taken}
+use Rattle.v7_explain.specs.{Joined.joined, Maps.HaveObjects, Maps.IsTaking, Maps.Taken, Maps.TakesAt, Maps.HasStatus, Maps.nothing_taken}
 
 -- the object in the bytes at a path is added
 abbrev pub Grows : List ℕ → List ℕ → List Labelled → List Labelled → Type 0
@@ -61,4 +61,4 @@ status_mapped (Some o) = status_made o.linked
 -- the map of these objects, with the status that the link has
 abbrev pub IsMapAnswer : List (List ℕ) → Objects → List (List ℕ) → Choices → Answer → Type 0
 IsMapAnswer asked o forced choices a =
-    (m : LinkMap) × IsMapOf o forced choices m × (a ≡ answer_of asked choices o m (status_mapped m.outcome))
+    (m : LinkMap) × IsMapOf o forced choices m × HasStatus asked m (status_mapped m.outcome) a

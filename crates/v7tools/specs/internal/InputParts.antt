@@ -12,7 +12,7 @@ use Rattle.v7tools.specs.declared.fault.CliFault.TheVariants as faults
 
 -- a device failed
 abbrev pub IsDeviceFault : CliFault → Type 0
-IsDeviceFault (faults.BadFile path reads.Device) = Unit {0}
+IsDeviceFault (faults.BadFile path (reads.Device _)) = Unit {0}
 IsDeviceFault _ = ⊥
 
 -- a fault that may come from a link

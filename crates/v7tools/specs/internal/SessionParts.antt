@@ -1,4 +1,5 @@
 -- How a session answers a line: the file that is opened, the step that is taken, and what goes out.
+use Rattle.aout_core.specs.Refusals.{device_fault}
 use Rattle.std.specs.Prelude.{◌≡◌, ◌↔◌, ℕ, false, List, [], ◌∷◌, Option, Some, None, Result, IfErr, IfOk, IsErr, IsTrue, string_bytes}
 use Rattle.std.specs.Io.KnownBytes.{Keeps}
 use Rattle.aout_core.specs.Wires.{Latched, Puts}
@@ -43,7 +44,7 @@ pub record AnswersStep {W : Type 0} (contents : W → Option (List ℕ)) (did : 
     (result : Result ℕ CliFault) (before after : Latched W) : Type 0 where
   pub entries : left.entries ≡ did.kept
   pub status : IfOk result (λ status. status ≡ status_after did.verdict)
-  pub write_failed : IfErr result (λ fault. fault ≡ faults.WriteFailed)
+  pub write_failed : IfErr result (λ fault. fault ≡ faults.WriteFailed device_fault)
   pub fault : IsErr result ↔ IsTrue after.has_failed
   pub bytes : Puts result (contents before.device) (contents after.device) did.answer
 
@@ -63,7 +64,7 @@ pub record AnswersLine {W : Type 0} (contents : W → Option (List ℕ)) (o : Ch
   pub is_run : IsLineOf o kept run run.line
   pub asked : Extends old new run.events
   pub status : IfOk result (λ status. status ≡ run.status)
-  pub write_failed : IfErr result (λ fault. fault ≡ faults.WriteFailed)
+  pub write_failed : IfErr result (λ fault. fault ≡ faults.WriteFailed device_fault)
   pub fault : IsErr result ↔ IsTrue after.has_failed
   pub bytes : Puts result (contents before.device) (contents after.device) run.answer
 
@@ -71,6 +72,6 @@ pub record AnswersLine {W : Type 0} (contents : W → Option (List ℕ)) (o : Ch
 pub record PassesOn {W : Type 0} (contents : W → Option (List ℕ)) (status : ℕ) (result : Result ℕ CliFault)
     (before after : Latched W) : Type 0 where
   pub same : IfOk result (λ same. same ≡ status)
-  pub write_failed : IfErr result (λ fault. fault ≡ faults.WriteFailed)
+  pub write_failed : IfErr result (λ fault. fault ≡ faults.WriteFailed device_fault)
   pub fault : IsErr result ↔ IsTrue after.has_failed
   pub bytes : Keeps (contents before.device) (contents after.device)

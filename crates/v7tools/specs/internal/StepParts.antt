@@ -1,5 +1,5 @@
 -- What the parts of a step find and do.
-use Rattle.aout_core.specs.{Refusals.refused, Contents.Contents, Decoding.decode, Wires.Latched, Wires.Writes}
+use Rattle.aout_core.specs.{Refusals.device_fault, Refusals.refused, Contents.Contents, Decoding.decode, Wires.Latched, Wires.Writes}
 use Rattle.std.specs.Prelude.{◌≡◌, ◌≢◌, ◌⊎◌, ℕ, false, cond, List, [], Option, Some, None, Result, Ok, Err, IfSome, IsTrue, String}
 use Rattle.std.specs.Prelude.{string_bytes}
 use Rattle.std.specs.declared.alloc.Global.{Global}
@@ -25,7 +25,7 @@ missing_line e = cond (is_missing e.0 e.1) (line e.0) []
 
 -- what is found after a path: that the device fails, or what its bytes are, if they are known
 abbrev pub IsFound : Option (List ℕ) → Result Contents Cause → Type 0
-IsFound known found = (found ≡ Err (bad_file reads.Device)) ⊎ IfSome known (λ bytes. found ≡ object_in (decode bytes))
+IsFound known found = (found ≡ Err (bad_file (reads.Device device_fault))) ⊎ IfSome known (λ bytes. found ≡ object_in (decode bytes))
 
 -- the file at a path is not added, for the cause that this fault names
 pub record IsRefusal (known : Option (List ℕ)) (old : Kept) (path : String Global) (fault : CliFault) : Type 0 where
@@ -53,7 +53,7 @@ IsAddition known old new path (Err fault) =
 abbrev pub IsAddWorking : Option (List ℕ) → List (List ℕ) → List Labelled → List ℕ → Stepped → Type 0
 IsAddWorking (Some bytes) forced kept path did = did ≡ add_step kept path (input_from forced kept path (giving bytes))
 IsAddWorking None forced kept path did =
-    (found : Result Contents Cause) × (found ≢ Err (bad_file reads.Device))
+    (found : Result Contents Cause) × (found ≢ Err (bad_file (reads.Device device_fault)))
     × (did ≡ add_step kept path (kept_with forced kept path found))
 
 -- an addition, with its wire before and after: the answer is that of a device that failed if and only if the wire has

@@ -113,7 +113,7 @@ fn check_stored(path: String, stored: Stored) -> Result<(), CliFault>
     match stored {
         Stored::Kept => Ok(()),
         Stored::NotCreated => Err(CliFault::CannotCreate(path)),
-        Stored::Failed => Err(CliFault::WriteFailed),
+        Stored::Failed(fault) => Err(CliFault::WriteFailed(fault)),
     }
 }
 

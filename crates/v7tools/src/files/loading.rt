@@ -1,6 +1,7 @@
 //! Files by their paths.
 ghost use Rattle.std.specs.Prelude.{◌≡◌, ◌↔◌, Err, IfSome, IsTrue};
 ghost use Rattle.aout_core.specs.declared.file.ReadFault.TheVariants.{Device};
+ghost use Rattle.aout_core.specs.Refusals.{device_fault};
 ghost use Rattle.aout_core.specs.Reading.{IsReadOf, LeavesAfter};
 ghost use Rattle.v7tools.specs.Loads.{read_of, IsAtPath};
 
@@ -18,7 +19,7 @@ pub fn load<R: Read>(
     wire: &mut Wire<R>,
 ) -> Result<(String, File), CliFault>
     ensures path { IsAtPath path result }
-    ensures device { (read_of result ≡ Err Device) ↔ IsTrue wire.new.has_failed }
+    ensures device { (read_of result ≡ Err (Device device_fault)) ↔ IsTrue wire.new.has_failed }
     ensures latched { IsTrue wire.old.has_failed → (wire.new ≡ wire.old) }
     ensures decodes { IfSome (R.remaining wire.old.device) (λ bytes. IsReadOf (read_of result) bytes
         × LeavesAfter (read_of result) bytes (R.remaining wire.new.device)) }

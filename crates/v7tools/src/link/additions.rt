@@ -1,6 +1,7 @@
 //! The addition of the file at a path to a session.
 ghost use Rattle.std.specs.Prelude.{◌≡◌, ◌↔◌, Err, IfErr, IsTrue};
 ghost use Rattle.aout_core.specs.declared.file.ReadFault.TheVariants.{Device};
+ghost use Rattle.aout_core.specs.Refusals.{device_fault};
 ghost use Rattle.v7tools.specs.declared.fault.CliFault.TheVariants.{BadFile};
 ghost use Rattle.v7tools.specs.internal.InputParts.{IsCheckOf, IsPossible};
 ghost use Rattle.v7tools.specs.LinkAnswers.{said_by};
@@ -30,7 +31,7 @@ pub(crate) fn add_file<R: Read>(
     path: String,
     wire: &mut Wire<R>,
 ) -> Result<(), CliFault>
-    ensures device { (result ≡ Err (BadFile path Device)) ↔ IsTrue wire.new.has_failed }
+    ensures device { (result ≡ Err (BadFile path (Device device_fault))) ↔ IsTrue wire.new.has_failed }
     ensures latched { IsTrue wire.old.has_failed → (wire.new ≡ wire.old) }
     ensures faults { IfErr result (λ fault. IsPossible (said_by fault)) }
     ensures value { IsAddition (R.remaining wire.old.device) session.old session.new path result }

@@ -58,7 +58,7 @@ fn report_stored<W: BufferedWrite>(
     match stored {
         Stored::Kept => put_report(report, output),
         Stored::NotCreated => Err(CliFault::CannotCreate(out)),
-        Stored::Failed => Err(CliFault::WriteFailed),
+        Stored::Failed(fault) => Err(CliFault::WriteFailed(fault)),
     }
 }
 

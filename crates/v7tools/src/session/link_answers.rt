@@ -4,6 +4,7 @@ ghost use Rattle.aout_core.specs.Wires.{Writes};
 ghost use Rattle.link_out.specs.Outcomes.{report_names};
 ghost use Rattle.link_out.specs.function.Reports.{line};
 ghost use Rattle.v7tools.specs.declared.fault.CliFault.TheVariants.{WriteFailed};
+ghost use Rattle.aout_core.specs.Refusals.{device_fault};
 ghost use Rattle.v7tools.specs.Answers.{link_answer_text, link_status};
 ghost use Rattle.v7tools.specs.FaultTexts.{at_file};
 
@@ -61,7 +62,7 @@ fn put_link_answer<W: Write>(
             put_linked_line(path, linked.report.status(), answers)
         }
         Stored::NotCreated => put_path_line(path, "cannot create", answers),
-        Stored::Failed => put_path_line(path, "write error", answers),
+        Stored::Failed(_) => put_path_line(path, "write error", answers),
     }
 }
 
@@ -78,13 +79,13 @@ pub fn link_answer<W: Write>(
 ) -> Result<u8, CliFault>
     ensures written { Writes W.contents result answers.old answers.new
         (link_answer_text (report_names linked.now.report) path.now stored) }
-    ensures write_failed { IfErr result (λ fault. fault ≡ WriteFailed) }
+    ensures write_failed { IfErr result (λ fault. fault ≡ WriteFailed device_fault) }
     ensures status { IfOk result (λ status.
         status ≡ link_status (report_names linked.now.report) stored) }
 {
     put_link_answer(linked, path, stored, answers)?;
     Ok(match stored {
         Stored::Kept => linked.report.status(),
-        Stored::NotCreated | Stored::Failed => 1,
+        Stored::NotCreated | Stored::Failed(_) => 1,
     })
 }

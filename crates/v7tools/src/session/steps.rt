@@ -7,6 +7,7 @@ ghost use Rattle.link_session.specs.Labelled.{objects};
 ghost use Rattle.link_out.specs.function.Link.{link};
 ghost use Rattle.link_out.specs.function.Reports.{line};
 ghost use Rattle.v7tools.specs.declared.fault.CliFault.TheVariants.{WriteFailed};
+ghost use Rattle.aout_core.specs.Refusals.{device_fault};
 ghost use Rattle.v7tools.specs.declared.session.commands.Step.TheVariants.{Refused};
 ghost use Rattle.v7tools.specs.FaultTexts.{cli_text};
 ghost use Rattle.v7tools.specs.internal.StepParts.{label_of, MakesLink, TakesAddStep, TakesWithdrawal};
@@ -41,7 +42,7 @@ fn put_fault<W: Write>(fault: &CliFault, answers: &mut Wire<W>) -> Result<(), De
 /// Answers with the text of a fault.
 fn refuse<W: Write>(fault: &CliFault, answers: &mut Wire<W>) -> Result<Step, CliFault>
     ensures written { Writes W.contents result answers.old answers.new (line (cli_text fault.now)) }
-    ensures write_failed { IfErr result (λ fault. fault ≡ WriteFailed) }
+    ensures write_failed { IfErr result (λ fault. fault ≡ WriteFailed device_fault) }
     ensures step { IfOk result (λ step. step ≡ Refused) }
 {
     put_fault(fault, answers)?;
@@ -66,7 +67,7 @@ fn add<R: Read, W: Write>(
     wire: &mut Wire<R>,
     answers: &mut Wire<W>,
 ) -> Result<Step, CliFault>
-    ensures write_failed { IfErr result (λ fault. fault ≡ WriteFailed) }
+    ensures write_failed { IfErr result (λ fault. fault ≡ WriteFailed device_fault) }
     ensures latched { IsTrue answers.old.has_failed → (answers.new ≡ answers.old) }
     ensures step { TakesAddStep R.remaining W.contents path wire.old wire.new
         session.old session.new result answers.old answers.new }
@@ -83,7 +84,7 @@ fn add<R: Read, W: Write>(
 
 /// Takes the last object away, and answers with its label.
 fn withdraw<W: Write>(session: &mut Session, answers: &mut Wire<W>) -> Result<Step, CliFault>
-    ensures write_failed { IfErr result (λ fault. fault ≡ WriteFailed) }
+    ensures write_failed { IfErr result (λ fault. fault ≡ WriteFailed device_fault) }
     ensures latched { IsTrue answers.old.has_failed → (answers.new ≡ answers.old) }
     ensures step { TakesWithdrawal W.contents session.old session.new result
         answers.old answers.new }
@@ -108,7 +109,7 @@ pub(crate) fn make_link<W: Write>(
     options: &Options,
     answers: &mut Wire<W>,
 ) -> Result<Option<Linked>, CliFault>
-    ensures write_failed { IfErr result (λ fault. fault ≡ WriteFailed) }
+    ensures write_failed { IfErr result (λ fault. fault ≡ WriteFailed device_fault) }
     ensures latched { IsTrue answers.old.has_failed → (answers.new ≡ answers.old) }
     ensures link { MakesLink W.contents
         (link session.now.forced (objects session.now.entries) options.now) result
@@ -141,7 +142,7 @@ pub fn step<R: Read + Drop, W: Write>(
     command: Command<R>,
     answers: &mut Wire<W>,
 ) -> Result<Step, CliFault>
-    ensures write_failed { IfErr result (λ fault. fault ≡ WriteFailed) }
+    ensures write_failed { IfErr result (λ fault. fault ≡ WriteFailed device_fault) }
     ensures latched { IsTrue answers.old.has_failed → (answers.new ≡ answers.old) }
     ensures forced { session.new.forced ≡ session.old.forced }
     ensures step { TakesStep R.remaining W.contents options.now command session.old session.new

@@ -5,5 +5,5 @@ use Rattle.findings.proofs.wrong.find_each.Given as goal
 abbrev pub invariant-loop-word : goal.invariant-loop-word
 invariant-loop-word l =
     l.findings.is_cut ≡ false → (l.initial.findings.is_cut ≡ false)
-    × (l.findings.found ++ all_bad l.lined.named.now (drop l.word-index l.bad)
-    ≡ l.initial.findings.found ++ all_bad l.lined.named.now l.bad)
+    × (l.findings.found ++ all_bad (drop l.word-index l.bad)
+    ≡ l.initial.findings.found ++ all_bad l.bad)

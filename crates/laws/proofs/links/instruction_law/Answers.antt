@@ -1,4 +1,4 @@
-use Rattle.laws.proofs.{InstructionLemmas.instructions_kept, InstructionLemmas.texts_kept, InstructionPlaceLemmas.instructions_there}
+use Rattle.laws.proofs.InstructionPlaceLemmas.{instructions_there}
 use Rattle.laws.proofs.{OperandPlaceLemmas.operands_there, OperandPlaceLemmas.jumps_arrive}
 use Rattle.laws.proofs.links.instruction_law.Goals as goal
 
@@ -10,9 +10,3 @@ returns-clause-operands c = operands_there
 
 pub returns-clause-jumps : goal.returns-clause-jumps
 returns-clause-jumps c = jumps_arrive
-
-pub returns-clause-kept : goal.returns-clause-kept
-returns-clause-kept c = instructions_kept
-
-pub returns-clause-texts : goal.returns-clause-texts
-returns-clause-texts c = texts_kept

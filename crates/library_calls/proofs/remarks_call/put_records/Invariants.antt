@@ -1,11 +1,10 @@
 use Rattle.std.proofs.Common.{◌≡◌, ◌++◌, drop, length}
-use Rattle.findings.specs.Found.{all_found}
 use Rattle.library_calls.specs.RemarkAnswers.{records_from, texts_of}
 use Rattle.library_calls.proofs.remarks_call.put_records.Given as goal
 
 -- what there is so far, and what the findings that are left give
 abbrev pub invariant-loop-finding : goal.invariant-loop-finding
 invariant-loop-finding l =
-    (l.texts.items ++ texts_of (all_found (drop l.finding-index l.findings)) ≡ texts_of (all_found l.findings))
-    × (l.records.items ++ records_from l.header (length l.texts.items) (all_found (drop l.finding-index l.findings))
-    ≡ records_from l.header 0 (all_found l.findings))
+    (l.texts.items ++ texts_of (drop l.finding-index l.findings) ≡ texts_of l.findings)
+    × (l.records.items ++ records_from l.header (length l.texts.items) (drop l.finding-index l.findings)
+    ≡ records_from l.header 0 l.findings)

@@ -1,7 +1,7 @@
 use Rattle.link_laws.proofs.UndefinedLemmas.{names_have_addresses, missing_have_no_address}
 use Rattle.link_laws.proofs.{RelocatedLemmas.words_relocated, RelocatedLemmas.objects_fill, DefinedLemmas.definitions_hold}
 use Rattle.link_laws.proofs.{SaidLemmas.multiples_differ, ExternalLemmas.entries_once, CommonLemmas.commons_have_space}
-use Rattle.link_laws.proofs.{CommonLemmas.commons_apart, EntryPointLemmas.entry_is_found, LayoutLemmas.layouts_differ}
+use Rattle.link_laws.proofs.{CommonLemmas.commons_apart, EntryPointLemmas.entry_is_found}
 use Rattle.link_out.proofs.partial_links.PartialTheorem.{may_be_added}
 use Rattle.link_laws.proofs.meaning.meaning_law.Goals as goal
 
@@ -37,6 +37,3 @@ returns-clause-missing c = missing_have_no_address
 
 pub returns-clause-added : goal.returns-clause-added
 returns-clause-added c = may_be_added
-
-pub returns-clause-layouts : goal.returns-clause-layouts
-returns-clause-layouts c = layouts_differ

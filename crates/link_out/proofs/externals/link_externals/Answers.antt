@@ -13,6 +13,6 @@ returns-clause-rows c =
     let finals : c.deref.result.now ≡ from_cells.finals (plan_of s o) =
     c.deref.ensures.value ∙ c.in_ok-finals.ensures
     ∙ (λ i. from_cells.finals (plan_of (c.of-plan.ensures.session i) (c.of-plan.ensures.options i))) in
-    c.in_ok-put_externals.ensures
-    ∙ (λ i. c.new-rows.ensures.items i ++ rows_with names (finals i))
+    c.put_externals.ensures
+    ∙ (λ i. c.in_ok-rows.ensures.items i ++ rows_with names (finals i))
     ∙ rows_planned (plan_of s o)

@@ -1,6 +1,6 @@
 use Rattle.std.proofs.Common.{◌≡◌, ◌++◌, take, false}
 use Rattle.std.specs.List.{flat_map}
-use Rattle.session_states.specs.StateJson.{json_text_byte}
+use Rattle.session_states.specs.Json.{json_text_byte}
 use Rattle.session_states.proofs.json.put_json_text.Given as goal
 
 abbrev pub invariant-loop-byte : goal.invariant-loop-byte

@@ -1,9 +1,9 @@
-use Rattle.std.proofs.Common.{◌≡◌, ◌++◌, drop, false}
-use Rattle.session_states.specs.{StateJson.multiple_json, Items.each, Items.each_from}
+use Rattle.std.proofs.Common.{◌≡◌, drop, false}
+use Rattle.session_states.specs.{Json.each_put, StateJson.multiple_json}
 use Rattle.session_states.proofs.json.put_multiples.Given as goal
 
 -- what is there, with the items that are left, makes the whole
-abbrev pub invariant-loop-index : goal.invariant-loop-index
-invariant-loop-index l =
-    l.text.is_cut ≡ false → (l.initial.text.is_cut ≡ false)
-    × (l.initial.text.bytes ++ each (multiple_json) l.names ≡ l.text.bytes ++ each_from (multiple_json) l.index (drop l.index l.names))
+abbrev pub invariant-loop-name : goal.invariant-loop-name
+invariant-loop-name l =
+    l.out.is_cut ≡ false → (l.initial.out.is_cut ≡ false)
+    × (each_put multiple_json 0 l.names l.initial.out.json ≡ each_put multiple_json l.name-index (drop l.name-index l.names) l.out.json)

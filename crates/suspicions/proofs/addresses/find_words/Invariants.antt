@@ -6,7 +6,7 @@ use Rattle.suspicions.proofs.addresses.find_words.Given as goal
 abbrev pub invariant-loop-number : goal.invariant-loop-number
 invariant-loop-number l =
     l.findings.is_cut ≡ false → (l.initial.findings.is_cut ≡ false)
-    × (l.findings.found ++ suspicious_segment l.reached.sweep.now l.segment.place l.segment.address l.segment.words.now l.number
+    × (l.findings.found ++ suspicious_segment l.reached.sweep.now l.segment.place l.segment.words.now l.number
     (drop l.number l.segment.relocs.now)
     ≡ l.initial.findings.found
-    ++ suspicious_segment l.reached.sweep.now l.segment.place l.segment.address l.segment.words.now 0 l.segment.relocs.now)
+    ++ suspicious_segment l.reached.sweep.now l.segment.place l.segment.words.now 0 l.segment.relocs.now)

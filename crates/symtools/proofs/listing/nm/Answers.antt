@@ -19,7 +19,7 @@ returns-in_err-list_file-clause-bytes g c =
     ++ flat_map (λ s. (if o.each_line then string_bytes file.0 ++ 58 ∷ [] else []) ++ symbol_line s)
     (arranged o (filter (is_shown o) file.1.symbols)))
     c.in_err-list_file.ensures.bytes in
-    put_broke_off c.from_residual.result _ _ _ c.from_residual.ensures.0
+    put_broke_off c.from_residual-in_err-list_file.result _ _ _ c.from_residual-in_err-list_file.ensures.0
     (subst (AppendsPrefix _ _) (nm_text-listed o files)
     (front_of_row (listed o (length files)) files c.loop-file.file-index c.file-item.result _ _ _ c.loop-file-test.true
     c.file-item.is c.loop-file.invariant.2 entry))

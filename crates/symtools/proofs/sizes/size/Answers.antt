@@ -12,7 +12,7 @@ returns-in_err-put_size-clause-written g c =
     let header = c.header.ensures.value in
     let entry = subst (AppendsPrefix _ _) (λ i. (if nat_lt 1 (length files) then path i ++ 58 ∷ 32 ∷ [] else [])
     ++ size_line (header i) ++ 10 ∷ []) c.in_err-put_size.ensures.bytes in
-    writes_in_part c.from_residual.ensures.0 (search rules) (search rules)
+    writes_in_part c.from_residual-in_err-put_size.ensures.0 (search rules) (search rules)
     (subst (AppendsPrefix _ _) (size_text-sized files)
     (front_of_row (sized (length files)) files c.loop-path.path-index c.loop-path-item.result _ _ _
     c.loop-path-test.true c.loop-path-item.is c.loop-path.invariant.1 entry))

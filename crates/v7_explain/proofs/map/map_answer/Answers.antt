@@ -11,5 +11,5 @@ returns c = (
     made = c.in_ok-map.ensures.made;
     outcome = c.in_ok-map.ensures.outcome;
   },
-  search rules,
+  record { no_errors = search rules; has_status = search rules },
 )

@@ -1,17 +1,16 @@
-use Rattle.std.proofs.Common.{rules, ◌≡◌, refl, sym, ap, subst, inl, inr}
-use Rattle.std.specs.Prelude.{true, Ok, Result}
+use Rattle.std.proofs.Common.{rules, ◌≡◌, refl, subst, inl, inr}
+use Rattle.std.specs.Prelude.{true}
 use Rattle.aout_core.specs.Refusals.{refused}
-use Rattle.surroundings.specs.{Answer.Answer, declared.answer.Fault.TheVariants.Memory}
-use Rattle.suspicions.specs.declared.evidence.Evidence.TheVariants.{Flow}
-use Rattle.v7_explain.specs.Files.{listed}
+use Rattle.surroundings.specs.declared.answer.Fault.TheVariants.{Memory}
+use Rattle.v7_explain.specs.Files.{IsListed}
 use Rattle.v7_explain.proofs.storing.store_listing.Goals as goal
 
 pub returns : goal.returns
 returns g c =
     let between = g.O.Office.history c.read_whole.new.office in
     let same : c.deref.result.now ≡ c.in_ok-bytes.bytes.items = search rules in
-    let said : listed Flow true c.args.path.now c.in_ok-bytes.bytes.items ≡ c.in_ok-said.said =
-    subst (λ bytes. listed Flow true c.args.path.now bytes ≡ c.in_ok-said.said) same (sym c.in_ok-said.ensures) in
+    let said : IsListed true c.in_ok-bytes.bytes.items c.in_ok-said.said =
+    subst (λ bytes. IsListed true bytes c.in_ok-said.said) same c.in_ok-said.ensures in
     inr (
       tt,
       g.O.Office.history c.check_output.new.office,
@@ -23,7 +22,7 @@ returns g c =
         inr (
           c.in_ok-said.said,
           between,
-          (refl, ap (λ (answer : Answer). let ok : Result Answer Answer = Ok answer in ok) said),
+          (refl, said),
           c.store.ensures,
         ),
       ),

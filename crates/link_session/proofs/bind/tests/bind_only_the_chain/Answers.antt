@@ -9,7 +9,7 @@ bind_chain-rest-requires c d =
     let long : length d.in_ok-image.field-0.items ≡ 4 = search rules in
     let below : 2 < length d.in_ok-image.field-0.items = omega (arith, long) in record {
       places = InText 2 ∷ [];
-      visits = (refl, ap (λ (l : List Link). slice_index_or l 2 None) links);
+      visits = (d.to.ensures, ap (λ (l : List Link). slice_index_or l 2 None) links);
       apart = (refl, tt);
       inside = (below, tt);
     }

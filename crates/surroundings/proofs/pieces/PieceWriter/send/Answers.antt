@@ -1,3 +1,4 @@
+use Rattle.surroundings.specs.declared.pieces.TheConstants.{PIECE_SIZE}
 use Rattle.std.proofs.Common.{◌-◌, ◌≤◌, drop, length, ap, ◌∙◌, arith}
 use Rattle.aout_core.proofs.BlockLemmas.{slice_range-front, length-slice_range}
 use Rattle.surroundings.specs.Pieces.{Held}
@@ -11,7 +12,7 @@ returns-clause-kept g c =
     let fits : c.in_ok-n.n ≤ inside.end - inside.start =
     omega (arith, c.in_ok-n.ensures.bound, ap length c.part.ensures, length-slice_range inside.bytes inside.start inside.end within) in
     sent g.F.Write.contents c.args.self.now inside.file c.write.new.self inside.bytes c.part.result.now inside.start inside.end
-    c.in_ok-n.n fits c.self.view_is c.part.ensures c.in_ok-n.ensures.bytes
+    c.in_ok-n.n (PIECE_SIZE - inside.end) fits c.self.view_is c.part.ensures c.in_ok-n.ensures.bytes
 
 pub returns-clause-left : goal.returns-clause-left
 returns-clause-left g c =

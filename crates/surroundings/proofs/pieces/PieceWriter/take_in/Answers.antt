@@ -1,3 +1,4 @@
+use Rattle.surroundings.specs.declared.pieces.TheConstants.{PIECE_SIZE}
 use Rattle.std.proofs.Common.{◌≡◌, ◌≤◌, take, length, arith, rules}
 use Rattle.surroundings.proofs.PieceLemmas.{taken}
 use Rattle.surroundings.proofs.pieces.PieceWriter.take_in.Goals as goal
@@ -10,5 +11,5 @@ returns-clause-value g c =
     let within : inside.end ≤ length inside.bytes = omega arith in
     let same : new ≡ take c.min-n.result c.args.bytes.now = search rules in
     let long : length new ≡ c.min-n.result = search rules in
-    taken c.args.self.now inside.file inside.bytes new _ (take c.min-n.result c.args.bytes.now) inside.start inside.end c.min-n.result
+    taken c.args.self.now inside.file inside.bytes new _ (take c.min-n.result c.args.bytes.now) inside.start inside.end c.min-n.result PIECE_SIZE
     ordered within long same c.self.view_is

@@ -3,7 +3,7 @@ use Rattle.std.proofs.lemmas.List.{nil_from_length}
 use Rattle.v7tools.specs.LinkAnswers.{inputs_of, Input, said_by, TakesAll}
 use Rattle.v7tools.specs.internal.InputParts.{StopsWith}
 use Rattle.link_session.specs.Undo.{Kept}
-use Rattle.v7tools.proofs.StepLemmas.{device_fault, worked_before, worked_unless}
+use Rattle.v7tools.proofs.StepLemmas.{is_device_fault, worked_before, worked_unless}
 use Rattle.v7tools.proofs.{AdditionLemmas.forced_kept, AnswerLemmas.stops_at, AnswerLemmas.takes_accepted}
 use Rattle.v7tools.proofs.link.linking.take_inputs.Goals as goal
 
@@ -19,7 +19,7 @@ loop-path-init g c =
 
 pub returns-in-Err-clause-device : goal.returns-in-Err-clause-device
 returns-in-Err-clause-device g c =
-    device_fault (g.R.Read.remaining c.in-Some.wire.device) c.loop-path.session c.add_file.new.session c.in-Some.path
+    is_device_fault (g.R.Read.remaining c.in-Some.wire.device) c.loop-path.session c.add_file.new.session c.in-Some.path
     c.in-Err.fault c.add_file.new.wire.has_failed c.in-Err.ensures.value c.in-Err.ensures.device
 
 pub returns-in-Err-clause-value : goal.returns-in-Err-clause-value

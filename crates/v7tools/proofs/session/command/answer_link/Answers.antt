@@ -1,3 +1,4 @@
+use Rattle.aout_core.specs.Refusals.{device_fault}
 use Rattle.std.proofs.lemmas.Result.{IfOk-from_err}
 use Rattle.std.proofs.Common.{◌≡◌, ℕ, Ok, Err, None, refl}
 use Rattle.link_session.specs.Labelled.{objects}
@@ -18,7 +19,7 @@ returns-in_err-linked-clause-run g c =
     (refused_by g.W.Write.contents (link s.forced (objects s.entries) o) c.args.answers.now c.make_link.new.answers
     (Err c.in_err-linked.field-0.0) r refl is_err c.in_err-linked.ensures.link)
     (IfOk-from_err r (λ (status : ℕ). status ≡ 1) is_err)
-    (only_fault r c.in_err-linked.field-0.0 WriteFailed
+    (only_fault r c.in_err-linked.field-0.0 (WriteFailed device_fault)
     (passed_on r c.in_err-linked.field-0.0 c.from_residual.ensures.1) c.in_err-linked.ensures.write_failed)
 
 pub returns-in_err-status-in-Some-clause-run : goal.returns-in_err-status-in-Some-clause-run

@@ -1,9 +1,0 @@
-use Rattle.std.proofs.Common.{◌≡◌, ◌++◌, drop, false}
-use Rattle.std.specs.List.{flat_map}
-use Rattle.explanations.specs.Dumps.{characters}
-use Rattle.explanations.proofs.rows.put_characters.Given as goal
-
-abbrev pub invariant-loop-word : goal.invariant-loop-word
-invariant-loop-word l =
-    l.text.is_cut ≡ false → (l.initial.text.is_cut ≡ false)
-    × (l.text.bytes ++ flat_map characters (drop l.word-index l.words) ≡ l.initial.text.bytes ++ flat_map characters l.words)

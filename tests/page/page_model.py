@@ -1,0 +1,370 @@
+"""What the page says, compared with a model: the states of a session from the bytes of the objects alone. In each state these are the
+sentence, the status, the names in their order with what is struck out, and what words were; then the cards, what the words of a link
+name, the legend, the tour's count, and what a question lets be done and seen."""
+import os
+import re
+from itertools import permutations
+
+from tests.lib.files import read_bytes
+from tests.lib.objects import unpack
+
+WORD = 0o200000
+PARTS = ("text", "data")
+SEGMENT = {0o2: "text", 0o4: "data", 0o6: "bss"}
+DEFINED = {0o42: "text", 0o43: "data", 0o44: "bss"}
+
+
+def counted(number, what):
+    return f"{number} {what}{'' if number == 1 else 's'}"
+
+
+def size_said(size):
+    return f"0{size:o} ({size}.) bytes"
+
+
+def addend(meant):
+    return "" if meant == 0 else f" \u2212 {WORD - meant:o}" if meant >= WORD // 2 else f" + {meant:o}"
+
+
+class Given:
+    """An object: its words with their relocation words, and its symbols."""
+
+    def __init__(self, path):
+        one = unpack(read_bytes(path))
+        self.name, self.text, self.data, self.bss = os.path.basename(path), *one.header[1:4]
+        both = [*zip([*one.text, *one.data], one.relocation)]
+        self.words = {"text": both[:len(one.text)], "data": both[len(one.text):]}
+        self.symbols = [(name.rstrip(b"\0").decode("latin-1"), kind, value) for name, kind, value in one.symbols]
+
+    def start(self, segment):
+        return {"text": 0, "data": self.text, "bss": self.text + self.data}[segment]
+
+
+class Word:
+    """A word of the image: its value, the pc bit, what it refers to (a segment, "" for a number, or None while it waits), the name that its
+    object has for it, and the place that is meant."""
+
+    def __init__(self, value, pc, kind, name, added, meant):
+        self.value, self.pc, self.kind, self.name, self.added, self.meant = value, pc, kind, name, added, meant
+
+
+class Session:
+    """What a session of some objects knows."""
+
+    def __init__(self, objects):
+        self.objects, self.names, self.multiples, self.words = objects, {}, [], {}
+        self.sizes, fronts = {"text": 0, "data": 0, "bss": 0}, []
+        for one in objects:
+            fronts.append(dict(self.sizes))
+            for segment, size in (("text", one.text), ("data", one.data), ("bss", one.bss)):
+                self.sizes[segment] += size
+        for one, front in zip(objects, fronts):
+            for symbol in one.symbols:
+                self.mention(one, front, *symbol)
+        for one, front in zip(objects, fronts):
+            for part in PARTS:
+                for index, (word, reloc) in enumerate(one.words[part]):
+                    self.words[part, front[part] + 2 * index] = self.word(one, front, part, index, word, reloc)
+
+    def mention(self, one, front, name, kind, value):
+        if not kind & 0o40:
+            return
+        known, size = self.names.setdefault(name, ("undefined", 0))
+        if kind == 0o40:
+            if value > 0 and known in ("undefined", "common"):
+                self.names[name] = ("common", max(size, value))
+            return
+        segment = DEFINED.get(kind, "number")
+        if known in ("undefined", "common"):
+            self.names[name] = (segment, value if segment == "number" else (value - one.start(segment) + front[segment]) % WORD)
+        elif name not in self.multiples:
+            self.multiples.append(name)
+
+    def word(self, one, front, part, index, word, reloc):
+        pc, kind = reloc & 1, reloc & 0o16
+        meant, next_one = (word + one.start(part) + 2 * index + 2) % WORD if pc else word, front[part] + 2 * index + 2
+        if kind == 0:
+            return Word((meant - next_one) % WORD if pc else word, pc, "", "", 0, meant)
+        if kind in SEGMENT:
+            name, added, segment, meant = "", 0, SEGMENT[kind], (meant - one.start(SEGMENT[kind]) + front[SEGMENT[kind]]) % WORD
+        else:
+            name, added = one.symbols[reloc >> 4][0], meant
+            segment, place = self.names[name]
+            segment, meant = (None, added) if segment in ("undefined", "common") else ("" if segment == "number" else segment, (place + added) % WORD)
+        return Word((meant - next_one) % WORD if pc else meant, pc, segment, name, added, meant)
+
+    def waiting(self):
+        """The names for which words wait, one for each word, object by object."""
+        fronts, found = {"text": 0, "data": 0}, []
+        for one in self.objects:
+            for part in PARTS:
+                here = range(fronts[part], fronts[part] + 2 * len(one.words[part]), 2)
+                found += [self.words[part, offset].name for offset in here if self.words[part, offset].kind is None]
+                fronts[part] = here.stop
+        return found
+
+    def place(self, word):
+        if word.meant >= WORD // 2 and word.meant > self.sizes.get(word.kind, 0):
+            return f"{word.kind} \u2212 {WORD - word.meant:o}"
+        return f"{word.kind or 'a number'} {word.meant:06o}" if word.kind or word.pc else "a number"
+
+
+def state_said(kind, number):
+    return kind if kind == "undefined" else f"a common of {size_said(number)}" if kind == "common" else f"{'the number' if kind == 'number' else kind} {number:06o}"
+
+
+class Step:
+    """What the last step did: an object was added to a session, or withdrawn."""
+
+    def __init__(self, objects, is_gone):
+        self.one, self.is_gone = objects[-1], is_gone
+        self.before, self.after = Session(objects[:-1]), Session(objects)
+        old, new = self.before.words, self.after.words
+        self.changed = sorted((key for key in old if old[key].kind is None and new[key].kind is not None), key=lambda key: (PARTS.index(key[0]), key[1]))
+
+    def status(self):
+        words = f": {counted(len(self.changed), 'word')} {'put back' if self.is_gone else 'bound'}" if self.changed else ""
+        return f"{'Withdrew' if self.is_gone else 'Added'} {self.one.name}{words}"
+
+    def sentence(self):
+        if not self.changed:
+            return self.brought()
+        part, offset = self.changed[0]
+        old, new = self.before.words[part, offset], self.after.words[part, offset]
+        at, where = self.after.names[old.name][1], f"The word at {part} {offset:06o}"
+        more = f" {counted(len(self.changed) - 1, 'other word')} changed too." if len(self.changed) > 1 else ""
+        if self.is_gone:
+            return f"{where} waits for {old.name} again, so {at:06o} was subtracted from it: {new.value:06o} \u2212 {at:06o} = {old.value:06o}.{more}"
+        distance = f", the distance from {offset + 2:06o} to {new.meant:06o}" if new.pc and new.kind == part else ""
+        return f"{where} waited for {old.name}. This is at {at:06o} now, so the linker added it: {old.value:06o} + {at:06o} = {new.value:06o}{distance}.{more}"
+
+    def brought(self):
+        names = len(self.after.names) - len(self.before.names)
+        parts = [(self.one.text, f"{counted(self.one.text // 2, 'word')} of text"), (self.one.data, f"{counted(self.one.data // 2, 'word')} of data"),
+                 (self.one.bss, f"{size_said(self.one.bss)} of bss"), (names, counted(names, "name"))]
+        said = ", ".join(text for number, text in parts if number)
+        if self.is_gone:
+            return f"{said or 'Nothing'} of {self.one.name} cut off."
+        waiting = self.after.waiting()
+        names = [*dict.fromkeys(waiting)]
+        waits = f"{counted(len(waiting), 'word')} wait{'s' if len(waiting) == 1 else ''} for {counted(len(names), 'name') if len(names) > 3 else ', '.join(names)}." if waiting else "No word waits for a name."
+        return f"{self.one.name} brought {said or 'nothing'}. {waits}"
+
+    def names(self):
+        """The rows of the names: each with what is known, what is struck out, and its tag; first those that changed, then new ones."""
+        old, new, rows = self.before.names, self.after.names, []
+        for name in new:
+            state, was, tag = state_said(*new[name]), "", "" if name in old else "new"
+            if self.is_gone:
+                state, tag = (state, "cut off") if name not in old else (state_said(*old[name]), "")
+            if name in old and old[name] != new[name]:
+                was, tag = state_said(*(new if self.is_gone else old)[name]), "put back" if self.is_gone else "changed"
+            rows.append([name, state, was, tag])
+        order = {"changed": 0, "put back": 0, "new": 1, "cut off": 1, "": 2}
+        rows.sort(key=lambda row: order[row[3]])
+        kept = self.before.multiples
+        return rows + [[name, "multiply defined", "", "cut off" if self.is_gone and name not in kept else ""] for name in self.after.multiples]
+
+    def struck(self):
+        """What each word was that the step changed."""
+        found = {}
+        for part, offset in self.changed:
+            old, new = self.before.words[part, offset], self.after.words[part, offset]
+            said = f"{new.value:06o} {new.name}{addend(new.added)} = {self.after.place(new)}" if self.is_gone else f"{old.value:06o} waits for {old.name}{addend(old.added)}"
+            found[f"{part}-{offset}"] = said
+        return found
+
+
+SAID = r"""
+const [list, isGone] = arguments;
+isWhole = null;
+show(isGone ? { ...START, list: list.slice(0, -1), gone: list[list.length - 1] } : { ...START, list });
+const text = (row, name) => row.querySelector(name)?.textContent ?? "";
+const note = byId("note").textContent, status = byId("status").textContent;
+const names = [...document.querySelectorAll("#names .name")].map((row) => [text(row, "b"), text(row, ".state"), text(row, ".was"), text(row, ".tag")]);
+isWhole = true;
+for (const object of stateShown().list) opened.add(object);
+showChosen(true);
+const struck = [...document.querySelectorAll("#image .word:is(.bound, .put-back)")].map((row) => [row.id, text(row, ".was")]);
+return [note, status, names, Object.fromEntries(struck)];
+"""
+# what depends on the room for arrows, and what the first step says besides
+BESIDES = re.compile(r" \d+ arrows? more: choose a word to see its own\.| Now add another object, and look at which words change\.")
+
+
+def says(page, path, files, same, most=1000):
+    """The sentence, the status, the names and what is struck out in each state, or so many."""
+    page.load(path)
+    objects, count = [Given(file) for file in files], len(files)
+    lists = [order for length in range(1, count + 1) for order in permutations(range(count), length)] if count <= 5 else [range(length) for length in range(1, count + 1)]
+    for order in lists[::max(1, len(lists) // most)]:
+        for is_gone in (False, True):
+            step, what = Step([objects[number] for number in order], is_gone), f"{[*order]}{', withdrawn' if is_gone else ''}"
+            note, status, names, struck = page.run(SAID, [*order], is_gone)
+            same(f"{what}: the sentence", BESIDES.sub("", note), step.sentence())
+            same(f"{what}: the status", status, step.status())
+            same(f"{what}: the names", names, step.names())
+            same(f"{what}: what is struck out", struck, step.struck())
+    return 2 * len(lists)
+
+
+def reloc_said(reloc):
+    kind = reloc & 0o16
+    said = "a number" if kind == 0 else SEGMENT.get(kind) or f"symbol {reloc >> 4}"
+    return f"{'0' if reloc else ''}{reloc:o} = {said}{', pc' if reloc & 1 else ''}"
+
+
+CARDS = """
+document.querySelectorAll(".given").forEach((words, i) => { words.open = true; showListing(words, DATA.objects[i]); });
+return [...document.querySelectorAll(".card")].map((card) => [...card.querySelectorAll("[role=option]")].map((row) => [...row.children].map((cell) => cell.textContent)));
+"""
+CHOSEN = "choose(arguments[0], true); const row = byId(arguments[0]); return [row.getAttribute('aria-description'), getComputedStyle(row, '::after').content.includes(row.getAttribute('aria-description')), byId('note').textContent];"
+
+
+def cards(page, path, files, same):
+    """Each line of a card: where the word is in its object, its value, and its relocation word; the chosen row has this too."""
+    page.load(path)
+    shown = page.run(CARDS)
+    for file, rows in zip(files, shown):
+        one = Given(file)
+        wanted = [(part, index, word, reloc) for part in PARTS for index, (word, reloc) in enumerate(one.words[part])]
+        same(f"lines of the card of {one.name}", len(rows), len(wanted))
+        for (part, index, word, reloc), (offset, value, said) in zip(wanted, rows):
+            same(f"the card of {one.name}, {part} {index}", (offset, value), (f"{one.start(part) + 2 * index:06o}", f"{word:06o}"))
+            same(f"the relocation word of {one.name}, {part} {index}: {said}", said.startswith(reloc_said(reloc)) if reloc else " = " not in said, True)
+    page.open("#objects=1,2")
+    words = [(part, reloc) for one in map(Given, files[:2]) for part in PARTS for _, reloc in one.words[part]]
+    places = {part: [reloc for of, reloc in words if of == part] for part in PARTS}
+    for part in PARTS:
+        for index, reloc in enumerate(places[part][:40]):
+            said, is_seen, _ = page.run(CHOSEN, f"{part}-{2 * index}")
+            same(f"the relocation word of the chosen {part} {2 * index:o}", (said, is_seen), (reloc_said(reloc), True))
+
+
+OF = "for (const one of view.list) opened.add(one); isWhole = true; showChosen(true); return [...document.querySelectorAll('#image .word:not(.spot)')].map((row) => [row.id, row.querySelector('.of')?.textContent ?? '']);"
+
+
+def in_link(page, path, files, same):
+    """Each word of a plain link says to what its sum leads: the name with what is added to it, or the segment."""
+    page.load(path)
+    page.run("show({ ...START, list: DATA.objects.map(({ number }) => number).slice(0, arguments[0]), layout: 0 })", len(files))
+    words = Session([Given(file) for file in files]).words
+    for key, said in page.run(OF):
+        part, offset = key.split("-")
+        word = words[part, int(offset)]
+        same(f"what {key} of a link refers to", said, f"{word.name}{addend(word.added)}" if word.name else word.kind)
+
+
+LEGEND = "return [...document.querySelectorAll('.legend li')].map((line) => [line.querySelector('.swatch')?.className ?? '', line.querySelector('b')?.textContent ?? '']).filter(([swatch]) => swatch);"
+
+
+def legend(page, path, same):
+    page.load(path)
+    same("the legend", page.run(LEGEND), [["swatch new", "new"], ["swatch bound", "bound"], ["swatch put-back", "put back"]])
+
+
+def tour_count(page, path, same):
+    page.load(path)
+    for number in range(1, 6):
+        page.open(f"#tour={number}")
+        same("the tour's count", page.run("return document.querySelector('#guide h2').textContent"), f"Tour, {number} of 5")
+
+
+# ---- branches
+BRANCHES = "isWhole = true; for (const one of view.list) opened.add(one); showChosen(true); return [...document.querySelectorAll('#image .word')].map((row) => [row.id, row.querySelector('.instruction')?.textContent ?? '']);"
+
+
+def branch_of(word, address):
+    """The address to which a word branches, if it does."""
+    if word & 0o177000 == 0o077000:
+        return (address + 2 - 2 * (word & 0o77)) % WORD
+    if 0o400 <= word < 0o4000 or 0o100000 <= word < 0o104000:
+        return (address + 2 + 2 * (word & 0o377) - (0o1000 if word & 0o200 else 0)) % WORD
+    return None
+
+
+def branches(page, path, files, same):
+    """A branch of the image leads to its place there, and has that of the object after it, if this is another one; the sentence says so."""
+    page.load(path)
+    page.run("show({ ...START, list: DATA.objects.map(({ number }) => number).slice(0, arguments[0]) })", len(files))
+    objects, front, count = [Given(file) for file in files], 0, 0
+    shown = dict(page.run(BRANCHES))
+    for one in objects:
+        for index, (word, reloc) in enumerate(one.words["text"]):
+            said, own = shown[f"text-{front + 2 * index}"], branch_of(word, 2 * index)
+            if reloc & 0o17 or own is None or not re.match(r"(b\w+|sob \w+,) ?[0-7]+(,|$)", said):
+                continue
+            target = (own + front) % WORD
+            same(f"the branch of {one.name} at {2 * index:o}", re.search(r"[ ,]([0-7]+)(?:, in (\S+) ([0-7]+))?$", said).groups(), (f"{target:o}", one.name, f"{own:o}") if front else (f"{target:o}", None, None))
+            note = page.run(CHOSEN, f"text-{front + 2 * index}")[2]
+            same(f"the sentence of the branch of {one.name} at {2 * index:o}: {note}", f"branches to text {target:06o}" in note, True)
+            count += front > 0
+        front += one.text
+    same("branches that have moved", count > 0, True)
+
+
+# ---- questions
+# tries all that could change the session; what is left of the view
+TRIED = """
+for (const button of document.querySelectorAll(".add, #adds button, #withdraw, #flick")) button.click();
+for (const key of "12345wfapnir") document.dispatchEvent(new KeyboardEvent("keydown", { key, bubbles: true }));
+return [view.list, view.gone, view.layout, view.guide, view.done, byId("addresses").disabled];
+"""
+# the answer of the open question, if the screen has it
+ON_SCREEN = r"""
+const wait = nextStep(), found = [];
+if (!wait?.ask) return null;
+const has = (row) => row && new RegExp(`\\b${octal(wait.number)}\\b`).test(row.textContent);
+if (wait.kind === "changes" && wait.act[0] === "withdraw" && wait.answers.length > 0) found.push("the marks have what is put back");
+if (wait.kind === "value" && [...document.querySelectorAll("#image .word, #marks .mark")].some((row) => row.dataset.key === wait.word && has(row))) found.push(`${wait.word} has ${octal(wait.number)}`);
+if (wait.kind === "where" && wait.number !== null && [...document.querySelectorAll("#names .name")].some((row) => row.dataset.key === `name ${wait.name}` && has(row))) found.push(`${wait.name} has ${octal(wait.number)}`);
+if (wait.act?.[0] === "link" && wait.act[1] === view.layout) found.push("the link is shown");
+return found;
+"""
+OTHER_BASE = """
+const wait = nextStep();
+if (!["value", "where"].includes(wait?.kind) || wait.number === null || wait.number < 8) return null;
+byId("number").value = String(wait.number) + (/[89]/.test(String(wait.number)) ? "" : "");
+const typed = byId("number").value, asOctal = /[89]/.test(typed) ? NaN : parseInt(typed, 8);
+if (Number.isNaN(asOctal)) return null;
+giveNumber();
+return [typed, wait.number, predictionOf(view.done + 1).reason, predictionOf(view.done + 1).isRight];
+"""
+
+
+def questions(page, path, same):
+    """Under an open question nothing changes the session, and its answer is not on the screen; a number in the other base is told."""
+    page.load(path)
+    asked, others = 0, 0
+    for guide in range(1, page.run("return GUIDES.length")):
+        for done in range(page.run("return GUIDES[arguments[0]].steps.length - 1", guide)):
+            page.run("goTo(arguments[0], arguments[1])", guide, done)
+            found = page.run(ON_SCREEN)
+            if found is None:
+                continue
+            what, before = f"lesson {guide}, question {done + 1}", page.run("return [view.list, view.gone, view.layout, view.guide, view.done]")
+            same(f"{what}: the answer on the screen", found, [])
+            same(f"{what}: what buttons and keys change", page.run(TRIED), [*before, True])
+            other = page.run(OTHER_BASE)
+            if other:
+                typed, number, reason, is_right = other
+                same(f"{what}: {typed} for {number:o}", (is_right, reason), (False, f"Read in decimal that is right, but {typed} is octal here: type {number}."))
+            asked, others = asked + 1, others + bool(other)
+    page.open("#objects=1&lesson=6&done=3")
+    page.wait("return view.guide === 6")
+    same("an address with other objects", page.run("return [view.list, isAsked()]"), [page.run("return guideView(6, 3).list"), page.run("return Boolean(GUIDES[6].steps[4].ask)")])
+    same("questions, and numbers in the other base", (asked > 5, others > 0), (True, True))
+
+
+def said_everywhere(tools, page, pages, same):
+    """All of this; `pages` are paths with their objects, the first with the lessons of the class, the second a program in C."""
+    count = sum(says(page, path, files, same) for path, files in pages)
+    cards(page, *pages[0], same)
+    for path, files in pages:
+        in_link(page, path, files, same)
+    branches(page, *pages[1], same)
+    legend(page, pages[0][0], same)
+    tour_count(page, pages[0][0], same)
+    for path, _ in pages[:3]:
+        questions(page, path, same)
+    print(f"{count} sentences, and as many lists of names, are those of the model", flush=True)

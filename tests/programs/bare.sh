@@ -1,0 +1,43 @@
+#!/bin/sh
+# Tries the tests on a machine that is not ours: with nothing of the environment but PATH, HOME and LANG, in a clone, where no Python is
+# compiled yet, and in an unpacked archive without .git, where all of it is. What is committed is tried. Texts are compared, and make and
+# the tests say what they would do.
+#
+# tier: check, 60 seconds; for: .ci/run Makefile tools/needs tools/kit.sh tests/__main__.py; needs: git cc
+set -u
+cd "$(dirname "$0")/../.."
+[ -e .git ] || { echo "skipped: no clone is made, as this is not one"; exit 0; }
+room=$(mktemp -d)
+trap 'rm -rf "$room"' EXIT
+mkdir "$room/home" "$room/archive"
+git clone -q . "$room/clone" && git archive HEAD | tar -x -C "$room/archive" || exit 1
+failed=0
+
+# runs a command in one of the folders
+bare() {
+    folder=$1
+    shift
+    (cd "$room/$folder" && env -i PATH="$PATH" HOME="$room/home" LANG=C.UTF-8 "$@") >"$room/said" 2>&1 </dev/null
+}
+
+passes() {
+    bare "$@" || { cat "$room/said"; echo "this fails in a new folder, the $*"; failed=1; }
+}
+
+passes archive python3 -m compileall -q .
+for folder in clone archive; do
+    passes $folder make -n quick test
+    passes $folder make -s which CHANGED=README.md
+    passes $folder tools/needs
+    passes $folder make -s check-text
+done
+# a test that reads what Python writes passes where nothing is compiled, and fails here
+cat >"$room/clone/tests/texts/planted.py" <<'END'
+from tests.lib.files import read
+import glob
+print(sum(len(read(path)) for path in glob.glob("tests/*/*.*")))
+END
+bare clone env PYTHONDONTWRITEBYTECODE=1 sh -c 'find . -name __pycache__ -exec rm -r {} + && python3 -m tests.texts.planted' || { cat "$room/said"; failed=1; }
+! bare clone python3 -m tests.texts.planted || { echo "a test that reads what Python writes is not noticed"; failed=1; }
+[ $failed -ne 0 ] || echo "the texts, and the plans of make, are as they are here in a clone and in an archive, with PATH, HOME and LANG alone"
+exit $failed
