@@ -37,7 +37,7 @@ WANTED = [
     ("v7-explain -o main", ["main.lst"]),
     ("v7-explain tr", ["transcript.md"]),
     ("v7-object main", ["main.lst"]),
-    ("v7-from-gnu -o c", ["c", "cpp"]),
+    ("v7-from-gnu -o t", ["total"]),
     ("v7-lesson twi", ["twice.o"]),
     ("v7-lesson -n 1 -q less", ["lessons.txt"]),
     ("?v7-lesson -n", ["-n"]),
