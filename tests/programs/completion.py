@@ -35,7 +35,7 @@ WANTED = [
     ("v7 nm squ", ["squares.gnu", "squares.s"]),
     ("v7 size -x ru", ["rust"]),
     ("v7-explain -o main", ["main.lst"]),
-    ("v7-explain tr", ["transcript.md"]),
+    ("v7-explain REA", ["README.md"]),
     ("v7-object main", ["main.lst"]),
     ("v7-from-gnu -o t", ["total"]),
     ("v7-lesson twi", ["twice.o"]),
