@@ -7,8 +7,7 @@
 # environment.
 # What is missing of the compilers, Python and these two is skipped, and named.
 #
-# usage: CC=cc CXX=c++ CALLS=20000 CASES='500 1000 500' tests/libv7/library.sh        with so many random calls, and links, sessions and maps for
-#                                                                              the comparison with tests/oracles/model.py
+# usage: CC=cc CXX=c++ CALLS=20000 tests/libv7/library.sh        with so many random calls
 #
 # tier: check, 300 seconds; programs: v7 v7-explain v7-object v7-from-gnu libv7.so; for: crates/v7_c crates/library_calls include packaging docs/LIBRARY.md man/v7.3 tests/libv7 examples/c examples/python examples/rust; needs: cc c++ pkg-config valgrind mypy venv rustc cargo
 set -u
@@ -266,15 +265,13 @@ echo "Python: a notebook, and a folder relinked"
 python3 -m tests.libv7.library || fail "Python: a check fails"
 python3 -m tests.libv7.library_programs "${CHANGED:-40}" ||
     fail "a program and the library differ"
-python3 -m tests.libv7.agree_library ${CASES:-500 1000 500} || fail "the model differs"
-python3 -m tests.libv7.largest_library || fail "the largest inputs"
 # a library with a fault in one field of all records of a map, of findings, or of their objects
 $CC -std=c99 -O2 -Wall -Wextra -Werror -shared -fPIC -o planted.so $compiles "$top/tests/libv7/c/planted_records.c" -Wl,--whole-archive planted.a \
     -Wl,--no-whole-archive || exit 1
 plants=$(grep -o 'FIELD([a-z_]*, [a-z_]*)' "$top/tests/libv7/c/planted_records.c" | sed -n '/(record, name)/d; s/FIELD(\(.*\), \(.*\))/\1.\2/p')
 # whether the model differs from it
 differs() {
-    ! LIBV7=./planted.so PLANT=$1 python3 -m tests.libv7.agree_library 60 0 60 >planted.txt 2>&1
+    ! LIBV7=./planted.so PLANT=$1 python3 -m tests.oracles.agree -l 60 0 60 >planted.txt 2>&1
 }
 ! differs nothing || { cat planted.txt; fail "the model differs from the library without a fault in its records"; }
 for plant in $plants; do
