@@ -2,6 +2,8 @@
 
 usage: python3 -m tools.prove NAME FILE
        python3 -m tools.prove --sources NAME      prints the files that it is proved of
+       python3 -m tools.prove --only NAME [FLAG ..]      checks this crate while it is written, over the libraries that were proved before;
+                                                  FLAGs are those of `rattle check`, such as --only MODULE::NAME
 
 Libraries that do not wait for each other are proved side by side. Each is proved from nothing, by the kit's `rattle` with the
 words of the gate, and the crates above it read its statements and not its proofs. These are kept in build/proved, packed, since
@@ -96,6 +98,10 @@ class Kit:
         """The command that proves a crate, and writes what it leaves."""
         words = [*self.words(crate), *self.logic, "--jobs", str(jobs), "-o", f"{self.place}/{crate.left}"]
         return [self.rattle, "build", *words, "--statements"] if crate.left.endswith(".rlib") else [self.rattle, "check", *words]
+
+    def checking(self, crate, *flags):
+        """The command that checks a crate over what its last check kept."""
+        return [self.rattle, "check", *self.words(crate), *self.logic, "--incremental", "out/incremental", "--jobs", str(min(os.cpu_count(), MOST_JOBS)), *flags]
 
     def building(self, crate, file):
         """The commands that compile what was proved, and link it if it is a program."""
@@ -207,13 +213,28 @@ class Proving:
             return Tally({lane: crate.name for crate, lane in self.lanes.items()}, lambda: self.busy).take_all()
 
 
-def main(name, file):
+def check_only(name, *flags):
+    """Checks a crate alone. The libraries below it that have changed, or were never proved, are proved first."""
+    *below, crate = crates_under(name)
+    with tempfile.TemporaryDirectory() as place:
+        kit = Kit(place)
+        if below and Proving(below, kit).whole():
+            return 1
+        os.makedirs(f"crates/{name}/out", exist_ok=True)
+        return subprocess.run(kit.checking(crate, *flags), cwd=f"crates/{name}", check=False).returncode
+
+
+def main(name, file, *flags):
     if name == "--sources":
         print(*(path for crate in crates_under(file) for path in crate.files), sep="\n")
         return 0
     if not shutil.which("rt"):
         print("rt, the command of the Rattle kit, is not on the PATH", file=sys.stderr)
         return 1
+    if name == "--only":
+        os.chdir(TOP)
+        os.makedirs(KEPT, exist_ok=True)
+        return check_only(file, *flags)
     file = os.path.abspath(file)
     os.chdir(TOP)
     for folder in (KEPT, os.path.dirname(file)):
