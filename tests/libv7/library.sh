@@ -9,7 +9,7 @@
 #
 # usage: CC=cc CXX=c++ CALLS=20000 tests/libv7/library.sh        with so many random calls
 #
-# tier: check, 300 seconds; programs: v7 v7-explain v7-object v7-from-gnu libv7.so; for: crates/v7_c crates/library_calls include packaging docs/LIBRARY.md man/v7.3 tests/libv7 examples/c examples/python examples/rust; needs: cc c++ pkg-config valgrind mypy venv rustc cargo
+# tier: check, 300 seconds; programs: v7 v7-explain v7-object v7-from-gnu libv7.so; for: Makefile crates/v7_c crates/library_calls include packaging docs/LIBRARY.md man/v7.3 tests/libv7 examples/c examples/python examples/rust; needs: cc c++ pkg-config valgrind mypy venv rustc cargo
 set -u
 cd "$(dirname "$0")/../.."
 top=$PWD

@@ -3,7 +3,7 @@
 # compiled yet, and in an unpacked archive without .git, where all of it is. What is committed is tried. Texts are compared, and make and
 # the tests say what they would do.
 #
-# tier: check, 60 seconds; for: .ci/run Makefile tools/needs tools/kit.sh tests/__main__.py; needs: git cc
+# tier: check, 60 seconds; for: .ci/run Makefile tools/needs tools/kit.sh tools/prove.py tests/__main__.py; needs: git cc
 set -u
 cd "$(dirname "$0")/../.."
 [ -e .git ] || { echo "skipped: no clone is made, as this is not one"; exit 0; }
