@@ -161,7 +161,7 @@ test:
 
 # every proof from nothing, the wrong bodies of must-fail/, the tests, the programs' stored runs
 gate:
-	python3 -m tests.costs.gate_times rt ci
+	rt ci
 
 # the cheapest first, so that a fault shows early. The gate leaves the programs that the tests of `check` run. Of crates that have changed,
 # as many wrong bodies are tried as a quarter of an hour allows

@@ -64,11 +64,6 @@ def clauses(lines):
         lines = lines[length:]
 
 
-def every_clause(lines):
-    """Each clause of some lines, wherever it is."""
-    return [next(clauses(lines[at:])) for at, line in enumerate(lines) if CLAUSE.match(line)]
-
-
 def functions(lines):
     """The functions of some lines."""
     for at, line in enumerate(lines):

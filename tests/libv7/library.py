@@ -1,5 +1,4 @@
-"""The Python module of libv7: its docstrings come out as shown, its texts of faults are those of v7.h, its numbers are refused where
-they do not fit, a cut object is blamed itself, and a session keeps nothing of what was withdrawn or refused. Instructions are those of v7-explain(1):
+"""The Python module of libv7: its docstrings come out as shown, its numbers are refused where they do not fit, a cut object is blamed itself, and a session keeps nothing of what was withdrawn or refused. Instructions are those of v7-explain(1):
 examples worked out by hand, and random files and words by the decoder of tests/oracles/disassembly.py.
 
 usage: LIBV7=build/libv7.so python3 -m tests.libv7.library
@@ -35,19 +34,6 @@ def wrong_types():
             yield False
         except TypeError:
             yield True
-
-
-def texts_of(header):
-    """The text of each fault, by its number, as v7.h has them."""
-    text = read(header)
-    numbers = dict(re.findall(r"^    (V7_\w+) = (\d+)", text, re.M))
-    return {int(numbers[name]): said for name, said in re.findall(r'case (V7_\w+):\n\s*return "(.*)";', text)}
-
-
-def constants_of(header):
-    """The constants of options, kinds and segments in v7.h, by the names that they have in Python."""
-    enums = re.findall(r"^enum v7_(?:link_option|nm_option|gnu_option|remark_kind|part|relocation|segment) \{(.*?)\};", read(header), re.M | re.S)
-    return {name: int(number) for part in enums for name, number in re.findall(r"V7_(\w+) = (\d+)", part)}
 
 
 def numbers():
@@ -232,10 +218,7 @@ def cut_files():
 
 def main():
     wrong, header = doctest.testmod(v7).failed, f"{TOP}/include/v7.h"
-    texts = texts_of(header)
     checks = {
-        "the texts of faults": [v7.FAULTS == {number: text for number, text in texts.items() if number}],
-        "the constants": [getattr(v7, name) == number for name, number in constants_of(header).items()],
         "the version": [f'#define V7_VERSION "{version}"' in read(header).split("\n") for version in (v7.version(), v7.__version__)],
         "numbers": [*numbers()],
         "types": [*wrong_types()],

@@ -184,9 +184,6 @@ toy() {
         { cat toy.txt; fail "the toy assembler shows other places: $1"; }
 }
 toy ./toy
-# the map from records is that of v7-explain, made or refused
-$CC -std=c99 -O2 -Wall -Wextra -Werror -o map_by_c $compiles "$top/examples/c/map.c" "$archive" || exit 1
-PYTHONPATH=$top python3 -m tests.oracles.map ./map_by_c "${MAPS:-1000}" || fail "the map from records differs"
 # it names what it cannot read or write
 ./by_c out missing.o 2>&1 | grep -q '^missing\.o: ' || fail "the example in C says nothing of a file that is not there"
 ./by_c missing/out main.o 2>&1 | grep -q '^missing/out: ' || fail "the example in C says nothing of a file that it cannot write"

@@ -1,9 +1,6 @@
 """Compares the map of `v7-explain -m` with what `v7 ld`, `v7 nm` and `v7 size` say of the same objects.
 
-usage: python3 -m tests.oracles.map [MAP [LINKS]]
 tier: check, 150 seconds; programs: v7 v7-explain; for: crates/link_maps crates/map_texts crates/finding_objects
-
-MAP is another program that prints maps, examples/c/map.c: of each link it must print the same. LINKS are so many in place of 200.
 
 The links are those of a few lists of objects in examples/, and 200 that are made, the same in each run: objects of some
 words, with names that are defined, wanted as commons and referred to. Who defines a name, who wants it, and which words
@@ -17,7 +14,6 @@ import itertools
 import os
 import random
 import re
-import sys
 
 from tests.lib.compare import notices, same
 from tests.lib.files import TOP, read_bytes, room, write
@@ -39,25 +35,8 @@ def run(*words):
     return ran(*words).texts()
 
 
-def by_records(status, text, said):
-    """The same as records tell it: not what is odd or unused, and names without a place, of a link that is refused before it has places, have no
-    letters."""
-    text = re.sub(r"\n(?:Odd|Unused)\n(?:.+\n)+", "", text)
-    has_places = not re.match(r"[^\n]*: refused(?!, too many symbols|, symbol number)", text)
-    return status, text if has_places else re.sub(r"(?m)^ {7}[A-Z?] ", " " * 9, text), said
-
-
 def explain(*words):
-    """The same of the map of a link, which another program has to print too."""
-    came = run(EXPLAIN, "-m", *words)
-    for other in MAP:
-        if came[2] == "":
-            same(f"{' '.join(words)}: by records", run(other, *words), by_records(*came))
-    return came
-
-
-def asks(*words):
-    """The map of a part of a link."""
+    """The same of the map of a link."""
     return run(EXPLAIN, "-m", *words)
 
 
@@ -273,7 +252,7 @@ def check_asked(what, dice, command, objects, whole):
     """The map of some names has what the objects have of these, after what becomes of the link. `command` has the options and the
     paths, and `whole` the status, the parts and the lines of the externals of the whole map."""
     words = [dice.choice(NAMES + ["_none", "_long_name", "_absent_name"]) for _ in range(dice.randrange(1, 6))]
-    status, text, errors = asks(*(it for word in words for it in ("-y", word)), *command)
+    status, text, errors = explain(*(it for word in words for it in ("-y", word)), *command)
     same(f"{what}: standard error of some names", errors, "")
     asked = {word[:8] for word in words}
     known = {name for given in objects for name, kind, _ in given.symbols if kind & 0o40} | ({"_forced"} if "-u" in command else set())
@@ -318,7 +297,7 @@ def check_addresses(what, options, paths, found, objects):
     ends = [int(line.split()[2], 8) for line in found["Segments"]]
     begins = [int(line.split()[1], 8) for line in found["Segments"]]
     asked = sorted({address for pair in zip(begins, ends) for address in range(pair[0], pair[1] + 2)})
-    status, text, _ = asks(*(it for address in asked for it in ("-y", f"{address:o}")), *options, *paths)
+    status, text, _ = explain(*(it for address in asked for it in ("-y", f"{address:o}")), *options, *paths)
     some = parts(text)
     bare = file_at("bare")
     rows = [(model_name(symbol), symbol.value) for symbol in bare.symbols if symbol.type == 0o44]
@@ -347,7 +326,7 @@ def check_object(what, dice, options, paths, found, names):
     """An object has its line of the whole map, the names that it defines with those that use them, and those that it needs with those
     that have them. `names` are the externals of the whole map."""
     path = dice.choice(paths)
-    some = parts(asks("-y", path, *options, *paths)[1])
+    some = parts(explain("-y", path, *options, *paths)[1])
     same(f"{what}: the line of {path}", some["Objects"][1:], [line for line in found["Objects"] if line.split()[-1] == path])
     symbols = OBJECTS[path].symbols
     for title, belongs, labels in (("Defines", lambda kind: kind & 0o37, ["used in"]),
@@ -511,8 +490,7 @@ def check_random(number):
     OBJECTS.clear()
     OBJECTS.update(zip(paths, objects))
     check_object(what, dice, options, paths, found, names)
-    if not MAP:
-        ASKED.append(check_addresses(what, options, paths, found, objects))
+    ASKED.append(check_addresses(what, options, paths, found, objects))
     check_asked(what, dice, options + paths, objects, (status, found, run(V7, "nm", "-g", "bare")[1].split("\n")[:-1]))
     return check_words(what, names, found, objects)
 
@@ -644,14 +622,14 @@ def all_refused():
 
 def with_change(old, new, check):
     """Does a check by maps in which a text is another one."""
-    global explain, asks
-    whole, part = explain, asks
+    global explain
+    whole = explain
     changed = lambda status, out, err: (status, out.replace(old, new), err)
-    explain, asks = lambda *words: changed(*whole(*words)), lambda *words: changed(*part(*words))
+    explain = lambda *words: changed(*whole(*words))
     try:
         check()
     finally:
-        explain, asks = whole, part
+        explain = whole
 
 
 def planted():
@@ -696,10 +674,6 @@ def main():
 
 
 if __name__ == "__main__":
-    V7, EXPLAIN, MAP = program("v7"), program("v7-explain"), [os.path.abspath(path) for path in sys.argv[1:2]]
-    LINKS = int(sys.argv[2]) if len(sys.argv) > 2 else 200
-    if MAP:
-        # libv7 shows text as plain instructions, and so no system calls
-        WORDS.remove(0o104404)
+    V7, EXPLAIN, LINKS = program("v7"), program("v7-explain"), 200
     with room():
         main()

@@ -78,6 +78,8 @@ WORDS = {"TextPart": "Text", "DataPart": "Data", "BssPart": "Bss", "SymbolsPart"
 # a field or a parameter that has another name in the code, since the name is a word of the language
 RENAMED = {"type_bits": "type", "data_words": "data"}
 IN_C = {"u8": "unsigned char", "u16": "uint16_t", "u32": "uint32_t", "u64": "uint64_t", "usize": "size_t", "[u8; 8]": "unsigned char[8]", "Slot": "void *"}
+# a parameter of a call of the code
+PARAMETER = re.compile(r"(\w+): ([^,)]+)")
 # the structs of the header, by their names in the code
 STRUCTS = {"Answer": "v7_answer", "Counts": "v7_counts", "FileHeader": "v7_header", "FindingPlace": "v7_finding_place", "Handle": "v7_session",
            "LimitRecord": "v7_map_limit", "MapAnswer": "v7_map", "MapHead": "v7_map_head", "NameRecord": "v7_map_name",
@@ -123,7 +125,7 @@ def declared_calls(texts):
     """Each call of the code, with its parameters, and what it returns as the last one: pairs of a name and a type."""
     found = [it for text in texts.values() for item in items(text) for it in functions(item) if 'extern "C"' in it.signature[0]]
     signatures = {it.name: " ".join(it.signature) for it in found}
-    return {name: [*((word, kind.strip()) for word, kind in re.findall(r"(\w+): ([^,)]+)", text) if kind != "Global"), ("", text.split("-> ")[1].split()[0])]
+    return {name: [*((word, kind.strip()) for word, kind in PARAMETER.findall(text) if kind != "Global"), ("", text.split("-> ")[1].split()[0])]
             for name, text in signatures.items()}
 
 

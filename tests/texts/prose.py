@@ -1,6 +1,6 @@
-"""Looks at the documents, the manual, v7.h, doc comments and scripts as a reader would. A path, a page, a heading, a target of make or a test
-that is named and is not there is an error, and so is a command of a document that no check runs. Habits of language that keep a reader
-out are shown, and no error.
+"""Looks at the documents and the manual as a reader would, and at what the code and its comments name. A path, a page, a heading, a
+target of make or a test that is named and is not there is an error. So are a link that leads nowhere, a document to which docs/README.md
+has no link, and a command of a document that no check runs. Habits of language that keep a reader out are shown, and no error.
 
 usage: python3 -m tests.texts.prose [FILE ..]     all documents of the repository, or these
 tier: text, 8 seconds; for: docs README.md CONTRIBUTING.md CHANGES.md man examples
@@ -42,7 +42,7 @@ NOT_IN_CI = "bench page lesson wheel dist install install-lib uninstall clean he
 
 def documents():
     """The documents, in the order in which they are read."""
-    return sorted(set(["README.md", "CHANGES.md"] + glob.glob("CONTRIBUTING.md") + glob.glob("docs/**/*.md", recursive=True)
+    return sorted(set(["README.md", "CHANGES.md", "CONTRIBUTING.md", "packaging/README.md"] + glob.glob("docs/**/*.md", recursive=True)
                       + glob.glob("examples/*.md") + glob.glob("crates/*/*.md") + glob.glob("t*s/**/README.md", recursive=True)))
 
 
@@ -99,24 +99,6 @@ def prose_of_manual(path, lines):
             yield Line(path, number, "" if text.startswith(".") else text)
 
 
-def prose_of_source(path, lines):
-    """Doc comments of Rattle, and the comments of a header for C. Code between them ends a sentence."""
-    inside, fenced = False, False
-    for number, text in enumerate(lines, 1):
-        if not path.endswith(".h"):
-            comment = re.match(r"\s*//[/!] ?(.*)|\s*-- ?(.*)", text)
-            shown = comment.group(1) or comment.group(2) or "" if comment else ""
-            fenced = fenced != shown.startswith("```") and bool(comment)
-            yield Line(path, number, "" if fenced or shown.startswith(("```", "    ")) else without_code(shown))
-            continue
-        begins = "/*" in text
-        if begins:
-            yield Line(path, number, "")
-        if inside or begins:
-            yield Line(path, number, re.sub(r"^[ /]*\*+ ?|\*/.*", "", text[text.find("/*"):] if begins else text))
-        inside = (inside or begins) and "*/" not in text
-
-
 def prose_of_script(path, lines):
     """Comments, and texts in three quotes that begin a file, a class or a function. How a script is called is code, and so is what is
     indented."""
@@ -131,13 +113,7 @@ def prose_of_script(path, lines):
 
 
 def prose_of(path, lines):
-    if path.endswith((".py", ".sh")):
-        return list(prose_of_script(path, lines))
-    if path.endswith(".md"):
-        return list(prose_of_markdown(path, lines))
-    if re.search(r"\.[1-9]$", path):
-        return list(prose_of_manual(path, lines))
-    return list(prose_of_source(path, lines))
+    return list({"md": prose_of_markdown, "py": prose_of_script, "sh": prose_of_script}.get(path.rpartition(".")[2], prose_of_manual)(path, lines))
 
 
 def sentences(lines):
@@ -172,6 +148,8 @@ def habits_in(lines):
             yield start, f"a sentence of {len(text.split())} words: write two", " ".join(text.split()[:6])
 
 
+INDEX = "docs/README.md"
+LINK = re.compile(r"\]\(([^)\s]+)\)(?:, \"([^\"]+)\")?")
 PATH = re.compile(r"(?<![\w./-])((?:docs|tests|tools|examples|crates|man|include|page|packaging|\.ci)/[\w./-]*\w)")
 PAGE = re.compile(r"\b(v7(?:-[a-z-]+)?)\((\d)\)")
 HEADING = re.compile(r"((?:docs/[\w/]+|README|CONTRIBUTING)\.md), \"([^\"]+)\"")
@@ -194,6 +172,34 @@ def dead_in(path, text):
     for target, heading in HEADING.findall(text):
         if os.path.exists(target) and not re.search(rf"^#+ {re.escape(heading)}", read(target), re.M):
             yield f"{target} has no heading \"{heading}\""
+
+
+def headings(path):
+    """The headings of a document, and the names that links know them by."""
+    names = re.findall(r"^#+ (.*)$", read(path), re.M)
+    return {*names, *(re.sub(r"[^\w\- ]", "", name.lower()).replace(" ", "-") for name in names)}
+
+
+def links_in(path, text):
+    """The files that the links of a text lead to, each with the headings that are named."""
+    for place, quoted in LINK.findall(text):
+        target, _, heading = place.partition("#")
+        if "://" not in place:
+            yield os.path.normpath(os.path.join(os.path.dirname(path), target)) if target else path, {heading, quoted} - {""}
+
+
+def dead_links(path, text):
+    for target, named in links_in(path, text):
+        if not os.path.exists(target):
+            yield f"no file {target}"
+        elif named and not named <= headings(target):
+            yield f"{target} has no heading {' or '.join(sorted(named))}"
+
+
+def not_indexed():
+    """The documents to which the first page has no link."""
+    known = {INDEX, "packaging/README.md", *(target for target, _ in links_in(INDEX, read(INDEX)))}
+    yield from (f"{INDEX}: no link to {path}" for path in documents() if path not in known)
 
 
 def make_targets():
@@ -258,6 +264,8 @@ def check_itself():
         same(f"{name}, in its examples", [bool(re.search(form, bad)), *(name for _, other, _, _ in HABITS if re.search(other, good))], [True])
     same("a long sentence", len(list(habits_in([Line("x.md", 1, "word " * LONGEST + "and one more.")]))), 1)
     same("dead links", len(set(dead_in("docs/A.md", "See [this](docs/missing.md), docs/also_missing.md and v7-none(1)."))), 3)
+    planted = 'A [link](MISSING.md), [another](LINK.md#missing), and [PROOFS](PROOFS.md), "No such heading".'
+    same("links that lead nowhere", len(list(dead_links("docs/A.md", planted))), 3)
     shown = ["    $ v7 nm a.o", "", "    make nothing", "", "Run `make other`, and `python3 -m tests none`."]
     same("commands that no check runs", len(list(commands_in("x.md", shown, set(), {"other"}, set()))), 4)
 
@@ -270,19 +278,20 @@ def faults_of(path, lines, checked, targets, run):
         for fault in sorted(set(dead_in(path, raw))):
             if not is_code or fault.endswith(".md"):
                 yield number, fault
-    # what was released had other commands
-    if path.endswith(".md") and path != "CHANGES.md":
-        yield from commands_in(path, lines, checked, targets, run)
+    if path.endswith(".md"):
+        yield from ((number, fault) for number, raw in enumerate(lines, 1) for fault in dead_links(path, raw))
+        # a package has no script that runs its examples
+        yield from commands_in(path, lines, checked | {"packaging/README.md"}, targets, run)
 
 
 def main(chosen):
     check_itself()
     paths = chosen or documents() + manual() + sources() + scripts()
     checked, (targets, run) = checked_documents(), make_targets()
-    faults = []
+    faults = [*not_indexed()]
     for path in paths:
         lines = read(path).splitlines()
-        for line, name, found in habits_in(prose_of(path, lines)):
+        for line, name, found in habits_in(prose_of(path, lines)) if path in documents() + manual() else []:
             print(f"shown: {line.place()}: {name}: {found}")
         faults += [f"{path}:{number}: {fault}" for number, fault in faults_of(path, lines, checked, targets, run)]
     print(*faults, f"{len(paths)} texts: {len(faults)} faults", sep="\n")
