@@ -318,7 +318,7 @@ def library_files(root):
     doc = f"{root}/usr/share/doc"
     shutil.copytree(f"{doc}/v7/licences", f"{doc}/libv7-0/licences")
     to = f"{doc}/libv7-dev"
-    examples = [*(f"examples/{folder}" for folder in ("c", "rust")), *sorted(glob.glob("examples/*.o"))]
+    examples = ["examples/c", *sorted(glob.glob("examples/*.o"))]
     installed.documents(to, [*installed.LIBRARY_DOCUMENTS, *examples], True)
     module = f"{root}/usr/lib/python3/dist-packages/v7"
     write(f"{module}/__init__.py", read_bytes("packaging/python/v7.py"))

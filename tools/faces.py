@@ -59,8 +59,6 @@ def texts_of(header):
     return {numbers[name]: text for name, text in re.findall(r'case (V7_\w+):\s*return "(.*?)";', header) if numbers[name]}
 
 
-# --- lines
-
 def filled(items, between=", ", start="", width=WIDTH):
     """Items on as few lines as hold them, each of which begins so."""
     lines = []
@@ -136,7 +134,9 @@ def rust_struct(name, fields, held):
     """A struct. One that holds a pointer is compared with no other; a session is not copied."""
     traits = "Debug" if name == "v7_session" else "Clone, Copy, Debug" + ("" if held else ", Default, PartialEq, Eq")
     rows = [f"pub {'r#' if field == 'type' else ''}{field}: {rust_type(kind, field)}" for kind, field in fields]
-    yield from [f"/// `struct {name}`", "#[repr(C)]", f"#[derive({traits})]", f"pub struct {camel(name)} {{", *filled(rows, start="    "), "}"]
+    only = f"pub struct {camel(name)} {{ {', '.join(rows)} }}"
+    lines = [only] if len(only) <= WIDTH else [f"pub struct {camel(name)} {{", *filled(rows, start="    "), "}"]
+    yield from [f"/// `struct {name}`", f"#[repr(C)] #[derive({traits})]", *lines]
 
 
 def rust_of(header):

@@ -9,7 +9,7 @@
 #
 # usage: CC=cc CXX=c++ CALLS=20000 tests/libv7/library.sh        with so many random calls
 #
-# tier: check, 300 seconds; programs: v7 v7-explain v7-object v7-from-gnu libv7.so; for: Makefile crates/v7_c crates/library_calls include packaging docs/LIBRARY.md man/v7.3 tests/libv7 examples/c examples/python examples/rust; needs: cc c++ pkg-config valgrind mypy venv rustc cargo
+# tier: check, 300 seconds; programs: v7 v7-explain v7-object v7-from-gnu libv7.so; for: Makefile crates/v7_c crates/library_calls include packaging docs/LIBRARY.md man/v7.3 tests/libv7 examples/c examples/python; needs: cc c++ pkg-config valgrind mypy venv rustc cargo
 set -u
 cd "$(dirname "$0")/../.."
 top=$PWD
@@ -207,7 +207,7 @@ run_shown() {
     echo "docs/LIBRARY.md: the commands of $1"
 }
 if has pkg-config; then
-    for program in cc python3 rustc; do
+    for program in cc python3; do
         has $program && run_shown $program
     done
 fi
@@ -298,11 +298,6 @@ if python3 -m venv fresh 2>/dev/null; then
     checks "Python, installed by pyproject.toml" "a session" env -u LD_LIBRARY_PATH fresh/bin/python wheel/session.py
 else
     echo "skipped: python3 has no venv"
-fi
-if has rustc; then
-    echo "$(rustc --version)"
-    rustc -O -o by_rust -L "$room/installed/lib" -l v7 "$top/examples/rust/link.rs" || exit 1
-    links Rust ./by_rust
 fi
 # the crates of Rust, in a copy, without any other crate
 if has cargo; then

@@ -33,7 +33,7 @@ WANTED = [
     ("v7 ld -e ma", []),
     ("v7 session ma", []),
     ("v7 nm squ", ["squares.gnu", "squares.s"]),
-    ("v7 size -x ru", ["rust"]),
+    ("v7 size -x to", ["total"]),
     ("v7-explain -o main", ["main.lst"]),
     ("v7-explain REA", ["README.md"]),
     ("v7-object main", ["main.lst"]),

@@ -13,7 +13,7 @@ import unittest
 from tests.lib.compare import notices, same
 from tests.lib.files import read
 
-COMMANDS = ("cc ", "c++ ", "python3 ", "rustc ")
+COMMANDS = ("cc ", "python3 ", "cargo ")
 # each kind of remark, a text of its line in the second writings, and a text of the manual on it
 REMARKS = """
 SHORT_HEADER: short header: how the file is damaged

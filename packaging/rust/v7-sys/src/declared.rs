@@ -62,117 +62,79 @@ pub const V7_FROM_PC: u16 = 1;
 pub const V7_UNDEFINED: u16 = 0; pub const V7_ABSOLUTE: u16 = 1; pub const V7_TEXT: u16 = 2; pub const V7_DATA: u16 = 3;
 pub const V7_BSS: u16 = 4; pub const V7_EXTERNAL: u16 = 32;
 /// `struct v7_answer`
-#[repr(C)]
-#[derive(Clone, Copy, Debug, Default, PartialEq, Eq)]
-pub struct Answer {
-    pub fault: u32, pub word: u32, pub place: usize, pub size: usize, pub report_size: usize
-}
+#[repr(C)] #[derive(Clone, Copy, Debug, Default, PartialEq, Eq)]
+pub struct Answer { pub fault: u32, pub word: u32, pub place: usize, pub size: usize, pub report_size: usize }
 /// `struct v7_remark`
-#[repr(C)]
-#[derive(Clone, Copy, Debug, Default, PartialEq, Eq)]
-pub struct Remark {
-    pub place: usize, pub text: usize, pub text_size: usize, pub kind: u32, pub part: u32, pub word: u32
-}
+#[repr(C)] #[derive(Clone, Copy, Debug, Default, PartialEq, Eq)]
+pub struct Remark { pub place: usize, pub text: usize, pub text_size: usize, pub kind: u32, pub part: u32, pub word: u32 }
 /// `struct v7_slice`
-#[repr(C)]
-#[derive(Clone, Copy, Debug)]
-pub struct Slice {
-    pub bytes: *const u8, pub size: usize
-}
+#[repr(C)] #[derive(Clone, Copy, Debug)]
+pub struct Slice { pub bytes: *const u8, pub size: usize }
 /// `struct v7_finding`
-#[repr(C)]
-#[derive(Clone, Copy, Debug, Default, PartialEq, Eq)]
-pub struct Finding {
-    pub name: Name, pub kind: u32
-}
+#[repr(C)] #[derive(Clone, Copy, Debug, Default, PartialEq, Eq)]
+pub struct Finding { pub name: Name, pub kind: u32 }
 /// `struct v7_finding_place`
-#[repr(C)]
-#[derive(Clone, Copy, Debug, Default, PartialEq, Eq)]
-pub struct FindingPlace {
-    pub first: Number, pub further: Number
-}
+#[repr(C)] #[derive(Clone, Copy, Debug, Default, PartialEq, Eq)]
+pub struct FindingPlace { pub first: Number, pub further: Number }
 /// `struct v7_map_head`
-#[repr(C)]
-#[derive(Clone, Copy, Debug, Default, PartialEq, Eq)]
+#[repr(C)] #[derive(Clone, Copy, Debug, Default, PartialEq, Eq)]
 pub struct MapHead {
     pub text_end: u64, pub data_start: u64, pub data_end: u64, pub bss_start: u64, pub bss_end: u64, pub place: usize, pub fault: u32,
     pub state: u32, pub magic: u16, pub entry_point: u16, pub entry_name: Name
 }
 /// `struct v7_map_object`
-#[repr(C)]
-#[derive(Clone, Copy, Debug, Default, PartialEq, Eq)]
+#[repr(C)] #[derive(Clone, Copy, Debug, Default, PartialEq, Eq)]
 pub struct MapObject {
     pub text: u64, pub data: u64, pub bss: u64, pub symbols: usize, pub text_size: u16, pub data_size: u16, pub bss_size: u16
 }
 /// `struct v7_map_name`
-#[repr(C)]
-#[derive(Clone, Copy, Debug, Default, PartialEq, Eq)]
+#[repr(C)] #[derive(Clone, Copy, Debug, Default, PartialEq, Eq)]
 pub struct MapName {
     pub name: Name, pub definer: Number, pub next_definer: Number, pub user: Number, pub state: u32, pub r#type: u16, pub value: u16
 }
 /// `struct v7_map_use`
-#[repr(C)]
-#[derive(Clone, Copy, Debug, Default, PartialEq, Eq)]
+#[repr(C)] #[derive(Clone, Copy, Debug, Default, PartialEq, Eq)]
 pub struct MapUse {
     pub address: u64, pub object: Number, pub name: usize, pub label: Name, pub kind: u32, pub offset: u16, pub line: u16, pub beyond: u16,
     pub is_labelled: u16
 }
 /// `struct v7_map_limit`
-#[repr(C)]
-#[derive(Clone, Copy, Debug, Default, PartialEq, Eq)]
-pub struct MapLimit {
-    pub used: u64, pub most: u64, pub kind: u32
-}
+#[repr(C)] #[derive(Clone, Copy, Debug, Default, PartialEq, Eq)]
+pub struct MapLimit { pub used: u64, pub most: u64, pub kind: u32 }
 /// `struct v7_map`
-#[repr(C)]
-#[derive(Clone, Copy, Debug)]
+#[repr(C)] #[derive(Clone, Copy, Debug)]
 pub struct Map {
     pub head: MapHead, pub object_count: usize, pub name_count: usize, pub use_count: usize, pub limit_count: usize,
     pub objects: *mut MapObject, pub object_room: usize, pub names: *mut MapName, pub name_room: usize, pub uses: *mut MapUse,
     pub use_room: usize, pub limits: *mut MapLimit, pub limit_room: usize
 }
 /// `struct v7_request`
-#[repr(C)]
-#[derive(Clone, Copy, Debug)]
+#[repr(C)] #[derive(Clone, Copy, Debug)]
 pub struct Request {
     pub size: usize, pub options: u32, pub wants: u32, pub entry: Slice, pub forced: Slice, pub objects: *const Slice,
     pub object_count: usize
 }
 /// `struct v7_result`
-#[repr(C)]
-#[derive(Clone, Copy, Debug)]
+#[repr(C)] #[derive(Clone, Copy, Debug)]
 pub struct Result {
     pub size: usize, pub fault: u32, pub word: u32, pub place: usize, pub file_size: usize, pub report_size: usize, pub file: *mut u8,
     pub file_room: usize, pub report: *mut u8, pub report_room: usize, pub finding_count: usize, pub findings: *mut Finding,
     pub finding_room: usize, pub place_count: usize, pub places: *mut FindingPlace, pub place_room: usize, pub map: Map
 }
 /// `struct v7_session`
-#[repr(C)]
-#[derive(Debug)]
-pub struct Session {
-    pub is_open: u32, pub state: *mut c_void
-}
+#[repr(C)] #[derive(Debug)]
+pub struct Session { pub is_open: u32, pub state: *mut c_void }
 /// `struct v7_word`
-#[repr(C)]
-#[derive(Clone, Copy, Debug, Default, PartialEq, Eq)]
-pub struct Word {
-    pub value: u16, pub reloc: u16
-}
+#[repr(C)] #[derive(Clone, Copy, Debug, Default, PartialEq, Eq)]
+pub struct Word { pub value: u16, pub reloc: u16 }
 /// `struct v7_symbol`
-#[repr(C)]
-#[derive(Clone, Copy, Debug, Default, PartialEq, Eq)]
-pub struct Symbol {
-    pub name: Name, pub r#type: u16, pub value: u16
-}
+#[repr(C)] #[derive(Clone, Copy, Debug, Default, PartialEq, Eq)]
+pub struct Symbol { pub name: Name, pub r#type: u16, pub value: u16 }
 /// `struct v7_counts`
-#[repr(C)]
-#[derive(Clone, Copy, Debug, Default, PartialEq, Eq)]
-pub struct Counts {
-    pub text: usize, pub data: usize, pub symbols: usize, pub bss: u32
-}
+#[repr(C)] #[derive(Clone, Copy, Debug, Default, PartialEq, Eq)]
+pub struct Counts { pub text: usize, pub data: usize, pub symbols: usize, pub bss: u32 }
 /// `struct v7_header`
-#[repr(C)]
-#[derive(Clone, Copy, Debug, Default, PartialEq, Eq)]
+#[repr(C)] #[derive(Clone, Copy, Debug, Default, PartialEq, Eq)]
 pub struct Header {
     pub magic: u16, pub text_size: u16, pub data_size: u16, pub bss_size: u16, pub symbol_size: u16, pub entry_point: u16, pub unused: u16,
     pub flag: u16
