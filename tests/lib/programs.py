@@ -47,7 +47,9 @@ class Library:
     """The module of libv7: the library beside the programs, unless LIBV7 names another. It is loaded when it is first used."""
 
     def __getattr__(self, name):
-        os.environ.setdefault("LIBV7", os.path.join(BUILD, "libv7.so"))
+        path = os.environ.setdefault("LIBV7", os.path.join(BUILD, "libv7.so"))
+        if not os.path.exists(path):
+            sys.exit(f"{path} is missing: make lib proves it; or, after make quick: V7_BUILD=build/quick")
         return getattr(importlib.import_module("v7"), name)
 
 
