@@ -14,6 +14,8 @@ set -u
 cd "$(dirname "$0")/../.."
 top=$PWD
 build=$(realpath "${V7_BUILD:-build}")
+V7_BUILD=$build
+export V7_BUILD
 : "${CC:=cc}" "${CXX:=c++}"
 room=$(mktemp -d)
 trap 'rm -rf "$room"' EXIT
