@@ -8,7 +8,7 @@
 #: make install               `make install-lib` and `make uninstall` too: what was built; `make clean` removes it
 #:
 #: make which CHANGED=PATH    which tests and crates a change concerns; or SINCE=COMMIT                    Python       seconds
-#: make check-text            texts, names, limits and quotes, compared with the code                      Python, cc   1 minute
+#: make check-text            texts, names, limits and quotes, compared with the code                      Python       1 minute
 #: make test                  cases and tests with programs that are not proved                            kit          5 minutes
 #: make gate                  proves everything, and tries the wrong bodies of must-fail/                  kit          60 minutes
 #: make check                 all that CI runs: the gate, and tests of the proved programs                 tools/needs  90 minutes
