@@ -50,11 +50,6 @@ CALLED = re.compile(r"`([^`]+)`")
 OPEN = re.compile(r"it is not proved that .*?\(`([^`]+)`\)")
 # the way to a return in the name of its goal, as `then-one-other` in `returns-then-one-other-clause-first`
 WAY = re.compile(r"^returns.*?(?=-clause-|$)")
-# what is between two words of a source, and what has to stay as it is: a text, a character, and a comment after code
-BETWEEN = re.compile(r"""(?P<blank>\s*\n\s*(?://[^\n]*(?:\n\s*|\Z))*|\s+)
-    |\bb?r(?P<marks>\#*)".*?"(?P=marks)|"(?:\\.|[^"\\])*"|'(?:\\.[^'\n]*|[^'\\\n])'|(?://|--)[^\n]*""", re.S | re.X)
-# names that are imported from below one path
-IMPORTS = re.compile(r"^((?:pub )?use \S+\.)\{([^}]*)\}$")
 
 
 def plain(text):
@@ -416,53 +411,18 @@ def has_libraries(crates, place):
 
 
 def without_comments(text):
-    """A text of definitions without the lines that are comments: no contract is weaker for these."""
+    """A text without the lines that are comments: no contract is weaker for these."""
     return "\n".join(line for line in text.split("\n") if not re.match(r"\s*(//|--)", line))
 
 
-def on_one_blank(text):
-    """A text of code with one blank for what is between two words: blanks, line ends and lines of comments; and with nothing for that
-    after `(` or before `)`. So a line that is broken says the same. Texts and characters stay as they are, and a comment after code
-    goes to the end of its line as before."""
-    def plain(found):
-        around = found.string[found.start() - 1:found.start()], found.string[found.end():found.end() + 1]
-        if found["blank"]:
-            return "" if around[0] == "(" or around[1] == ")" else " "
-        return f"{found[0]}\n" if found[0].startswith(("//", "--")) else found[0]
-    return BETWEEN.sub(plain, f"\n{text}").strip()
-
-
-def on_one_line(text):
-    """A text of definitions with each statement on one line, and each name that is imported, sorted: the same however imports are put
-    together. What begins four columns or more to the right of a statement goes on with it there, so a line that is broken says the
-    same."""
-    lines, imported, begun = [], [], 0
-    for line in filter(str.strip, text.split("\n")):
-        found = IMPORTS.match(line)
-        if found:
-            imported += [found[1] + name.strip() for name in found[2].split(",")]
-            continue
-        depth = len(line) - len(line.lstrip())
-        if lines and depth >= begun + 4:
-            lines[-1] += " " + line.strip()
-            continue
-        lines.append(line)
-        begun = depth
-    return "\n".join(sorted(imported) + lines)
-
-
 def digest(crate):
-    """The digest of the code and the definitions of a crate, without comments and wherever lines are broken, and of its edits."""
+    """The digest of the code and the definitions of a crate, without comments, and of its edits."""
     whole = hashlib.sha256()
     paths = [f"{at}/{file}" for part in ("src", "specs") for at, _, files in os.walk(f"crates/{crate}/{part}") for file in files]
     texts = [(os.path.relpath(path, f"crates/{crate}"), edits.read(path)) for path in paths]
     texts += [(f"edits/{body.name}", body.text) for body in edits.edits_of(crate)]
     for name, text in sorted(texts):
-        if name.endswith(".rt"):
-            text = on_one_blank(text)
-        elif name.endswith(".antt"):
-            text = on_one_line(without_comments(text))
-        whole.update(f"{name}\n{text}\n".encode())
+        whole.update(f"{name}\n{without_comments(text)}\n".encode())
     return whole.hexdigest()
 
 

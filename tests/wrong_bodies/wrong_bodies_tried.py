@@ -114,34 +114,6 @@ proofs/no_smaller/Answers.antt:5:1: error: `returns-then-first-second`: `Goals` 
 src/lib.rt:{line}:9: it is not proved that what the function ensures holds when it returns (`returns-then-second-first`)
 logic=failed
 """
-# lines that are broken: a file, and the text before and after
-BROKEN = [
-    (SUMS, "other = one", "other =\n    one"),
-    (SUMS, "{ℕ, ", "{ℕ}\nuse Rattle.std.specs.Prelude.{"),
-    (LIB, "{ result ≡ number + number }", "{ result\n        ≡ number + number }"),
-]
-# sources, and whether two of them say the same
-SOURCES = [
-    ("a(b, c)\n", "a(b,\n        c)", True),
-    ("a\n    // b\n    /// c\nd", "a d", True),
-    ("//! a\nb", "b\n// c", True),
-    ("a(\n    b c\n)", "a(b c)", True),
-    ("a - b", "a-b", False),
-    ("a (b)", "a(b)", False),
-    ("'(' a", "'('a", False),
-    ("a // (\n b", "a // ( b", False),
-    ("a; // b\nc;", "a; // b c;", False),
-    ("{ a -- b\n c }", "{ a -- b c }", False),
-    ("a\n--b", "a\n--c", False),
-    ('"a\n  // b"', '"a\n  // c"', False),
-    ('"a  b"', '"a b"', False),
-    ('"\\"  a"', '"\\" a"', False),
-    ("'\"' + \"a  b\"", "'\"' + \"a b\"", False),
-    ("'\\'' + \"'a  b\"", "'\\'' + \"'a b\"", False),
-    ("<'a> + \"b'  c\"", "<'a> + \"b' c\"", False),
-    ('r#"a  "b"#', 'r#"a "b"#', False),
-    ("a + b' '", "a + b''", False),
-]
 
 
 def write_crate():
@@ -197,18 +169,6 @@ def faults_of_digests():
         write(f"crates/tried/{path}", read(f"crates/tried/{path}") + f"{comment}\n")
         if shown_as_changed(f"tried {digest}\n"):
             yield f"a comment of {path} is not a change"
-    for path, old, new in BROKEN:
-        text = read(f"crates/tried/{path}")
-        write(f"crates/tried/{path}", text.replace(old, new))
-        if text.count(old) != 1 or shown_as_changed(f"tried {digest}\n"):
-            yield f"a line that is broken is not a change: {new!r}"
-    for one, other, are_alike in SOURCES:
-        if (wrong_bodies.on_one_blank(one) == wrong_bodies.on_one_blank(other)) != are_alike:
-            yield f"{one!r} and {other!r} {'say the same' if are_alike else 'differ'}"
-    text = read(f"crates/tried/{SUMS}")
-    write(f"crates/tried/{SUMS}", text.replace("\n  one = 1", "\none = 1"))
-    if shown_as_changed(f"tried {digest}\n") != ["tried"]:
-        yield "a statement that begins at another column is a change"
     os.remove(wrong_bodies.SEEN)
     if wrong_bodies.have_changed() != ["tried"]:
         yield "without the file each crate is one that has changed"
