@@ -288,14 +288,14 @@ fi
 unset LIBV7
 # the wheel, in an environment that has nothing else
 if python3 -m venv fresh 2>/dev/null; then
-    (cd "$top" && python3 packaging/python/backend.py "$room" >/dev/null) || fail "Python: no wheel is made"
+    (cd "$top" && python3 packaging/python/backend.py "$room" "$build/libv7.so.0" >/dev/null) || fail "Python: no wheel is made"
     mkdir wheel
     cp "$top"/examples/python/*.py wheel
     python3 -m tests.libv7.wheel v7-*.whl || fail "Python: the wheel is not as an index wants it"
     fresh/bin/pip install -q --no-index --disable-pip-version-check v7-*.whl || fail "Python: the wheel is not installed"
     links "Python, from the wheel" "env -u LD_LIBRARY_PATH fresh/bin/python wheel/link.py"
     checks "Python, from the wheel" "a session" env -u LD_LIBRARY_PATH fresh/bin/python wheel/session.py
-    fresh/bin/pip install -q --no-index --disable-pip-version-check --force-reinstall "$top/packaging/python" ||
+    fresh/bin/pip install -q --no-index --disable-pip-version-check --force-reinstall --config-settings="library=$build/libv7.so.0" "$top/packaging/python" ||
         fail "Python: packaging/python is not installed by pip"
     checks "Python, installed by pyproject.toml" "a session" env -u LD_LIBRARY_PATH fresh/bin/python wheel/session.py
 else
