@@ -218,9 +218,8 @@ class Header(NamedTuple):
 # what the faults of v7.h mean: from a number on, one text after another
 _TEXTS = {
     1: "no such option or form; options exclude each other; the name of the entry point has more than 8 bytes; the size of the forced "
-    "names is not a multiple of 8; more than 64 names are forced; too many words, bytes of bss or symbols",
-    8: "no session, or one already",
-    11: "short header; bad magic number; odd size; truncated",
+    "names is not a multiple of 8; more than 64 names are forced; too many words, bytes of bss or symbols; a struct is too short; no session; "
+    "no such want; a session already; short header; bad magic number; odd size; truncated",
     21: "not an object; no relocation; bad relocation; bad symbol number",
     31: "text full; data full; bss full; names full; nothing to withdraw",
     41: "does not fit; too many symbols; symbol number too large",
