@@ -98,7 +98,7 @@ install-lib: $(FROM)/libv7.so
 	cp $(FROM)/libv7.a $(FROM)/$(SOFILE) $(STAGE)$(LIBDIR)
 	ln -sf $(SOFILE) $(STAGE)$(LIBDIR)/$(SONAME)
 	ln -sf $(SONAME) $(STAGE)$(LIBDIR)/libv7.so
-	cp include/v7.h include/v7.hpp $(STAGE)$(INCLUDEDIR)
+	cp include/v7.h $(STAGE)$(INCLUDEDIR)
 	sed -e 's|@PREFIX@|$(PREFIX)|' -e 's|@LIBDIR@|$(LIBDIR)|' -e 's|@INCLUDEDIR@|$(INCLUDEDIR)|' -e 's|@VERSION@|$(VERSION)|' \
 		packaging/v7.pc.in >$(STAGE)$(LIBDIR)/pkgconfig/v7.pc
 	cp man/*.3 $(STAGE)$(PREFIX)/share/man/man3

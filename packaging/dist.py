@@ -134,7 +134,7 @@ def provenance(release, place):
     ours, kits = release.crates()
     built = sorted(f"bin/{name}" for name in PROGRAMS.values())
     sums = [f"{digest(f'{place}/{path}')}  {path}" for path in built]
-    sums += [f"{digest(f'{place}/library/usr/{path}')}  {path}" for path in ("include/v7.h", "include/v7.hpp", "lib/libv7.a")]
+    sums += [f"{digest(f'{place}/library/usr/{path}')}  {path}" for path in ("include/v7.h", "lib/libv7.a")]
     sums.append(f"{digest(shared(place))}  lib/{os.path.basename(shared(place))}")
     verdicts = [f"    {name}: {read(f'{KEPT}/{name}.verdict').strip()}" for name in ours]
     parts = [
@@ -318,7 +318,7 @@ def library_files(root):
     doc = f"{root}/usr/share/doc"
     shutil.copytree(f"{doc}/v7/licences", f"{doc}/libv7-0/licences")
     to = f"{doc}/libv7-dev"
-    examples = [*(f"examples/{folder}" for folder in ("c", "cpp", "rust")), *sorted(glob.glob("examples/*.o"))]
+    examples = [*(f"examples/{folder}" for folder in ("c", "rust")), *sorted(glob.glob("examples/*.o"))]
     installed.documents(to, [*installed.LIBRARY_DOCUMENTS, *examples], True)
     module = f"{root}/usr/lib/python3/dist-packages/v7"
     write(f"{module}/__init__.py", read_bytes("packaging/python/v7.py"))

@@ -41,36 +41,101 @@ _PATH = os.environ.get("LIBV7") or (_BESIDE if os.path.exists(_BESIDE) else "lib
 _LIBRARY = ctypes.CDLL(_PATH)
 # calls on a session that is kept: no other thread of Python runs during one
 _KEEPING = ctypes.PyDLL(_PATH)
-_NO_ROOM = 60
 # a number that stands for no object
 _NO_OBJECT = ctypes.c_size_t(-1).value
-_REPORT, _FINDINGS, _PLACES, _MAP = 1, 2, 4, 8
 
-# options of a link
-RELOCATABLE, STRIP, EXTERNALS, NOT_L, PURE, SPLIT, FORCE_COMMONS = (1 << bit for bit in range(7))
-# options of nm
-NM_EXTERNAL, NM_BY_VALUE, NM_TABLE_ORDER, NM_REVERSE, NM_UNDEFINED = (1 << bit for bit in range(5))
-# type words: one of these, and EXTERNAL if other objects see the name
-UNDEFINED, ABSOLUTE, TEXT, DATA, BSS, EXTERNAL = 0, 1, 2, 3, 4, 0o40
-# relocation words: one of these or of `refers_to`, and FROM_PC added if the word is relative to the pc
-NUMBER, FROM_PC, IN_TEXT, IN_DATA, IN_BSS = 0, 1, 2, 4, 6
-# the parts of an object: the word of a fault if one is too long
+
+def _struct(*fields: Tuple[Any, str]) -> Any:
+    """A struct of C: types, each with the names of its fields. The fields of a struct `map` are its own too."""
+    named = [(name, kind) for kind, names in fields for name in names.split()]
+    return type("Struct", (ctypes.Structure,), {"_anonymous_": [name for name, _ in named if name == "map"], "_fields_": named})
+
+
+_U16, _U32, _U64, _SIZE, _NAME = ctypes.c_uint16, ctypes.c_uint32, ctypes.c_uint64, ctypes.c_size_t, ctypes.c_ubyte * 8
+
+# from include/v7.h, by tools/faces.py
+# enum v7_part
 TEXT_PART, DATA_PART, BSS_PART, SYMBOLS_PART = 1, 2, 3, 4
-# options of a conversion from GNU's form
+# enum v7_nm_option
+NM_EXTERNAL, NM_BY_VALUE, NM_TABLE_ORDER, NM_REVERSE, NM_UNDEFINED = 1, 2, 4, 8, 16
+# enum v7_link_option
+RELOCATABLE, STRIP, EXTERNALS, NOT_L, PURE, SPLIT, FORCE_COMMONS = 1, 2, 4, 8, 16, 32, 64
+# enum v7_relocation
+NUMBER, IN_TEXT, IN_DATA, IN_BSS, FROM_PC = 0, 2, 4, 6, 1
+# enum v7_segment
+UNDEFINED, ABSOLUTE, TEXT, DATA, BSS, EXTERNAL = 0, 1, 2, 3, 4, 32
+# enum v7_gnu_option
 DROP_DEBUGGER, DROP_UNUSED, DROP_LOCALS = 1, 2, 4
-# kinds of remarks: the first seven are wrong, and the last six suspicious
-REMARK_SHORT_HEADER, REMARK_BAD_MAGIC, REMARK_ODD_SIZE, REMARK_TRUNCATED, REMARK_BAD_RELOCATION, REMARK_BAD_SYMBOL_NUMBER = range(1, 7)
-REMARK_MORE_BAD_WORDS, REMARK_IGNORED_ENTRY, REMARK_IGNORED_WORD, REMARK_BYTES_AFTER_TABLE, REMARK_IGNORED_RELOCATION_BITS = range(7, 12)
-REMARK_OUTSIDE_REFERENCE, REMARK_EMPTY_NAME, REMARK_UNPRINTABLE_NAME, REMARK_BYTES_AFTER_NAME, REMARK_REPEATED_NAME = range(12, 17)
-REMARK_IGNORED_TYPE_BITS, REMARK_UNKNOWN_TYPE, REMARK_ODD_COMMON, REMARK_OUTSIDE_VALUE, REMARK_RELOCATED_FIRST_WORD = range(17, 22)
-REMARK_UNSUITABLE_PC_BIT, REMARK_CUT_INSTRUCTION, REMARK_NO_INSTRUCTION, REMARK_BRANCH_OUTSIDE, REMARK_BRANCH_WITHIN = range(22, 27)
-REMARK_UNSUITABLE_REFERENCE, REMARK_UNSUITABLE_ADDRESS, REMARK_ABSOLUTE_TEXT = range(27, 30)
-# why a name is reported
+# enum v7_remark_kind
+REMARK_SHORT_HEADER, REMARK_BAD_MAGIC, REMARK_ODD_SIZE, REMARK_TRUNCATED, REMARK_BAD_RELOCATION, REMARK_BAD_SYMBOL_NUMBER = 1, 2, 3, 4, 5, 6
+REMARK_MORE_BAD_WORDS, REMARK_IGNORED_ENTRY, REMARK_IGNORED_WORD, REMARK_BYTES_AFTER_TABLE, REMARK_IGNORED_RELOCATION_BITS = 7, 8, 9, 10, 11
+REMARK_OUTSIDE_REFERENCE, REMARK_EMPTY_NAME, REMARK_UNPRINTABLE_NAME, REMARK_BYTES_AFTER_NAME, REMARK_REPEATED_NAME = 12, 13, 14, 15, 16
+REMARK_IGNORED_TYPE_BITS, REMARK_UNKNOWN_TYPE, REMARK_ODD_COMMON, REMARK_OUTSIDE_VALUE, REMARK_RELOCATED_FIRST_WORD = 17, 18, 19, 20, 21
+REMARK_UNSUITABLE_PC_BIT, REMARK_CUT_INSTRUCTION, REMARK_NO_INSTRUCTION, REMARK_BRANCH_OUTSIDE, REMARK_BRANCH_WITHIN = 22, 23, 24, 25, 26
+REMARK_UNSUITABLE_REFERENCE, REMARK_UNSUITABLE_ADDRESS, REMARK_ABSOLUTE_TEXT = 27, 28, 29
+# enum v7_finding_kind
 MULTIPLY_DEFINED, RESERVED_NAME, ENTRY_NOT_IN_TEXT, UNDEFINED_NAME = 1, 2, 3, 4
-# of a name in a map, and of its uses
+# enum v7_map_name_state
 NAME_IS_PLACED, NAME_IS_UNDEFINED, NAME_IS_MULTIPLE = 1, 2, 4
-DEFINES, MAKES_COMMON, WANTS, FORCES, TEXT_WORD, DATA_WORD = range(1, 7)
-LIMIT_TEXT, LIMIT_DATA, LIMIT_BSS, LIMIT_END, LIMIT_SYMBOLS, LIMIT_NUMBER, LIMIT_NAMES = range(1, 8)
+# enum v7_map_use_kind
+DEFINES, MAKES_COMMON, WANTS, FORCES, TEXT_WORD, DATA_WORD = 1, 2, 3, 4, 5, 6
+# enum v7_map_limit_kind
+LIMIT_TEXT, LIMIT_DATA, LIMIT_BSS, LIMIT_END, LIMIT_SYMBOLS, LIMIT_NUMBER, LIMIT_NAMES = 1, 2, 3, 4, 5, 6, 7
+# enum v7_want
+_REPORT, _FINDINGS, _PLACES, _MAP = 1, 2, 4, 8
+# enum v7_form
+_LINES, _JSON = 0, 1
+_NO_ROOM = 60
+# what the faults mean
+FAULTS: Dict[int, str] = {
+    1: "no such option or form", 2: "options exclude each other", 3: "the name of the entry point has more than 8 bytes",
+    4: "the size of the forced names is not a multiple of 8", 5: "more than 64 names are forced",
+    6: "too many words, bytes of bss or symbols", 7: "a struct is too short", 8: "no session", 9: "no such want", 10: "a session already",
+    11: "short header", 12: "bad magic number", 13: "odd size", 14: "truncated", 21: "not an object", 22: "no relocation",
+    23: "bad relocation", 24: "bad symbol number", 31: "text full", 32: "data full", 33: "bss full", 34: "names full",
+    35: "nothing to withdraw", 41: "does not fit", 42: "too many symbols", 43: "symbol number too large", 50: "no memory", 60: "no room",
+    61: "a column is missing", 62: "not an octal number", 63: "over 177777", 64: "bad byte in a name", 65: "the address does not follow",
+    66: "the number does not follow", 67: "more than 32767 words", 68: "more than 5461 symbols", 69: "text, data or symbols is missing",
+    70: "unknown word", 71: "text, data and symbols are not in this order", 72: "magic and flag come before text, data and symbols",
+    73: "only symbols can follow symbols", 74: "no such magic number", 75: "odd size of bss", 76: "more than 8 bytes in a name",
+    77: "one number too many", 81: "the strings have a length under 4", 82: "a symbol belongs to an overlay",
+    83: "a symbol has its name at no place of the strings", 84: "a symbol is for a debugger",
+    85: "a symbol has a description, and is not for a debugger", 86: "a linked program", 87: "two names are equal in eight bytes",
+    88: "a word refers to a symbol for a debugger", 89: "a word refers to a local that is dropped",
+}
+_Answer = _struct((_U32, "fault word"), (_SIZE, "place size report_size"))
+_Remark = _struct((_SIZE, "place text text_size"), (_U32, "kind part word"))
+_Slice = _struct((ctypes.c_char_p, "bytes"), (_SIZE, "size"))
+_Finding = _struct((_NAME, "name"), (_U32, "kind"))
+_FindingPlace = _struct((_SIZE, "first further"))
+_MapHead = _struct(
+    (_U64, "text_end data_start data_end bss_start bss_end"), (_SIZE, "place"), (_U32, "fault state"), (_U16, "magic entry_point"),
+    (_NAME, "entry_name"),
+)
+_MapObject = _struct((_U64, "text data bss"), (_SIZE, "symbols"), (_U16, "text_size data_size bss_size"))
+_MapName = _struct((_NAME, "name"), (_SIZE, "definer next_definer user"), (_U32, "state"), (_U16, "type value"))
+_MapUse = _struct((_U64, "address"), (_SIZE, "object name"), (_NAME, "label"), (_U32, "kind"), (_U16, "offset line beyond is_labelled"))
+_MapLimit = _struct((_U64, "used most"), (_U32, "kind"))
+_Map = _struct(
+    (_MapHead, "head"), (_SIZE, "object_count name_count use_count limit_count"), (ctypes.c_void_p, "objects"), (_SIZE, "object_room"),
+    (ctypes.c_void_p, "names"), (_SIZE, "name_room"), (ctypes.c_void_p, "uses"), (_SIZE, "use_room"), (ctypes.c_void_p, "limits"),
+    (_SIZE, "limit_room"),
+)
+_Request = _struct(
+    (_SIZE, "size"), (_U32, "options wants"), (_Slice, "entry forced"), (ctypes.POINTER(_Slice), "objects"), (_SIZE, "object_count"),
+)
+_Result = _struct(
+    (_SIZE, "size"), (_U32, "fault word"), (_SIZE, "place file_size report_size"), (ctypes.c_void_p, "file"), (_SIZE, "file_room"),
+    (ctypes.c_void_p, "report"), (_SIZE, "report_room finding_count"), (ctypes.c_void_p, "findings"), (_SIZE, "finding_room place_count"),
+    (ctypes.c_void_p, "places"), (_SIZE, "place_room"), (_Map, "map"),
+)
+_Session = _struct((_U32, "is_open"), (ctypes.c_void_p, "state"))
+_Word = _struct((_U16, "value reloc"))
+_Symbol = _struct((_NAME, "name"), (_U16, "type value"))
+_Counts = _struct((_SIZE, "text data symbols"), (_U32, "bss"))
+_Header = _struct((_U16, "magic text_size data_size bss_size symbol_size entry_point unused flag"))
+# end of what is from include/v7.h
+_RECORDS = {"objects": _MapObject, "names": _MapName, "uses": _MapUse, "limits": _MapLimit}
 
 Word = Tuple[int, int]
 Symbol = Tuple[str, int, int]
@@ -213,58 +278,6 @@ class Header(NamedTuple):
     entry_point: int
     unused: int
     flag: int
-
-
-# what the faults of v7.h mean: from a number on, one text after another
-_TEXTS = {
-    1: "no such option or form; options exclude each other; the name of the entry point has more than 8 bytes; the size of the forced "
-    "names is not a multiple of 8; more than 64 names are forced; too many words, bytes of bss or symbols; a struct is too short; no session; "
-    "no such want; a session already; short header; bad magic number; odd size; truncated",
-    21: "not an object; no relocation; bad relocation; bad symbol number",
-    31: "text full; data full; bss full; names full; nothing to withdraw",
-    41: "does not fit; too many symbols; symbol number too large",
-    50: "no memory",
-    60: "no room; a column is missing; not an octal number; over 177777; bad byte in a name; the address does not follow; the number does "
-    "not follow; more than 32767 words; more than 5461 symbols; text, data or symbols is missing; unknown word; text, data and symbols "
-    "are not in this order; magic and flag come before text, data and symbols; only symbols can follow symbols; no such magic number; "
-    "odd size of bss; more than 8 bytes in a name; one number too many",
-    81: "the strings have a length under 4; a symbol belongs to an overlay; a symbol has its name at no place of the strings; a symbol is "
-    "for a debugger; a symbol has a description, and is not for a debugger; a linked program; two names are equal in eight bytes; a "
-    "word refers to a symbol for a debugger; a word refers to a local that is dropped",
-}
-FAULTS: Dict[int, str] = {first + place: text for first, texts in _TEXTS.items() for place, text in enumerate(texts.split("; "))}
-
-
-def _struct(*fields: Tuple[Any, str]) -> Any:
-    """A struct of C: types, each with the names of its fields. The fields of a struct `map` are its own too."""
-    named = [(name, kind) for kind, names in fields for name in names.split()]
-    return type("Struct", (ctypes.Structure,), {"_anonymous_": [name for name, _ in named if name == "map"], "_fields_": named})
-
-
-_U16, _U32, _U64, _SIZE, _ROOM, _NAME = ctypes.c_uint16, ctypes.c_uint32, ctypes.c_uint64, ctypes.c_size_t, ctypes.c_void_p, ctypes.c_ubyte * 8
-_Word = _struct((_U16, "value reloc"))
-_Symbol = _struct((_NAME, "name"), (_U16, "type value"))
-_Slice = _struct((ctypes.c_char_p, "bytes"), (_SIZE, "size"))
-_Finding = _struct((_NAME, "name"), (_U32, "kind"))
-_FindingPlace = _struct((_SIZE, "first further"))
-_Remark = _struct((_SIZE, "place text text_size"), (_U32, "kind part word"))
-_Header = _struct((_U16, " ".join(Header._fields)))
-_Counts = _struct((_SIZE, "text data symbols"), (_U32, "bss"))
-_Answer = _struct((_U32, "fault word"), (_SIZE, "place size report_size"))
-_Session = _struct((_U32, "is_open"), (ctypes.c_void_p, "state"))
-_Request = _struct((_SIZE, "size"), (_U32, "options wants"), (_Slice, "entry forced"), (ctypes.POINTER(_Slice), "objects"), (_SIZE, "object_count"))
-_HEAD = ((_SIZE, "place"), (_U32, "fault state"), (_U16, "magic entry_point"), (_NAME, "entry_name"))
-_MapHead = _struct((_U64, "text_end data_start data_end bss_start bss_end"), *_HEAD)
-_MapObject = _struct((_U64, "text data bss"), (_SIZE, "symbols"), (_U16, "text_size data_size bss_size"))
-_MapName = _struct((_NAME, "name"), (_SIZE, "definer next_definer user"), (_U32, "state"), (_U16, "type value"))
-_MapUse = _struct((_U64, "address"), (_SIZE, "object name"), (_NAME, "label"), (_U32, "kind"), (_U16, "offset line beyond is_labelled"))
-_MapLimit = _struct((_U64, "used most"), (_U32, "kind"))
-_RECORDS = {"objects": _MapObject, "names": _MapName, "uses": _MapUse, "limits": _MapLimit}
-_ROOMS = (field for name in _RECORDS for field in ((_ROOM, name), (_SIZE, f"{name[:-1]}_room")))
-_Map = _struct((_MapHead, "head"), (_SIZE, "object_count name_count use_count limit_count"), *_ROOMS)
-_FILES = ((_SIZE, "file_size report_size"), (_ROOM, "file"), (_SIZE, "file_room"), (_ROOM, "report"), (_SIZE, "report_room"))
-_LISTS = ((_SIZE, "finding_count"), (_ROOM, "findings"), (_SIZE, "finding_room place_count"), (_ROOM, "places"), (_SIZE, "place_room"))
-_Result = _struct((_SIZE, "size"), (_U32, "fault word"), (_SIZE, "place"), *_FILES, *_LISTS, (_Map, "map"))
 
 
 class Fault(Exception):
@@ -582,7 +595,8 @@ class _Run:
         return Program(self.status, self.file, self.report)
 
     def found(self) -> Found:
-        multiples, reserved, entries, undefined = ([_name(name) for name, of in self.findings if of == kind] for kind in range(1, 5))
+        kinds = MULTIPLY_DEFINED, RESERVED_NAME, ENTRY_NOT_IN_TEXT, UNDEFINED_NAME
+        multiples, reserved, entries, undefined = ([_name(name) for name, of in self.findings if of == kind] for kind in kinds)
         return Found(self.status, self.file, Findings(multiples, reserved, entries[0] if entries else None, undefined))
 
     def placed(self) -> List[Finding]:
@@ -739,8 +753,6 @@ class Session:
     nothing to withdraw
     """
 
-    _LINES, _JSON = 0, 1
-
     def __init__(self, objects: Iterable[bytes] = (), entry: str = "", forced: Iterable[str] = ()) -> None:
         self._handle = _Session()
         self.entry, self.forced = entry, tuple(_items("forced", forced))
@@ -796,11 +808,11 @@ class Session:
 
     def text(self) -> str:
         """What is there, as lines: the words, the names, and what the last addition overwrote."""
-        return self._shown(self._LINES)
+        return self._shown(_LINES)
 
     def state(self) -> Dict[str, Any]:
         """The same as a dict: of `objects`, `text`, `data`, `bss`, `externals`, `multiples` and `marks`, as v7(3) has them."""
-        return dict(json.loads(self._shown(self._JSON)))
+        return dict(json.loads(self._shown(_JSON)))
 
     def _call(self, name: str, *words: Any) -> None:
         answer = _Answer()

@@ -324,8 +324,6 @@ class Reader:
 TAKEN_BY = {"--": Reader.take_end, "$": Reader.take_command, "<": Reader.take_text, ">": Reader.take_text, "!": Reader.take_text,
             "|": Reader.take_block, "object*": Reader.take_objects, "asked": Reader.take_asked,
             **dict.fromkeys(FORMS, Reader.take_form)}
-# all words and marks at the front of a line
-WORDS = ("#", "case", *TAKEN_BY)
 
 
 def check_line(line, text):

@@ -7,8 +7,7 @@ usage: python3 -m tests.cases.planted [BUG ..]    tries the bugs of all rows, or
        python3 -m tests.cases.planted -c          looks only whether each edit fits the code, and the table the edits and the cases
 
 A bug CRATE/NAME is an edit of the crate that the prover refuses, as tests/wrong_bodies/edits.py finds it. Any other is an edit of
-tests/cases/planted/, with the path from the top. The rows of tests/programs/largest.py and tests/libv7/largest_library.py count as
-cases, and so do tests/page/page_data.py and tests/programs/terminal.py. The bug is made in a copy of the sources, and programs are compiled there with no proof: those that use its
+tests/cases/planted/, with the path from the top. The rows of tests/programs/largest.py count as cases, and so do tests/page/page_data.py and tests/programs/terminal.py. The bug is made in a copy of the sources, and programs are compiled there with no proof: those that use its
 crate, one after another, as long as a case that the row names does not fail. The other programs are those without a bug, in
 build/test. libv7 counts as a program.
 
@@ -37,16 +36,13 @@ ROW = re.compile(r"^\| `([\w/*]+)` \| .* \| (.*) \|$")
 # the rows of tests/programs/largest.py, each with the program that it runs as a case has it. A listing is read back by v7-object
 READS_BACK = {"v7-explain": "$ v7-object\n"}
 LARGEST = {f"largest.py: {name}, {kind}": f"$ {name}\n{READS_BACK.get(name, '')}" for name, _, kinds in largest.TABLE for kind in kinds}
-# the rows of tests/libv7/largest_library.py. Importing it would load the library
-CALLS = re.findall(r'^    \("(v7_[^"]+)", ', read(f"{TOP}/tests/libv7/largest_library.py"), re.M)
-LARGEST.update({f"largest_library.py: {calls}, {kind}": "$ libv7\n" for calls in CALLS for kind in largest.KINDS})
+LARGEST.update({f"largest.py: {calls}, {kind}": "$ libv7\n" for calls, _, kinds in largest.CALLS for kind in kinds})
 # scripts that are played whole
 WHOLE = {"page_data.py: pages": "$ v7-lesson\n$ v7\n$ v7-explain\n", "terminal.py: all": "$ v7\n"}
 LARGEST.update(WHOLE)
-MODULES = {"largest.py": "tests.programs.largest", "largest_library.py": "tests.libv7.largest_library", "page_data.py": "tests.page.page_data",
-           "terminal.py": "tests.programs.terminal"}
+MODULES = {"largest.py": "tests.programs.largest", "page_data.py": "tests.page.page_data", "terminal.py": "tests.programs.terminal"}
 # what these print, whether they find something or not
-PRINTED = re.compile(r"^(?:programs|libv7): [01] of 1 answers .*\n\Z|^\d+ things of pages were compared|(?:CalledProcess|JSONDecode)Error|^at a terminal: |^  came ", re.M)
+PRINTED = re.compile(r"^[01] of 1 answers .*\n\Z|^\d+ things of pages were compared|(?:CalledProcess|JSONDecode)Error|^at a terminal: |^  came ", re.M)
 # what is compiled, and the crate of each
 COMPILED = {**CRATES, "libv7": "v7_c"}
 # the programs without a bug

@@ -1,4 +1,5 @@
 """The programs that are tested, and commands: the programs are in build/, or in the folder V7_BUILD."""
+import importlib
 import os
 import subprocess
 import sys
@@ -40,3 +41,14 @@ def ran(*words, given=b"", seconds=None, **how):
     """Runs a command whose input is these bytes."""
     done = subprocess.run(words, input=given, stdout=subprocess.PIPE, stderr=subprocess.PIPE, timeout=seconds, check=False, **how)
     return Ran(done.returncode, done.stdout, done.stderr)
+
+
+class Library:
+    """The module of libv7: the library beside the programs, unless LIBV7 names another. It is loaded when it is first used."""
+
+    def __getattr__(self, name):
+        os.environ.setdefault("LIBV7", os.path.join(BUILD, "libv7.so"))
+        return getattr(importlib.import_module("v7"), name)
+
+
+v7 = Library()

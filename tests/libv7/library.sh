@@ -1,16 +1,15 @@
 #!/bin/sh
 # libv7 as a caller has it: installed into a folder, and found by pkg-config. Its two libraries must show the calls of v7.h and
 # nothing else, and the header must compile as C99, C++98 and C++17. tests/libv7/c/faults.c calls the library with an input for each fault of
-# each call. The examples in C, C++, Python and Rust are compiled, link objects of examples/ as the program does, with the same
+# each call. The examples in C, Python and Rust are compiled, link objects of examples/ as the program does, with the same
 # file, report and status, and run sessions, which compare by themselves. What is in C runs
 # under AddressSanitizer and valgrind too. The commands of docs/LIBRARY.md are run. The wheel of Python is installed into a fresh
 # environment.
 # What is missing of the compilers, Python and these two is skipped, and named.
 #
-# usage: CC=cc CXX=c++ CALLS=20000 CASES='500 1000 500' tests/libv7/library.sh        with so many random calls, and links, sessions and maps for
-#                                                                              the comparison with tests/oracles/model.py
+# usage: CC=cc CXX=c++ CALLS=20000 tests/libv7/library.sh        with so many random calls
 #
-# tier: check, 300 seconds; programs: v7 v7-explain v7-object v7-from-gnu libv7.so; for: crates/v7_c crates/library_calls include packaging docs/LIBRARY.md man/v7.3 tests/libv7 examples/c examples/cpp examples/python examples/rust; needs: cc c++ pkg-config valgrind mypy venv rustc cargo
+# tier: check, 300 seconds; programs: v7 v7-explain v7-object v7-from-gnu libv7.so; for: crates/v7_c crates/library_calls include packaging docs/LIBRARY.md man/v7.3 tests/libv7 examples/c examples/python examples/rust; needs: cc c++ pkg-config valgrind mypy venv rustc cargo
 set -u
 cd "$(dirname "$0")/../.."
 top=$PWD
@@ -61,15 +60,14 @@ done
 echo "$(wc -l <declared) calls shown by both libraries"
 
 # the header alone, as C and as C++. Each number of a fault has a text of its own, and the version is that of v7.pc
-cat >header.c <<'END'
+cat >header.c <<END
 #include "v7.h"
 #include <stdio.h>
 #include <string.h>
 
 int main(void)
 {
-    static const unsigned faults[] = {0, 1, 2, 3, 4, 5, 6, 7, 8, 9, 10, 11, 12, 13, 14, 21, 22, 23, 24, 31, 32, 33, 34, 35, 41, 42, 43, 50, 60,
-                                      61, 62, 63, 64, 65, 66, 67, 68, 69, 70, 71, 72, 73, 74, 75, 81, 82, 83, 84, 85, 86, 87, 88, 89, 90};
+    static const unsigned faults[] = {$(sed -n '/^enum v7_fault/,/^}/s/^    \(V7_[A-Z_]*\) = .*/\1,/p' installed/include/v7.h | tr -d '\n') 90};
     unsigned i, j;
 
     if (V7_REFERS_TO(0) != 010 || V7_REFERS_TO(4095) != 0177770 || V7_REFERS_TO(1) + V7_FROM_PC != 031)
@@ -200,14 +198,6 @@ LD_LIBRARY_PATH=$room/installed/lib${LD_LIBRARY_PATH:+:$LD_LIBRARY_PATH}
 export LD_LIBRARY_PATH
 links "C with libv7.so" ./by_shared
 checks "C with libv7.so" "a session" ./ran_by_shared
-if has "$CXX"; then
-    for standard in c++11 c++17; do
-        $CXX -std=$standard -O2 -pedantic -Wall -Wextra -Werror -o by_cpp $compiles "$top/examples/cpp/link.cpp" $links || exit 1
-        links "C++ ($standard)" ./by_cpp
-        $CXX -std=$standard -O2 -pedantic -Wall -Wextra -Werror -o ran_by_cpp $compiles "$top/examples/cpp/session.cpp" "$archive" || exit 1
-        checks "C++ ($standard)" "a session" ./ran_by_cpp
-    done
-fi
 # what docs/LIBRARY.md shows: each block whose first line begins with one of these programs, in a copy of the examples
 cp -r "$top/examples" page
 "$build/v7" ld -o theirs main.o twice.o count.o
@@ -220,7 +210,7 @@ run_shown() {
     echo "docs/LIBRARY.md: the commands of $1"
 }
 if has pkg-config; then
-    for program in cc c++ python3 rustc; do
+    for program in cc python3 rustc; do
         has $program && run_shown $program
     done
 fi
@@ -237,7 +227,6 @@ if has valgrind; then
     checks "C with valgrind" "each fault" valgrind -q --error-exitcode=9 --leak-check=full ./faults
     links "C with valgrind" "valgrind -q --error-exitcode=9 --leak-check=full ./by_c"
     checks "C with valgrind" "a session" valgrind -q --error-exitcode=9 --leak-check=full ./ran_by_c
-    [ ! -x ran_by_cpp ] || checks "C++ with valgrind" "a session" valgrind -q --error-exitcode=9 --leak-check=full ./ran_by_cpp
 fi
 LIBV7=$library
 PYTHONDONTWRITEBYTECODE=1
@@ -276,15 +265,13 @@ echo "Python: a notebook, and a folder relinked"
 python3 -m tests.libv7.library || fail "Python: a check fails"
 python3 -m tests.libv7.library_programs "${CHANGED:-40}" ||
     fail "a program and the library differ"
-python3 -m tests.libv7.agree_library ${CASES:-500 1000 500} || fail "the model differs"
-python3 -m tests.libv7.largest_library || fail "the largest inputs"
 # a library with a fault in one field of all records of a map, of findings, or of their objects
 $CC -std=c99 -O2 -Wall -Wextra -Werror -shared -fPIC -o planted.so $compiles "$top/tests/libv7/c/planted_records.c" -Wl,--whole-archive planted.a \
     -Wl,--no-whole-archive || exit 1
 plants=$(grep -o 'FIELD([a-z_]*, [a-z_]*)' "$top/tests/libv7/c/planted_records.c" | sed -n '/(record, name)/d; s/FIELD(\(.*\), \(.*\))/\1.\2/p')
 # whether the model differs from it
 differs() {
-    ! LIBV7=./planted.so PLANT=$1 python3 -m tests.libv7.agree_library 60 0 60 >planted.txt 2>&1
+    ! LIBV7=./planted.so PLANT=$1 python3 -m tests.oracles.agree -l 60 0 60 >planted.txt 2>&1
 }
 ! differs nothing || { cat planted.txt; fail "the model differs from the library without a fault in its records"; }
 for plant in $plants; do

@@ -1,12 +1,18 @@
-"""Compares v7 with the second linker, tests/oracles/model.py, on random files.
+"""Compares v7, and libv7, with the second linker, tests/oracles/model.py, on random files.
 
 usage: python3 -m tests.oracles.agree [LINKS SESSIONS DAMAGED]
+       python3 -m tests.oracles.agree -l LINKS SESSIONS MAPS
 tier: check, 60 seconds; programs: v7; for: crates/aout_core crates/link_session crates/link_out crates/symtools crates/command_words crates/v7tools docs/LINK.md
+tier: check, 30 seconds; programs: libv7.so; words: -l 500 1000 500; for: crates/library_calls crates/link_maps crates/v7_c
 
 A case is some files and some commands, which both run in a folder of their own. After each
 command the status, standard output, standard error and every byte of every file are compared.
 The number of a case gives its files and commands, so each run is the same. At the first
 difference the files are kept under build/differs, and the command is printed.
+
+With -l it compares what libv7 gives. For a link that is the status, every byte of the file, and the report as lines, as a list, and as a
+list with objects, or the fault, its object and its word. For a session it is also what each edit gives and the names that are shown.
+Maps of links, some of them over a limit, are compared with tests/oracles/map_model.py, record by record.
 """
 import io
 import multiprocessing
@@ -26,8 +32,8 @@ from pathlib import Path
 
 from tests.lib.compare import notices, same
 from tests.lib.objects import pack
-from tests.lib.programs import program
-from tests.oracles import model
+from tests.lib.programs import program, v7 as library
+from tests.oracles import map_model, model
 
 RESERVED = [b'_etext', b'_edata', b'_end']
 NAMES = RESERVED + [b'_main', b'_a', b'_b', b'_c', b'_d', b'_longname', b'_longname2', b'L1',
@@ -531,7 +537,222 @@ def show(v7, kind, number, difference):
         print(f'    {line}')
 
 
+# libv7
+
+def request_of(rng, names):
+    """Options that may be given together, a name of the entry point or none, and forced names."""
+    letters = set(rng.choice(["", "", "r", "rd", "n", "i", "s"]) + rng.choice(["", "x", "X", "xX"]) + rng.choice(["", "", "d"]))
+    entry = rng.choice(names) or b"_" if rng.random() < 0.3 else None
+    forced = tuple(dict.fromkeys(rng.choice(names)[:8] for _ in range(rng.choice([0, 0, 1, 3]))))
+    return model.Arguments(letters, {}, [], entry and entry[:8], forced)
+
+
+def list_of(rng, names, is_damaged):
+    objects = [object_of(rng, names) for _ in range(rng.choice([0, 1, 2, 3, 5]))]
+    if rng.random() < 0.05:
+        objects.insert(rng.randint(0, len(objects)), pack([(0, 0)] * 32767, bss=rng.choice([0, 65534])))
+    if is_damaged and objects:
+        place = rng.randrange(len(objects))
+        objects[place] = damage(rng, rng.choice([objects[place], bad_object_of(rng, names)]))
+    return objects
+
+
+def text(data):
+    return data.decode("latin-1")
+
+
+class Placed:
+    """The findings of a link with their objects, by the model."""
+
+    def __init__(self, merged, link):
+        self.symbols = [(place, symbol) for place, file in enumerate(merged.objects) for symbol in file.symbols if symbol.type & model.EXTERNAL]
+        externals = merged.externals
+        reserved = [name for name in model.RESERVED if name in externals and not externals[name].is_undefined]
+        entry = [] if link.entry is None or link.has_entry else [link.entry]
+        undefined = [] if "r" in link.letters else merged.undefined()
+        self.rows = [self.row(name, library.MULTIPLY_DEFINED, place) for name, place in zip(merged.multiples, merged.further)]
+        for kind, names in ((library.RESERVED_NAME, reserved), (library.ENTRY_NOT_IN_TEXT, entry), (library.UNDEFINED_NAME, undefined)):
+            self.rows += [self.row(name, kind, None) for name in names]
+
+    def row(self, name, kind, further):
+        uses = [(place, symbol) for place, symbol in self.symbols if symbol.name == name]
+        definitions = [place for place, symbol in uses if symbol.kind != model.UNDEFINED]
+        first = [*definitions, *(place for place, _ in uses), None][0]
+        return library.Finding(text(name), kind, first, further)
+
+
+def linked(merged, arguments):
+    """What the model gives for objects that are read: the status, the file and the report; and the findings with their objects."""
+    link = model.Link(merged, arguments)
+    report = text(b"".join(line + b"\n" for line in link.report))
+    return (1 if link.report else 0, model.write_file(link.file), report), Placed(merged, link).rows
+
+
+def by_all_calls(given):
+    """What the three calls of a link have to give: lines, names, and names with objects; or why there is no link."""
+    lines, placed = given
+    return [lines, lines, placed]
+
+
+def by_model(objects, arguments):
+    """What each call has to give for a link."""
+    merged = model.Merged([], arguments.forced)
+    for place, data in enumerate(objects):
+        try:
+            merged = model.Merged([*merged.objects, model.read_object(data)], merged.forced)
+        except model.Refused as refused:
+            return [(str(refused), place)] * 3
+    try:
+        return by_all_calls(linked(merged, arguments))
+    except model.Refused as refused:
+        return [(str(refused), 0)] * 3
+
+
+def fault_of(fault):
+    """The text of a fault as the model has it, and the number of the object."""
+    where = f" at word {fault.word}" if fault.fault in (23, 24) else ""
+    return library.FAULTS[fault.fault] + where, fault.place
+
+
+def asked_of(arguments):
+    return {"entry": text(arguments.entry or b""), "forced": [text(name) for name in arguments.forced]}
+
+
+def options_of(arguments):
+    bits = {"r": library.RELOCATABLE, "s": library.STRIP, "x": library.EXTERNALS, "X": library.NOT_L, "n": library.PURE, "i": library.SPLIT, "d": library.FORCE_COMMONS}
+    return sum(bits[letter] for letter in arguments.letters)
+
+
+def report_of(findings):
+    """The lines of a report, by its names."""
+    lines = [f"{name}: Multiply defined" for name in findings.multiples + findings.reserved]
+    lines += [] if findings.entry is None else [f"{findings.entry}: Entry point not in text"]
+    return "".join(line + "\n" for line in lines + ["Undefined:"] * bool(findings.undefined) + findings.undefined)
+
+
+def found_lines(found):
+    return found.status, found.file, report_of(found.findings)
+
+
+def each_call(*calls):
+    """What each call gives, or its fault."""
+    given = []
+    for call in calls:
+        try:
+            given.append(call())
+        except library.Fault as fault:
+            given.append(fault_of(fault))
+    return given
+
+
+def by_library(objects, arguments):
+    """What the library gives for a link, by the call that gives the report's lines, by the one that gives its names, and by the one that
+    gives the names with their objects."""
+    asked, options = asked_of(arguments), options_of(arguments)
+    return each_call(
+        lambda: tuple(library.link(objects, options, **asked)),
+        lambda: found_lines(library.link_findings(objects, options, **asked)),
+        lambda: library.link_places(objects, options, **asked),
+    )
+
+
+def given_of(kind, number):
+    """The chance, the names, the options and the objects of a case; in half of these, objects are damaged."""
+    rng = random.Random(f"{kind} {number}")
+    names = rng.sample(NAMES, rng.choice([2, 3, 5, 8]))
+    return rng, names, request_of(rng, names), list_of(rng, names, number % 2 == 1)
+
+
+def library_link(number):
+    """What model and library give for a link, the library by three calls."""
+    _, _, arguments, objects = given_of("link", number)
+    return by_model(objects, arguments), by_library(objects, arguments)
+
+
+def library_map(number):
+    """What model and library give for the map of a link."""
+    _, _, arguments, objects = given_of("link", number)
+    # one of these does not fit, and two of them pass the limit of bss
+    objects += [library.make(text=[(0, library.NUMBER)] * 13000, bss=40000)] * max(0, number % 5 - 2)
+    try:
+        came = library.link_map(objects, options_of(arguments), **asked_of(arguments))
+    except library.Fault as fault:
+        came = fault_of(fault)
+    return [map_model.map_of(objects, arguments)], [came]
+
+
+def model_edit(states, edit):
+    """What the model gives for an edit: nothing, or why it is not made."""
+    if edit is None and len(states) == 1:
+        return "nothing to withdraw"
+    if edit is None:
+        states.pop()
+        return None
+    try:
+        states.append(model.Merged([*states[-1].objects, model.read_object(edit)], states[-1].forced))
+        return None
+    except model.Refused as refused:
+        return str(refused)
+
+
+def library_edit(session, edit):
+    """What the library gives for an edit: nothing, or its fault."""
+    try:
+        session.withdraw() if edit is None else session.add(edit)
+        return None
+    except library.Fault as fault:
+        return fault_of(fault)[0]
+
+
+def by_session(session, options):
+    """What the library gives for a session, by the same calls."""
+    return each_call(
+        lambda: tuple(session.link(options)),
+        lambda: found_lines(session.link_findings(options)),
+        lambda: session.link_places(options),
+    )
+
+
+def library_session(number):
+    """What model and library give for a session: the edits, the externals, and the link."""
+    rng, names, arguments, objects = given_of("session", number)
+    objects = objects or [object_of(rng, names)]
+    edits = [rng.choice([None, *objects]) for _ in range(rng.randrange(12))]
+    states, session = [model.Merged([], arguments.forced)], library.Session(**asked_of(arguments))
+    ours = [library_edit(session, edit) for edit in edits]
+    theirs = [model_edit(states, edit) for edit in edits]
+    shown = [external["name"] for external in session.state()["externals"]]
+    known = [text(name) for name in states[-1].externals]
+    try:
+        expected = by_all_calls(linked(states[-1], arguments))
+    except model.Refused as refused:
+        expected = [(str(refused), 0)] * 3
+    return (theirs, known, expected), (ours, shown, by_session(session, options_of(arguments)))
+
+
+def kind_of(outcome):
+    """What to count: the status of a link, or that it was refused."""
+    links = outcome[-1] if isinstance(outcome, tuple) else outcome
+    return "refused" if isinstance(links[0][0], str) else f"status {links[0][0]}"
+
+
+def by_calls(links, sessions, maps):
+    """Compares libv7: at the first difference prints the case."""
+    for name, case, count in (("links", library_link, links), ("sessions", library_session, sessions), ("maps", library_map, maps)):
+        kinds = Counter()
+        for number in range(count):
+            expected, came = case(number)
+            if expected != came:
+                print(f"{name}, number {number}:\n  the model: {expected}\n  libv7:     {came}")
+                return 1
+            kinds[kind_of(expected)] += 1
+        print(f"libv7: {count} {name} as the model: " + ", ".join(f"{kinds[kind]} {kind}" for kind in sorted(kinds)))
+    return 0
+
+
 def main():
+    if sys.argv[1:2] == ['-l']:
+        return by_calls(*map(int, sys.argv[2:]))
     v7 = program("v7")
     given = [int(count) for count in sys.argv[1:]]
     notices(planted, v7)

@@ -1,10 +1,15 @@
 """The map of a link by the second linker, tests/oracles/model.py: what `link_map` of the module v7 has to give. The lines of text are those of
 tests/oracles/disassembly.py."""
-from tests.oracles import disassembly
-from tests.oracles import model
-import v7
+import functools
 
-FULL = {text: number for number, text in v7.FAULTS.items() if 30 < number < 35 or 40 < number < 50}
+from tests.lib.programs import v7
+from tests.oracles import disassembly, model
+
+
+@functools.cache
+def fault_numbers():
+    """The numbers of the faults that a limit has, by their texts."""
+    return {text: number for number, text in v7.FAULTS.items() if 30 < number < 35 or 40 < number < 50}
 
 
 def text(name):
@@ -27,7 +32,7 @@ class Laid:
         try:
             self.link = model.Link(merged, arguments)
         except model.Refused as refused:
-            self.fault = FULL[str(refused)]
+            self.fault = fault_numbers()[str(refused)]
 
     def segments(self, sizes):
         data = self.start[model.DATA]
@@ -166,7 +171,7 @@ def map_of(objects, arguments):
         try:
             merged = model.Merged([*merged.objects, file], merged.forced)
         except model.Refused as refused:
-            fault, refused_at = FULL[str(refused)], place
+            fault, refused_at = fault_numbers()[str(refused)], place
             break
     laid = None if fault else Laid(merged, arguments)
     at, places = dict(laid.start) if laid else dict.fromkeys(model.SEGMENTS, 0), []

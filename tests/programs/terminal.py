@@ -343,7 +343,7 @@ def check_random():
 
 def check_hints():
     """A file that is not an a.out file, and one that is not an object; but not a file that cannot be opened, read or linked."""
-    hints = [(["size", "transcript.md"], "v7: transcript.md: bad magic number\n", "v7-explain transcript.md says what this file is\n"),
+    hints = [(["size", "README.md"], "v7: README.md: bad magic number\n", "v7-explain README.md says what this file is\n"),
              (["ld", "-o", "out", "ab.out"], "v7: ab.out: no relocation\n", "v7-explain ab.out says what this file is\n"),
              (["nm", "missing.o"], "v7: missing.o: cannot open\n", ""),
              (["nm", "/tmp"], "v7: /tmp: read error\n", ""),

@@ -18,7 +18,7 @@ from tests.lib.files import read, write
 
 INDEX = "docs/README.md"
 # where a file of the folder examples is named alone
-OF_EXAMPLES = ["docs/TUTORIAL.md", "docs/OBJECTS.md", "docs/RESTORING.md", "examples/README.md", "examples/transcript.md"]
+OF_EXAMPLES = ["docs/TUTORIAL.md", "docs/OBJECTS.md", "docs/RESTORING.md", "examples/README.md"]
 FOLDERS = "docs|tests|tools|examples|crates|man|include|page|packaging"
 LINK = re.compile(r"!?\[((?:[^\[\]`]|`[^`]*`)*)\]\(([^)\s]+)\)")
 CODE = re.compile(r"`[^`]*`")
