@@ -22,7 +22,7 @@
  * something to report, and otherwise 0. *ANSWER is always filled. docs/LINK.md has all limits.
  *
  * V7_NO_MEMORY comes only at a stage at which nothing is refused. A call takes memory after it has accepted the options, the
- * form, the names and the sizes of parts, and for a file only if it is whole. So V7_NO_MEMORY never comes in place of 1 to 6, of 11
+ * form, the names and the sizes of parts, and for a file only if it is whole. So V7_NO_MEMORY never comes in place of 1 to 10, of 11
  * to 14 for a file. Before a link reads an object it enters the forced names: if there are none, V7_NO_MEMORY does not come in
  * place of 11 to 14 for the first object either. Once an object is accepted, memory may run out there, and V7_NO_MEMORY may come
  * in place of any later fault: the answer does not say which request failed.
@@ -54,7 +54,10 @@ enum v7_fault {
     V7_CUT_NAMES = 4,          /* the size of the forced names is not a multiple of 8 */
     V7_MANY_NAMES = 5,         /* more than 64 different names are forced; `place` is the number of the first too many */
     V7_TOO_LONG = 6,           /* more than 32,767 words of text or data, 65,535 bytes of bss, or 5,461 symbols; `word` is the part */
-    V7_NO_SESSION = 8,         /* no session is begun; for v7_session_new, one is begun already */
+    V7_SHORT_STRUCT = 7,       /* the `size` of a request or a result is too small for what is wanted, as one that was not set */
+    V7_NO_SESSION = 8,         /* no session is begun */
+    V7_NO_WANT = 9,            /* a bit of `wants` is no want, or a session does not have what it stands for */
+    V7_SESSION_OPEN = 10,      /* a session is begun already */
     /* the bytes of a file */
     V7_SHORT_HEADER = 11,      /* fewer than 16 bytes */
     V7_BAD_MAGIC = 12,         /* the first word is none of 0405, 0407, 0410 and 0411 */
@@ -126,8 +129,14 @@ static inline const char *v7_strerror(uint32_t fault)
         return "more than 64 names are forced";
     case V7_TOO_LONG:
         return "too many words, bytes of bss or symbols";
+    case V7_SHORT_STRUCT:
+        return "a struct is too short";
     case V7_NO_SESSION:
-        return "no session, or one already";
+        return "no session";
+    case V7_NO_WANT:
+        return "no such want";
+    case V7_SESSION_OPEN:
+        return "a session already";
     case V7_SHORT_HEADER:
         return "short header";
     case V7_BAD_MAGIC:
@@ -349,7 +358,7 @@ uint32_t v7_remarks(const unsigned char *bytes, size_t size, unsigned char *text
 /* v7_run links objects, as `v7 ld` does. It takes the bytes of each object separately, and what
  * follows an object in its bytes is not looked at, so an object that is cut short is refused itself. Request and result begin with their
  * sizes: set these to `sizeof`, and set all fields; what is 0 asks for nothing. A later library may know longer structs. This one takes
- * shorter results too, and does not touch what they lack: without V7_MAP one may end after `place_room`, without V7_PLACES too after
+ * shorter results too, and does not touch what they lack, but for the fields before `file`, which every result has: without V7_MAP one may end after `place_room`, without V7_PLACES too after
  * `finding_room`, and without V7_FINDINGS too after `report_room`. The size of a buffer is counted in what it holds: bytes, findings,
  * places or records. */
 enum v7_link_option {
@@ -501,9 +510,8 @@ struct v7_result {
 };
 
 /* Makes the link that REQUEST asks for. The file and what is wanted besides are all written, or none is. The first fault that
- * applies is given. V7_NO_OPTION also stands for a want that this library does not know, and for a struct that is too short for what is
- * wanted. Then come 2 to 5, 11 to 34 for each object in turn, 41 to 43, V7_NO_MEMORY as described above, and V7_NO_ROOM last. A result
- * that ends before `file` stays as it was, and the status is 2.
+ * applies is given: V7_SHORT_STRUCT for the request, V7_NO_WANT, V7_SHORT_STRUCT for the result, 1 to 5, 11 to 34 for each object in
+ * turn, 41 to 43, V7_NO_MEMORY as described above, and V7_NO_ROOM last.
  *
  * With V7_MAP all objects are read first, so that a link that is refused has a map too. Faults 31 to 43 are then in `map.head`: the
  * status is 1, `fault` is 0, and file, report, findings and places have size 0. */
@@ -522,7 +530,7 @@ struct v7_session {
 };
 
 /* Begins a session of no objects. FORCED are names that are mentioned before all objects, 8 bytes each, filled up with NULs. Faults, the
- * first that applies: V7_NO_SESSION if one is begun already, 4, 5, V7_NO_MEMORY. */
+ * first that applies: V7_SESSION_OPEN, 4, 5, V7_NO_MEMORY. */
 uint32_t v7_session_new(struct v7_session *session, const unsigned char *forced, size_t forced_size, struct v7_answer *answer);
 
 /* Adds the object that BYTES begin with after those that are there; the bytes are not kept. Faults, the first that applies, with 0 as
@@ -536,7 +544,7 @@ uint32_t v7_session_withdraw(struct v7_session *session, struct v7_answer *answe
 /* Links what is there, and gives it as v7_run does, with the options and the entry point of REQUEST. Its forced names and objects are not
  * looked at. An object is known by how many were added before it. A session has neither the objects of findings nor a map: for these call
  * v7_run with V7_PLACES or V7_MAP, and the bytes of the objects that are there, which the caller keeps. Faults, the first that applies:
- * V7_NO_OPTION as there, and for V7_PLACES and V7_MAP; V7_NO_SESSION, 1 to 3, 41 to 43, V7_NO_MEMORY, V7_NO_ROOM. */
+ * 7 and 9 as there, V7_NO_WANT for V7_PLACES and V7_MAP too; V7_NO_SESSION, 1 to 3, 41 to 43, V7_NO_MEMORY, V7_NO_ROOM. */
 uint32_t v7_session_link(struct v7_session *session, const struct v7_request *request, struct v7_result *result);
 
 /* Writes what the session shows, as lines, each with its newline, or as one JSON object. It has the words of the merged text and data,

@@ -9,7 +9,7 @@ use Rattle.link_session.specs.declared.entry.AddFault.{AddFault}
 use Rattle.link_out.specs.{declared.linked.LinkFault.LinkFault, Steps.refused_as}
 use Rattle.listings.specs.{Reading.Mistakes, declared.fault.Reason.Reason}
 use Rattle.library_calls.specs.declared.cause.Cause.TheVariants.{NoOption, Excluded, LongName, CutNames, ManyNames, TooLong}
-use Rattle.library_calls.specs.declared.cause.Cause.TheVariants.{NoSession, NothingKept}
+use Rattle.library_calls.specs.declared.cause.Cause.TheVariants.{ShortStruct, NoSession, NoWant, SessionOpen, NothingKept}
 use Rattle.library_calls.specs.declared.cause.Cause.TheVariants.{BadFile, BadObject, NotAdded, NotLinked, BadListing, NotConverted, Memory}
 use Rattle.library_calls.specs.{declared.cause.Cause.Cause, declared.cause.Refusal.Refusal}
 use Rattle.aout_core.specs.declared.file.ReadFault.TheVariants as reads
@@ -92,7 +92,10 @@ number_of LongName = 3
 number_of CutNames = 4
 number_of ManyNames = 5
 number_of (TooLong part) = 6
+number_of ShortStruct = 7
 number_of NoSession = 8
+number_of NoWant = 9
+number_of SessionOpen = 10
 number_of (BadFile reads.ShortHeader) = 11
 number_of (BadFile reads.BadMagic) = 12
 number_of (BadFile reads.OddSize) = 13

@@ -27,7 +27,7 @@ pub enum LongPart {
 /// Why a call has no answer. If memory runs out it is `Memory`, whatever was being done. (own choice)
 #[derive(Clone, Copy, Debug, PartialEq, Eq)]
 pub enum Cause {
-    /// 1: a bit of the options stands for none.
+    /// 1: a bit of the options stands for none, or the form for none.
     NoOption,
     /// 2: options exclude each other.
     Excluded,
@@ -39,8 +39,14 @@ pub enum Cause {
     ManyNames,
     /// 6: this part of an object is longer than a header can say.
     TooLong(LongPart),
-    /// 8: no session is begun, or one is begun already.
+    /// 7: a request or a result has a size that is too small for what is wanted.
+    ShortStruct,
+    /// 8: no session is begun.
     NoSession,
+    /// 9: a bit of what is wanted stands for nothing, or for what a session does not keep.
+    NoWant,
+    /// 10: a session is begun already.
+    SessionOpen,
     /// 11 to 14: the bytes do not begin with an a.out file.
     BadFile(ReadFault),
     /// 21 to 24: the file is not an object.
@@ -310,7 +316,10 @@ impl Cause {
             Cause::CutNames => 4,
             Cause::ManyNames => 5,
             Cause::TooLong(_) => 6,
+            Cause::ShortStruct => 7,
             Cause::NoSession => 8,
+            Cause::NoWant => 9,
+            Cause::SessionOpen => 10,
             Cause::BadFile(fault) => read_number(fault),
             Cause::BadObject(fault) => object_number(fault),
             Cause::NotAdded(fault) => addition_number(fault),

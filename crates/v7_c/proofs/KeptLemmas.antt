@@ -1,16 +1,17 @@
 -- What calls on a session that is kept leave, by what the library returned.
-use Rattle.std.proofs.Common.{◌≡◌, ◌≢◌, ℕ, Bool, true, false, if◌then◌else◌, List, Option, Some, None, Result, Ok, Err, ap, ◌∙◌}
+use Rattle.std.proofs.Common.{◌≡◌, ◌≢◌, ℕ, List, Option, Some, None, Result, Ok, Err, ap, sym, ◌∙◌}
 use Rattle.std.specs.Prelude.{IfOk, IfErr, IsOk, OnOk, OnErr, Vec}
 use Rattle.std.specs.declared.alloc.Global.{Global}
 use Rattle.aout_core.specs.Refusals.{refused}
 use Rattle.link_session.specs.Undo.{Kept}
-use Rattle.library_calls.specs.declared.cause.Cause.TheVariants.{Memory, NoOption}
-use Rattle.library_calls.specs.{declared.cause.Refusal.Refusal, declared.map_call.LinkOutput.LinkOutput}
+use Rattle.library_calls.specs.declared.cause.Cause.TheVariants.{Memory}
+use Rattle.library_calls.specs.{declared.cause.Cause.Cause, declared.cause.Refusal.Refusal, declared.map_call.LinkOutput.LinkOutput}
 use Rattle.library_calls.specs.KeptAnswers.{HasJournal, MayRunOutToLink, kept_run, shown_in}
 use Rattle.library_calls.specs.RunAnswers.{RunOutput, results_of}
-use Rattle.v7_c.specs.KeptLeft.{IsGiven, Keeps, LeavesChange, LeavesShown, LinkMayRunOut, is_link, kept_in, of_session}
+use Rattle.v7_c.specs.KeptLeft.{IsGiven, Keeps, LeavesChange, LeavesShown, LinkMayRunOut, kept_in, of_session}
 use Rattle.v7_c.specs.{Left.Left, Left.bytes_or, Left.done_by, Left.left_at, Left.of_none, Left.refusal_in}
-use Rattle.v7_c.specs.{RunLeft.results_or, RunLeft.wants_of, declared.run.Request.Request}
+use Rattle.v7_c.specs.{RunLeft.or_unread, RunLeft.results_or, RunLeft.unread, RunLeft.wants_of, declared.run.Request.Request}
+use Rattle.v7_c.proofs.RunLemmas.{never_memory}
 
 pub change_left : {A B : Type 0} (asked : Result A Refusal) (MayRunOut : Type 0) (Changes : Option Kept → Option Kept → Type 0)
     (old new : Option Kept) (l : Left) (r : Result B Refusal) → l ≡ done_by (refusal_in r) → OnOk r (Changes old new) →
@@ -34,20 +35,24 @@ module _ (kept : Option Kept) (q : Request) (size : ℕ) where
   abbrev pub run : Result RunOutput Refusal
   run = of_session (kept_run (wants_of q.wants) q.options q.entry.now) kept
 
-  by_request : (b : Bool) → is_link q size ≡ b → kept_in kept q size ≡ (if b then run else Err (of_none NoOption))
-  by_request b known = ap (λ (x : Bool). if x then run else Err (of_none NoOption)) known
+  by_request : (o : Option Cause) → unread 3 q size ≡ o → kept_in kept q size ≡ or_unread o run
+  by_request o is = ap (λ (x : Option Cause). or_unread x run) is
 
-  pub link_given : (r : Result LinkOutput Refusal) → is_link q size ≡ true → IfOk r (λ given. run ≡ Ok (results_of given.run)) →
+  pub link_given : (r : Result LinkOutput Refusal) → unread 3 q size ≡ None → IfOk r (λ given. run ≡ Ok (results_of given.run)) →
       IfErr r (λ refusal. refusal.cause ≢ Memory refused → run ≡ Err refusal) →
       IfErr r (λ refusal. refusal.cause ≡ Memory refused → (refusal.place ≡ 0) × Keeps (MayRunOutToLink q.options q.entry.now) kept) →
       IsGiven (kept_in kept q size) (LinkMayRunOut kept q size) (results_or r)
-  link_given (Ok given) known ok err memory = by_request true known ∙ ok
+  link_given (Ok given) known ok err memory = by_request None known ∙ ok
   link_given (Err refusal) known ok err memory = record {
-    same = λ other. by_request true known ∙ err other;
+    same = λ other. by_request None known ∙ err other;
     memory = λ out. ((memory out).0, (known, (memory out).1));
   }
 
-  pub link_refused : is_link q size ≡ false → IsGiven (kept_in kept q size) (LinkMayRunOut kept q size) (Err (of_none NoOption))
-  link_refused unknown = record { same = λ other. by_request false unknown; memory = λ out. absurd (cc) }
+  pub link_unread : (r : Refusal) (cause : Cause) → unread 3 q size ≡ Some cause → r ≡ of_none cause →
+      IsGiven (kept_in kept q size) (LinkMayRunOut kept q size) (Err r)
+  link_unread r cause is same = record {
+    same = λ other. by_request (Some cause) is ∙ ap (λ (x : Refusal). Err x) (sym same);
+    memory = λ out. absurd (never_memory 3 q size r cause is same out);
+  }
 
-pub ruleset by_link = (link_given, link_refused)
+pub ruleset by_link = (link_given, link_unread)

@@ -5,7 +5,7 @@ use Rattle.std.specs.Prelude.{◌⊎◌, IsErr, IsErrAnd, IsOk, MatchResult, Vec
 use Rattle.std.specs.declared.alloc.Global.{Global}
 use Rattle.aout_core.specs.declared.object.ObjectFault.{ObjectFault}
 use Rattle.library_calls.specs.declared.cause.Cause.TheVariants.{NoOption, Excluded, LongName, CutNames, ManyNames, TooLong}
-use Rattle.library_calls.specs.declared.cause.Cause.TheVariants.{NoSession, NothingKept}
+use Rattle.library_calls.specs.declared.cause.Cause.TheVariants.{ShortStruct, NoSession, NoWant, SessionOpen, NothingKept}
 use Rattle.library_calls.specs.declared.cause.Cause.TheVariants.{BadFile, BadObject, NotAdded, NotLinked, BadListing, NotConverted, Memory}
 use Rattle.library_calls.specs.Causes.{gnu_number, gnu_word, number_of, object_number, object_word, word_of}
 use Rattle.library_calls.specs.{declared.cause.Cause.Cause, declared.cause.Refusal.Refusal, declared.parts.FileLists.FileLists}
@@ -57,7 +57,10 @@ no_word LongName h = refl
 no_word CutNames h = refl
 no_word ManyNames h = refl
 no_word (TooLong part) h = let e : 6 ≡ 50 = h in absurd (omega (arith, e))
+no_word ShortStruct h = refl
 no_word NoSession h = refl
+no_word NoWant h = refl
+no_word SessionOpen h = refl
 no_word NothingKept h = refl
 no_word (BadFile fault) h = refl
 no_word (BadObject fault) h = no_object_word fault h
@@ -125,7 +128,10 @@ is_memory_or LongName = inr (λ e. absurd (cc))
 is_memory_or CutNames = inr (λ e. absurd (cc))
 is_memory_or ManyNames = inr (λ e. absurd (cc))
 is_memory_or (TooLong part) = inr (λ e. absurd (cc))
+is_memory_or ShortStruct = inr (λ e. absurd (cc))
 is_memory_or NoSession = inr (λ e. absurd (cc))
+is_memory_or NoWant = inr (λ e. absurd (cc))
+is_memory_or SessionOpen = inr (λ e. absurd (cc))
 is_memory_or NothingKept = inr (λ e. absurd (cc))
 is_memory_or (BadFile fault) = inr (λ e. absurd (cc))
 is_memory_or (BadObject fault) = inr (λ e. absurd (cc))

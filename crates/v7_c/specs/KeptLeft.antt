@@ -1,12 +1,12 @@
 -- What a handle keeps for C between calls, and what a call on it leaves. (own choice)
-use Rattle.std.specs.Prelude.{◌≡◌, ◌≢◌, ℕ, Bool, true, ◌&&◌, eqb, nat_lt, if◌then◌else◌, List, Option, Some, None, Result, Ok, Err, IsOk, IfOk}
+use Rattle.std.specs.Prelude.{◌≡◌, ◌≢◌, ℕ, Bool, true, eqb, if◌then◌else◌, List, Option, Some, None, Result, Ok, Err, IsOk, IfOk}
 use Rattle.aout_core.specs.Refusals.{refused}
 use Rattle.link_session.specs.Undo.{Kept}
-use Rattle.library_calls.specs.declared.cause.Cause.TheVariants.{Memory, NoOption, NoSession}
+use Rattle.library_calls.specs.declared.cause.Cause.TheVariants.{Memory, NoSession, SessionOpen}
 use Rattle.library_calls.specs.{declared.cause.Cause.Cause, declared.cause.Refusal.Refusal, declared.map_call.LinkOutput.LinkOutput, Causes.at}
 use Rattle.library_calls.specs.KeptAnswers.{AddsBytes, HasJournal, MayRunOutToAdd, MayRunOutToLink, TakesLast, begun_in, kept_run, last_in, shown_in, taken_in}
 use Rattle.library_calls.specs.{MapAnswers.HasNoMap, RunAnswers.RunOutput}
-use Rattle.v7_c.specs.{Left.Left, Left.done_by, Left.left_at, Left.of_none, RunLeft.answer_left, RunLeft.is_answered, RunLeft.is_known}
+use Rattle.v7_c.specs.{Left.Left, Left.done_by, Left.left_at, Left.of_none, RunLeft.answer_left, RunLeft.or_unread, RunLeft.unread}
 use Rattle.v7_c.specs.{RunLeft.left_in, RunLeft.results_or, RunLeft.wants_of, declared.handle.Handle.Handle}
 use Rattle.v7_c.specs.{declared.run.Request.Request, declared.run.RunAnswer.RunAnswer}
 
@@ -52,7 +52,7 @@ pub record LeavesChange {A : Type 0} (asked : Result A Refusal) (MayRunOut : Typ
 -- a session begins only if none is begun
 abbrev pub beginning : List ℕ → Option Kept → Result Kept Refusal
 beginning forced None = begun_in forced
-beginning forced (Some k) = Err (of_none NoSession)
+beginning forced (Some k) = Err (of_none SessionOpen)
 
 pub record Begins (forced : List ℕ) (old new : Option Kept) : Type 0 where
   pub session : Kept
@@ -84,21 +84,17 @@ pub record LeavesShown (form : ℕ) (kept : Option Kept) (room : List ℕ) (l : 
   pub journal : IfOk answer (λ state. Keeps HasJournal kept)
   pub is : l ≡ left_at answer room
 
--- sizes and wants are known, and neither the objects of what is reported nor a map is wanted
-abbrev pub is_link : Request → ℕ → Bool
-is_link q size = is_known q size && nat_lt q.wants 4
-
--- the link of what is kept, for a caller with a result of this size
+-- the link of what is kept, for a caller with a result of this size; neither the objects of what is reported nor a map is known
 abbrev pub kept_in : Option Kept → Request → ℕ → Result RunOutput Refusal
 kept_in kept q size =
-    if is_link q size then of_session (kept_run (wants_of q.wants) q.options q.entry.now) kept else Err (of_none NoOption)
+    or_unread (unread 3 q size) (of_session (kept_run (wants_of q.wants) q.options q.entry.now) kept)
 
 abbrev pub LinkMayRunOut : Option Kept → Request → ℕ → Type 0
-LinkMayRunOut kept q size = (is_link q size ≡ true) × Keeps (MayRunOutToLink q.options q.entry.now) kept
+LinkMayRunOut kept q size = (unread 3 q size ≡ None) × Keeps (MayRunOutToLink q.options q.entry.now) kept
 
 -- a status, and a result before and after the call
 pub record LeavesLink (kept : Option Kept) (q : Request) (old new : RunAnswer) (status : ℕ) : Type 0 where
   pub answer : Result LinkOutput Refusal
   pub given : IsGiven (kept_in kept q old.size) (LinkMayRunOut kept q old.size) (results_or answer)
   pub alone : IfOk answer (λ x. HasNoMap x)
-  pub is : left_in status new ≡ (if is_answered old.size then answer_left answer (left_in 0 old) else left_in 2 old)
+  pub is : left_in status new ≡ answer_left answer (left_in 0 old)

@@ -2,21 +2,21 @@
 --
 -- A request and a result begin with their sizes in bytes. A caller may have a shorter result, without the last fields: a link whose
 -- report is wanted as lines alone does not need them. So it is with the objects of what is reported. Fields that a result lacks stay as
--- they are; one that lacks a field which every answer fills stays as it is.
+-- they are, but for those that every answer fills: the fault, its word and its place, and the sizes of file and report.
 use Rattle.std.specs.Prelude.{◌≡◌, ◌≢◌, ℕ, Bool, true, false, ◌||◌, ◌&&◌, not, nat_lt, nat_le, if◌then◌else◌, List, length, Result}
-use Rattle.std.specs.Prelude.{Ok, Err}
+use Rattle.std.specs.Prelude.{Option, None, Some, Ok, Err}
 use Rattle.aout_core.specs.Refusals.{refused}
 use Rattle.library_calls.specs.MapAnswers.{HasNoMap, IsMapAnswer, MapMayRunOut, MapOf, map_asked}
 use Rattle.library_calls.specs.RunAnswers.{RunOutput, link_run, results_of}
-use Rattle.library_calls.specs.{declared.cause.Cause.TheVariants.Memory, declared.cause.Cause.TheVariants.NoOption}
+use Rattle.library_calls.specs.declared.cause.Cause.TheVariants.{Memory, NoWant, ShortStruct}
 use Rattle.library_calls.specs.declared.run_call.Wants.{Wants}
-use Rattle.library_calls.specs.{declared.cause.Refusal.Refusal, declared.reported.ReportedName.ReportedName}
+use Rattle.library_calls.specs.{declared.cause.Cause.Cause, declared.cause.Refusal.Refusal, declared.reported.ReportedName.ReportedName}
 use Rattle.library_calls.specs.{declared.map_call.LinkOutput.LinkOutput, Causes.number_of, Causes.word_of, FileAnswers.has_bit}
 use Rattle.library_calls.specs.{LinkAnswers.each_of, MemoryWanted.LinkMayRunOut}
 use Rattle.finding_objects.specs.declared.places.FindingPlace.{FindingPlace}
 use Rattle.v7_c.specs.MapLeft.{MapLeft, counted, no_records, left_in as map_left_in, counts_of as record_counts}
 use Rattle.v7_c.specs.MapLeft.{filled as map_filled, is_short as map_is_short}
-use Rattle.v7_c.specs.{Left.put_in, declared.run.RunCounts.RunCounts, declared.run.Request.Request, declared.run.RunAnswer.RunAnswer}
+use Rattle.v7_c.specs.{Left.of_none, Left.put_in, declared.run.RunCounts.RunCounts, declared.run.Request.Request, declared.run.RunAnswer.RunAnswer}
 
 -- ---- what is asked for
 
@@ -37,9 +37,18 @@ is_enough wants size =
     nat_le 72 size && ((not (has_bit wants 2) || has_list size)
     && ((not (has_bit wants 4) || has_places size) && (not (has_bit wants 8) || has_map size)))
 
--- the sizes of request and result, and what is wanted, are known
-abbrev pub is_known : Request → ℕ → Bool
-is_known q size = nat_le 64 q.size && (nat_le q.wants 15 && is_enough q.wants size)
+-- why a request cannot be read, where wants up to a number are known
+abbrev pub unread : ℕ → Request → ℕ → Option Cause
+unread most q size =
+    if nat_lt q.size 64 then Some ShortStruct
+    else if nat_lt most q.wants then Some NoWant
+    else if is_enough q.wants size then None
+    else Some ShortStruct
+
+-- what there is for a request, unless it cannot be read
+abbrev pub or_unread : {A : Type 0} → Option Cause → Result A Refusal → Result A Refusal
+or_unread None r = r
+or_unread (Some cause) r = Err (of_none cause)
 
 -- what is wanted of the report: its lines by bit 1, a list by bit 2, and the objects of what that has by bit 4
 abbrev pub wants_of : ℕ → Wants
@@ -48,23 +57,21 @@ wants_of wants = record { report = has_bit wants 1; findings = has_bit wants 2; 
 -- what the library gives without a map, to a caller with a result of this size
 abbrev pub run_in : Request → ℕ → Result RunOutput Refusal
 run_in q size =
-    if is_known q size then link_run (wants_of q.wants) q.options q.entry.now q.forced.now (each_of q.objects.now)
-    else Err (record { cause = NoOption; place = 0 })
+    or_unread (unread 15 q size) (link_run (wants_of q.wants) q.options q.entry.now q.forced.now (each_of q.objects.now))
 
 -- memory may run out, at this place
 abbrev pub RunMayRunOut : Request → ℕ → ℕ → Type 0
 RunMayRunOut q size place =
-    (is_known q size ≡ true) × LinkMayRunOut q.options q.entry.now q.forced.now (each_of q.objects.now) place
+    (unread 15 q size ≡ None) × LinkMayRunOut q.options q.entry.now q.forced.now (each_of q.objects.now) place
 
 -- the objects, options and names of the map that is asked for
 abbrev pub map_in : Request → ℕ → Result MapOf Refusal
 map_in q size =
-    if is_known q size then map_asked q.options q.entry.now q.forced.now (each_of q.objects.now)
-    else Err (record { cause = NoOption; place = 0 })
+    or_unread (unread 15 q size) (map_asked q.options q.entry.now q.forced.now (each_of q.objects.now))
 
 abbrev pub MapRunsOut : Request → ℕ → ℕ → Type 0
 MapRunsOut q size place =
-    (is_known q size ≡ true) × MapMayRunOut q.options q.entry.now q.forced.now (each_of q.objects.now) place
+    (unread 15 q size ≡ None) × MapMayRunOut q.options q.entry.now q.forced.now (each_of q.objects.now) place
 
 -- a refusal is that of what is asked for, or memory ran out at a place at which it may
 abbrev pub IsRefusal : {A : Type 0} → Result A Refusal → (ℕ → Type 0) → Refusal → Type 0
@@ -190,12 +197,8 @@ abbrev pub answer_left : Result LinkOutput Refusal → RunLeft → RunLeft
 answer_left (Err r) l = answered 2 (number_of r.cause) (word_of r.cause) r.place nothing l
 answer_left (Ok x) l = output_left x l
 
--- a result of this size has what every answer fills: the fault, its word and its place, and the sizes of file and report
-abbrev pub is_answered : ℕ → Bool
-is_answered size = nat_le 40 size
-
 -- a status, and a result before and after the call
 pub record LeavesRun (q : Request) (old new : RunAnswer) (status : ℕ) : Type 0 where
   pub answer : Result LinkOutput Refusal
   pub given : IsAnswer q old.size answer
-  pub is : left_in status new ≡ (if is_answered old.size then answer_left answer (left_in 0 old) else left_in 2 old)
+  pub is : left_in status new ≡ answer_left answer (left_in 0 old)

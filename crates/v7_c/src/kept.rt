@@ -5,11 +5,11 @@ ghost use Rattle.library_calls.specs.KeptAnswers.{AddsBytes, HasJournal, MayRunO
 ghost use Rattle.library_calls.specs.MapAnswers.{HasNoMap};
 ghost use Rattle.library_calls.specs.RunAnswers.{results_of};
 ghost use Rattle.library_calls.specs.declared.cause.Cause.TheVariants.{Memory};
-ghost use Rattle.v7_c.specs.KeptLeft.{Begins, Both, IsGiven, Keeps, LeavesLink, LinkMayRunOut, beginning, is_link, kept_in, of_session, kept_by};
+ghost use Rattle.v7_c.specs.KeptLeft.{Begins, Both, IsGiven, Keeps, LeavesLink, LinkMayRunOut, beginning, kept_in, of_session, kept_by};
 ghost use Rattle.v7_c.specs.RunLeft.{results_or, wants_of};
 
 use crate::handle::Handle;
-use crate::run::{ANSWERED, Request, RunAnswer, is_known, leave, wants_of};
+use crate::run::{Request, RunAnswer, leave, unread, wants_of};
 use library_calls::{
     Cause, LinkOutput, Refusal, add_bytes, begin_session, link_session, state_of, withdraw_last,
 };
@@ -25,7 +25,7 @@ pub(crate) fn begin(alloc: Global, handle: &mut Handle, forced: &[u8]) -> Result
     ensures unchanged { OnErr result (kept_by handle.new ≡ kept_by handle.old) }
 {
     if handle.is_open != 0 {
-        return Err(Refusal::from(Cause::NoSession));
+        return Err(Refusal::from(Cause::SessionOpen));
     }
     let session = begin_session(alloc, forced)?;
     match Box::new(alloc, session) {
@@ -124,13 +124,6 @@ fn run_kept(
     }
 }
 
-/// Whether a link of what is kept is asked for, with a result of this size.
-fn is_link(request: &Request<'_>, size: usize) -> bool
-    ensures { result ≡ is_link request.now size }
-{
-    is_known(request, size) && request.wants < 4
-}
-
 /// The link that is asked for, by a caller with a result of this size.
 #[tactic(auto, using(crate::proofs::KeptLemmas::by_link))]
 fn link_for(
@@ -144,13 +137,14 @@ fn link_for(
     ensures alone { IfOk result (λ given. HasNoMap given) }
     ensures unchanged { kept_by handle.new ≡ kept_by handle.old }
 {
-    if !is_link(request, size) {
-        return Err(Refusal::from(Cause::NoOption));
+    // neither the objects of what is reported nor a map
+    match unread(request, size, 3) {
+        Some(cause) => Err(Refusal::from(cause)),
+        None => run_kept(alloc, handle, request),
     }
-    run_kept(alloc, handle, request)
 }
 
-/// Links what the session keeps. A result without what every answer fills is not touched.
+/// Links what the session keeps.
 pub(crate) fn link(
     alloc: Global,
     handle: &mut Handle,
@@ -160,9 +154,6 @@ pub(crate) fn link(
     ensures left { LeavesLink (kept_by handle.old) request.now answer.old answer.new result }
     ensures unchanged { kept_by handle.new ≡ kept_by handle.old }
 {
-    if answer.size < ANSWERED {
-        return 2;
-    }
     let given = link_for(alloc, handle, request, answer.size);
     leave(answer, given)
 }

@@ -1,7 +1,7 @@
 //! A link: what is asked for, and what it gives, each a struct that begins with its size.
 ghost use Rattle.std.specs.Prelude.{◌≡◌, ◌<◌, false};
 ghost use Rattle.library_calls.specs.FileAnswers.{has_bit};
-ghost use Rattle.v7_c.specs.RunLeft.{IsAnswer, LeavesRun, answer_left, answered, counts_of, filled, has_list, has_map, has_places, is_enough, is_known, is_short, left_in, nothing, output_left, wants_of};
+ghost use Rattle.v7_c.specs.RunLeft.{IsAnswer, LeavesRun, answer_left, answered, counts_of, filled, has_list, has_map, has_places, is_enough, is_short, left_in, nothing, output_left, unread, wants_of};
 
 use crate::answer::Answer;
 use crate::buffers::{NO_ROOM, put};
@@ -14,8 +14,6 @@ use std::alloc::Global;
 
 /// The size of a request.
 const REQUEST: usize = 64;
-/// The size of a result that has what every answer fills.
-pub(crate) const ANSWERED: usize = 40;
 /// The size of a result for a report that is wanted as lines.
 const RESULT: usize = 72;
 /// The size of a result for a report that is wanted as a list.
@@ -88,11 +86,19 @@ fn is_enough(wants: u32, size: usize) -> bool
         && (!is_wanted(wants, 8) || has_map(size))
 }
 
-/// Whether the sizes of both structs and what is wanted are known.
-pub(crate) fn is_known(request: &Request<'_>, size: usize) -> bool
-    ensures { result ≡ is_known request.now size }
+/// Why a request cannot be read, with a result of this size, where wants up to `most` are known.
+pub(crate) fn unread(request: &Request<'_>, size: usize, most: u32) -> Option<Cause>
+    ensures { result ≡ unread most request.now size }
 {
-    REQUEST <= request.size && request.wants <= 15 && is_enough(request.wants, size)
+    if request.size < REQUEST {
+        Some(Cause::ShortStruct)
+    } else if most < request.wants {
+        Some(Cause::NoWant)
+    } else if is_enough(request.wants, size) {
+        None
+    } else {
+        Some(Cause::ShortStruct)
+    }
 }
 
 /// What is wanted of the report.
@@ -111,11 +117,8 @@ pub(crate) fn wants_of(wants: u32) -> Wants
 fn answer_to(alloc: Global, request: &Request<'_>, size: usize) -> Result<LinkOutput, Refusal>
     ensures { IsAnswer request.now size result }
 {
-    if !is_known(request, size) {
-        return Err(Refusal {
-            cause: Cause::NoOption,
-            place: 0,
-        });
+    if let Some(cause) = unread(request, size, 15) {
+        return Err(Refusal::from(cause));
     }
     let link = LinkRequest {
         options: request.options,
@@ -263,13 +266,10 @@ pub(crate) fn leave(answer: &mut RunAnswer<'_>, given: Result<LinkOutput, Refusa
     }
 }
 
-/// Does what is asked for. A result without what every answer fills is not touched.
+/// Does what is asked for.
 pub(crate) fn run(alloc: Global, request: &Request<'_>, answer: &mut RunAnswer<'_>) -> u32
     ensures { LeavesRun request.now answer.old answer.new result }
 {
-    if answer.size < ANSWERED {
-        return 2;
-    }
     let given = answer_to(alloc, request, answer.size);
     leave(answer, given)
 }

@@ -389,9 +389,8 @@ static struct v7_result *put_result(size_t size)
 {
     struct v7_result all = {.size = size, .file = file.at, .file_room = file.size, .report = report.at, .report_room = report.size};
 
-    put_struct(size);
-    if (size >= RESULT_LINKED)
-        memcpy(answers.at, &all, size);
+    put_struct(size < RESULT_ANSWERED ? RESULT_ANSWERED : size);
+    memcpy(answers.at, &all, size < RESULT_LINKED ? sizeof all.size : size);
     return (struct v7_result *)answers.at;
 }
 
@@ -400,17 +399,18 @@ static int takes_short_results(struct v7_session *session, uint32_t status)
     struct v7_result *result;
     size_t size, i;
 
-    for (size = sizeof size; size <= sizeof *result; size++) {
-        int is_answered = size >= RESULT_ANSWERED, is_linked = size >= RESULT_LINKED;
+    for (size = 0; size <= sizeof *result; size++) {
+        int is_linked = size >= RESULT_LINKED;
 
         result = put_result(size);
         if (link_by(session, V7_REPORT, sizeof(struct v7_request), result) != (is_linked ? status : 2) || result->size != size ||
-            !is_left(is_linked ? answers.size : is_answered ? RESULT_ANSWERED : sizeof size) || (is_answered && !is_linked && result->fault != V7_NO_OPTION))
+            !is_left(is_linked ? answers.size : RESULT_ANSWERED) || (!is_linked && result->fault != V7_SHORT_STRUCT))
             return 0;
         for (i = 0; i < sizeof wants_from / sizeof *wants_from; i++) {
+            uint32_t fault = session && wants_from[i].want >= V7_PLACES ? V7_NO_WANT : V7_SHORT_STRUCT;
+
             result = put_result(size);
-            if (size < wants_from[i].size &&
-                (link_by(session, wants_from[i].want, sizeof(struct v7_request), result) != 2 || (is_answered && result->fault != V7_NO_OPTION)))
+            if (size < wants_from[i].size && (link_by(session, wants_from[i].want, sizeof(struct v7_request), result) != 2 || result->fault != fault))
                 return 0;
         }
     }
@@ -426,7 +426,7 @@ static int takes_short_requests(struct v7_session *session, uint32_t status)
         int is_linked = size >= REQUEST_LINKED;
 
         result = put_result(sizeof *result);
-        if (link_by(session, V7_REPORT, size, result) != (is_linked ? status : 2) || (!is_linked && result->fault != V7_NO_OPTION))
+        if (link_by(session, V7_REPORT, size, result) != (is_linked ? status : 2) || (!is_linked && result->fault != V7_SHORT_STRUCT))
             return 0;
     }
     return 1;

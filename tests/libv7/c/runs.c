@@ -158,10 +158,10 @@ static void try_short(const struct v7_request *request, const struct given *want
               memcmp(got.file, wanted->file, ROOM) == 0 && memcmp(got.report, wanted->report, ROOM) == 0,
           "another link by a shorter result", number);
     asked.wants = V7_FINDINGS;
-    check(v7_run(&asked, result) == 2 && result->fault == V7_NO_OPTION && result->file_size == 0, "findings by a shorter result", number);
+    check(v7_run(&asked, result) == 2 && result->fault == V7_SHORT_STRUCT && result->file_size == 0, "findings by a shorter result", number);
     asked.wants = V7_REPORT;
     asked.size--;
-    check(v7_run(&asked, result) == 2 && result->fault == V7_NO_OPTION, "a request that is too short", number);
+    check(v7_run(&asked, result) == 2 && result->fault == V7_SHORT_STRUCT, "a request that is too short", number);
     munmap((unsigned char *)result - (page - SHORT_RESULT), 2 * page);
 }
 
@@ -186,7 +186,7 @@ static void try_list(const struct v7_request *request, const struct given *wante
               memcmp(got.file, wanted->file, ROOM) == 0 && memcmp(got.findings, wanted->findings, sizeof got.findings) == 0,
           "another list by a shorter result", number);
     asked.wants = V7_FINDINGS | V7_PLACES;
-    check(v7_run(&asked, result) == 2 && result->fault == V7_NO_OPTION && result->finding_count == 0, "objects by a shorter result", number);
+    check(v7_run(&asked, result) == 2 && result->fault == V7_SHORT_STRUCT && result->finding_count == 0, "objects by a shorter result", number);
     munmap((unsigned char *)result - (page - LIST_RESULT), 2 * page);
 }
 
@@ -260,7 +260,7 @@ static void try_map(struct v7_request *request, unsigned number)
               "records without room for all", number);
     }
     got.result.size--;
-    check(v7_run(request, &got.result) == 2 && with->fault == V7_NO_OPTION, "a result that is too short for a map", number);
+    check(v7_run(request, &got.result) == 2 && with->fault == V7_SHORT_STRUCT, "a result that is too short for a map", number);
 }
 
 static void try_link(struct v7_request *request, unsigned number)
@@ -292,7 +292,7 @@ static void try_link(struct v7_request *request, unsigned number)
     }
     request->wants = 16;
     ask(&plain, request, ROOM);
-    check(plain.status == 2 && plain.result.fault == V7_NO_OPTION && plain.result.file_size == 0 && is_clean(&plain), "an unknown want", number);
+    check(plain.status == 2 && plain.result.fault == V7_NO_WANT && plain.result.file_size == 0 && is_clean(&plain), "an unknown want", number);
 }
 
 /* the state of what is kept is that of a session to which the same objects are added anew */
@@ -330,7 +330,7 @@ static void try_kept(const struct v7_request *request, unsigned number)
     link.object_count = 0;
     check(v7_session_withdraw(&session, &answer) == 2 && answer.fault == V7_NO_SESSION, "a withdrawal without a session", number);
     check(v7_session_new(&session, request->forced.bytes, request->forced.size, &answer) == 0 && session.is_open == 1, "no session", number);
-    check(v7_session_new(&session, NULL, 0, &answer) == 2 && answer.fault == V7_NO_SESSION, "a session in place of another", number);
+    check(v7_session_new(&session, NULL, 0, &answer) == 2 && answer.fault == V7_SESSION_OPEN, "a session in place of another", number);
     for (; count > 0; count--) {
         const struct v7_slice *object = &request->objects[request->object_count ? below(request->object_count) : 0];
 
@@ -356,7 +356,7 @@ static void try_kept(const struct v7_request *request, unsigned number)
     }
     for (link.wants = V7_PLACES; link.wants <= V7_MAP; link.wants *= 2) {
         ask_of(&session, &got, &link, ROOM);
-        check(got.status == 2 && got.result.fault == V7_NO_OPTION && is_clean(&got), "places or a map of what is kept", number);
+        check(got.status == 2 && got.result.fault == V7_NO_WANT && is_clean(&got), "places or a map of what is kept", number);
     }
     link.wants = 0;
     check(v7_session_free(&session) == 0 && session.is_open == 0 && session.state == NULL && v7_session_free(&session) == 0, "a session that stays", number);
