@@ -284,7 +284,7 @@ def lessons(page, default, program, tables, same):
     same("a wrong answer", page.run("return document.querySelector('#guide .is-wrong').textContent").startswith("You chose"), True)
     page.back()
     page.wait("return view.done === 1")
-    same("Back in a lesson", page.run("return [view.list, document.querySelector('#guide .ask').textContent.slice(0, 10)]"), [[0], "Why is the"])
+    same("Back in a lesson", page.run("return [view.list, document.querySelector('#guide .ask').textContent.slice(0, 10)]"), [[0], "Why does t"])
 
 
 # the wrong answers of the open question, each with the reason that the page gives, and the list that is there
@@ -359,7 +359,7 @@ def numbers(page, default, same):
     page.open("#objects=1,2&numbers=decimal")
     same("numbers of a page in decimal", page.run("return ['016', '16', '16.'].map(numberOf)"), [14, 16, 16])
     page.open("#objects=1&numbers=decimal&lesson=1&done=1")
-    asked = "Why is the word at 2 65532?"
+    asked = "Why does the word at 2 hold 65532?"
     same("a lesson in decimal", page.run("return [prose(nextStep().ask), document.querySelector('#guide .ask').textContent.slice(0, arguments[0]), numberOf('16')]", len(asked)), [asked, asked, 16])
 
 
@@ -379,7 +379,7 @@ def leads(page, default, same):
         page.size(width, height)
         page.open("#objects=1,2,3,4,5")
         page.run("window.scrollTo(0, 400); document.getElementById('main').scrollTop = 400;")
-        top = page.run("return ['h1', '#status', '#withdraw', '#back'].map((s) => document.querySelector(s).getBoundingClientRect()).every((b) => b.top >= 0 && b.bottom <= innerHeight)")
+        top = page.run("return ['h1', '#status', '#withdraw', '#flick'].map((s) => document.querySelector(s).getBoundingClientRect()).every((b) => b.top >= 0 && b.bottom <= innerHeight)")
         same(f"the bar stays, {width} wide", top, True)
     page.size(390, 844)
     page.open("")
@@ -672,19 +672,21 @@ def ends(tools, page, same):
         same(f"what words mean, {key or 'the image'}", page.run("return allReferences(stateNow()).map((one) => one.to)"), ["text-end", "data-end"])
 
 
-def use_all(tools, page, default, program, compiled, pages, layouts, same):
+def use_all(tools, page, pages, layouts, same):
+    (default, _), (program, _), (tables, _), (compiled, many) = pages
+    page.load(default)
     first_view(page, same)
     roles(page, same)
     stops(page, compiled, same)
     keys(page, default, same)
     history(page, default, same)
     tour(page, default, same)
-    lessons(page, default, program, pages[2][0], same)
-    log_of_lessons(page, (program, pages[2][0], default), same)
+    lessons(page, default, program, tables, same)
+    log_of_lessons(page, (program, tables, default), same)
     numbers(page, default, same)
     leads(page, default, same)
     texts(page, default, same)
-    presenter(page, default, compiled, len(pages[3][1]), same)
+    presenter(page, default, compiled, len(many), same)
     paper(page, default, same)
     for path, files in pages[:3]:
         maps(tools, page, path, files, layouts, same)
