@@ -213,17 +213,19 @@ def reloc_said(reloc):
 
 CARDS = """
 document.querySelectorAll(".given").forEach((words, i) => { words.open = true; showListing(words, DATA.objects[i]); });
-return [...document.querySelectorAll(".card")].map((card) => [...card.querySelectorAll("[role=option]")].map((row) => [...row.children].map((cell) => cell.textContent)));
+return [...document.querySelectorAll(".card")].map((card) => [[...card.querySelectorAll("[role=option]")].map((row) => [...row.children].map((cell) => cell.textContent)), card.querySelector(".symbols").textContent.split("\\n")]);
 """
 CHOSEN = "choose(arguments[0], true); const row = byId(arguments[0]); return [row.getAttribute('aria-description'), getComputedStyle(row, '::after').content.includes(row.getAttribute('aria-description')), byId('note').textContent];"
 
 
 def cards(page, path, files, same):
-    """Each line of a card: where the word is in its object, its value, and its relocation word; the chosen row has this too."""
+    """Each line of a card: where the word is in its object, its value, and its relocation word; the chosen row has this too. The symbols have
+    the numbers that these words name."""
     page.load(path)
     shown = page.run(CARDS)
-    for file, rows in zip(files, shown):
+    for file, (rows, symbols) in zip(files, shown):
         one = Given(file)
+        same(f"symbols of the card of {one.name}", [(line.split()[0], line.split()[-1]) for line in symbols], [(str(number), name) for number, (name, _, _) in enumerate(one.symbols)])
         wanted = [(part, index, word, reloc) for part in PARTS for index, (word, reloc) in enumerate(one.words[part])]
         same(f"lines of the card of {one.name}", len(rows), len(wanted))
         for (part, index, word, reloc), (offset, value, said) in zip(wanted, rows):
