@@ -215,7 +215,12 @@ CARDS = """
 document.querySelectorAll(".given").forEach((words, i) => { words.open = true; showListing(words, DATA.objects[i]); });
 return [...document.querySelectorAll(".card")].map((card) => [[...card.querySelectorAll("[role=option]")].map((row) => [...row.children].map((cell) => cell.textContent)), card.querySelector(".symbols").textContent.split("\\n")]);
 """
-CHOSEN = "choose(arguments[0], true); const row = byId(arguments[0]); return [row.getAttribute('aria-description'), getComputedStyle(row, '::after').content.includes(row.getAttribute('aria-description')), byId('note').textContent];"
+# the description of a chosen row, whether it is shown (Firefox says of what attribute), and the sentence
+CHOSEN = """
+choose(arguments[0], true);
+const row = byId(arguments[0]), said = row.getAttribute("aria-description"), after = getComputedStyle(row, "::after").content;
+return [said, after.includes(said) || after.includes("attr(aria-description)"), byId("note").textContent];
+"""
 
 
 def cards(page, path, files, same):

@@ -41,7 +41,7 @@ SCRIPTS = {
     "decimal read as octal": ("numbers", "return parseInt(typed, 10);", "return parseInt(typed, 8);"),
     "a number of a lesson that is octal in decimal too": ("numbers", '(typeof part === "number" ? small(part) : part)', '(typeof part === "number" ? part.toString(8) : part)'),
     "-n with data at 0 in the maps": ("maps", '["data", bases[1], bases[2]]', '["data", layout === 1 ? 0 : bases[1], bases[2]]'),
-    "the practice asks for the state before": ("practice", "const marks = wordsOfMarks(list);\n    const adds", "const marks = wordsOfMarks(list.slice(0, -1));\n    const adds"),
+    "the practice asks for the state before": ("practice", "const answers = marks.map(", "const answers = wordsOfMarks(list.slice(0, -1)).map("),
     "the practice exchanges before and after": ("practice", "number, before, act: adds }];", "number: before, before: number, act: adds }];"),
     "a distance from the word itself": ("says", "the distance from ${shown(offset + 2)} to", "the distance from ${shown(offset)} to"),
     "as many words wait as names": ("says", 'return `${counted(waiting.length, "word")} ${waiting.length === 1', 'return `${counted(names.size, "word")} ${waiting.length === 1'),
