@@ -6,6 +6,7 @@ from tests.lib.files import read_bytes, write
 from tests.lib.objects import unpack
 from tests.page.page_browser import Keys
 from tests.page.page_data import object_of, size_said
+from tests.page.page_model import Given, Session, addend
 from tests.page.page_stage import VIEW, first
 
 FIRST = """
@@ -307,8 +308,8 @@ def word_wanted(line):
     return f"It {said}" if said.startswith("waits") else "It is a number" if said == "a" and " pc " not in line else f"refers to {said}"
 
 
-def reason_wanted(kind, act, text, lines, known, wait, adds):
-    """How the reason of a wrong answer begins, or what it has, by what `v7-lesson` says of the state."""
+def reason_wanted(kind, act, text, lines, known, wait, adds, session):
+    """How the reason of a wrong answer begins, or what it has, by what `v7-lesson` and the model say of the state."""
     line_of = lambda key: next((line for line in lines if line.startswith(key + " ")), "")
     if kind == "changes" and text != "no word":
         wanted = word_wanted(line_of(text))
@@ -322,7 +323,10 @@ def reason_wanted(kind, act, text, lines, known, wait, adds):
             return "That is what the word is now"
         if adds[1]:
             return f"{adds[0]} defines {adds[1]}: add the place of {adds[1]} to the word, modulo 200000."
-        return word_wanted(line) if act == "link" and " pc " not in line else "subtract" if act in ("link", "withdraw") else "the word"
+        if act == "link" and " pc " in line:
+            word = session.words[part, int(offset)]
+            return f"Take the address of {word.name + addend(word.added) if word.name else session.place(word)} in this link, and subtract that of the place after the word."
+        return word_wanted(line) if act == "link" else "subtract" if act == "withdraw" else "the word"
     if kind == "where" and known and act == "link" and text.isdigit() and int(text, 8) == known[1] and known[0] in ("text", "data", "bss"):
         return f"That is its offset in {known[0]}"
     return ""
@@ -340,7 +344,7 @@ def reasons(tools, page, paths, same, least=80):
                 same(f"lesson {guide}, question {done + 1}: a wrong answer", not page.run("return isAsked()") or len(wrong) > 0, True)
                 for kind, act, text, reason, here, known, wait, adds in wrong:
                     lines = tools.step(len(here), [files[number] for number in here])
-                    wanted = reason_wanted(kind, act, text, lines, known, wait, adds)
+                    wanted = reason_wanted(kind, act, text, lines, known, wait, adds, Session([Given(files[number]) for number in here]))
                     same(f"lesson {guide}, question {done + 1}, {text}: {reason}", (len(reason) > 15, wanted in reason, "undefined" in reason and kind != "choice"), (True, True, False))
                     count += 1
     print(f"{count} wrong answers have a reason", flush=True)
