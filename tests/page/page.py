@@ -310,7 +310,7 @@ class Given:
 def planted(tools, given):
     """Each fault that is planted is found."""
     with Page(given.default) as page:
-        count = plant_all(tools, page, given.default, given.questions, given.files, given.pages[1][0], given.program, given.compiled_page, given.compiled, LAYOUTS, same)
+        count = plant_all(tools, page, given.questions, given.pages, LAYOUTS, same)
     print(f"{count} faults were planted", flush=True)
 
 
