@@ -30,7 +30,7 @@ from tests.page.page_data import LAYOUTS, Tools, faults, made_objects, object_of
 from tests.page.page_layout import WIDTHS, look_at_states, look_everywhere, look_so_wide
 from tests.page.page_model import said_everywhere
 from tests.page.page_planted import plant_all
-from tests.page.page_stage import SIZES, WHOLE, response, response_with_all, stage
+from tests.page.page_stage import SIZES, WHOLE, response, response_with_all, stage, whole_steps
 from tests.page.page_use import use_all
 
 # what the page shows, as lines of text; a word is its segment and the texts of its parts
@@ -291,8 +291,9 @@ class Given:
     def staged(self):
         """The pages whose stage is measured, with their objects, and what each is."""
         made = made_objects(self.tools, 8, 60, self.seed)
-        names = "the default page", "a program in C", "pointers and bss", "sixteen objects"
-        return *((path, objects, what) for (path, objects), what in zip(self.pages, names)), (self.tools.page_of(made, "made.html"), made, f"eight objects of seed {self.seed}")
+        default, in_c, _, sixteen = self.pages
+        return ((*default, "the default page"), (*in_c, "a program in C"), (*sixteen, "sixteen objects"),
+                (self.tools.page_of(made, "made.html"), made, f"eight objects of seed {self.seed}"))
 
     @cached_property
     def large(self):
@@ -315,17 +316,20 @@ def planted(tools, given):
 
 
 def stages(tools, given):
-    """The stage of five pages in Chromium."""
+    """The stage of four pages in Chromium."""
     with Page() as page:
-        for path, objects, what in given.staged:
-            whole_or_not(stage(tools, page, path, objects, LAYOUTS, same, what), what)
-        response_with_all(page, given.compiled_page, len(given.compiled))
+        look_at_stages(tools, page, given, SIZES)
 
 
-def whole_or_not(steps_and_whole, what):
-    """Each step is whole in view; with objects that are made from a seed nine of ten."""
-    steps, whole = steps_and_whole
-    same(f"steps whole in view, {what}", 10 * whole >= 9 * steps if "seed" in what else whole == steps > 0, True)
+def look_at_stages(tools, page, given, sizes):
+    """The stage of four pages, and the steps of one more: each is whole in view, with objects that are made from a seed nine of ten."""
+    for path, objects, what in given.staged:
+        steps, whole = stage(tools, page, path, objects, LAYOUTS, same, what, sizes)
+        same(f"steps whole in view, {what}", 10 * whole >= 9 * steps if "seed" in what else whole == steps > 0, True)
+    path, objects = given.pages[2]
+    page.load(path)
+    same("steps whole in view, pointers and bss", whole_steps(page, len(objects), same, "pointers and bss"), (10, 10))
+    response_with_all(page, given.compiled_page, len(given.compiled))
 
 
 def in_firefox(tools, given):
@@ -338,9 +342,7 @@ def in_firefox(tools, given):
         with Firefox(zoom=zoom) as page:
             if zoom == 1:
                 said_everywhere(page, given.pages, same, 40)
-            for path, objects, what in given.staged:
-                whole_or_not(stage(tools, page, path, objects, LAYOUTS, same, what, sizes), what)
-            response_with_all(page, given.compiled_page, len(given.compiled))
+            look_at_stages(tools, page, given, sizes)
             look_so_wide(page, given.looked_at, widths, f"zoom {zoom} in Firefox", faults, counts)
     say_counts("Firefox", counts)
 
