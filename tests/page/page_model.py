@@ -354,7 +354,8 @@ def said_everywhere(page, pages, same, most=1000):
     """All of this, of each page that many states; `pages` are paths with their objects, the first with the lessons of the class, the second a
     program in C."""
     count = sum(says(page, path, files, same, most) for path, files in pages)
-    cards(page, *pages[0], same)
+    for path, files in pages[:3]:
+        cards(page, path, files, same)
     for path, files in pages:
         in_link(page, path, files, same)
     branches(page, *pages[1], same)

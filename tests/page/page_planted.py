@@ -48,7 +48,7 @@ SCRIPTS = {
     "bytes of bss called words": ("bss", "[bss, `${bytesText(bss)} of bss`]", "[bss, `${bss} words of bss`]"),
     "what a name was": ("says", 'return mark ? stateText(mark.kind, mark.number) : "";', 'return mark ? "undefined" : "";'),
     "a sum turned round": ("says", "`${was} + ${bound} = ${now}`", "`${bound} + ${was} = ${now}`"),
-    "a size in one base": ("says", "`0${size.toString(8)} (${size}.)`", "`0${size} (${size}.)`"),
+    "a size in one base": ("bss", "`0${size.toString(8)} (${size}.)`", "`0${size} (${size}.)`"),
     "a name without its addend": ("in_link", "const of = word.own.kind < 0 ? nameText(word.own)", "const of = word.own.kind < 0 ? word.own.name"),
     "offsets of a card that begin at 0": ("cards", "const cells = [column(word.offset), column(word.value)", "const cells = [column(2 * index), column(word.value)"),
     "another symbol in a relocation word": ("cards", "`symbol ${reloc >> 4}`", "`symbol ${reloc >> 3}`"),
@@ -205,7 +205,7 @@ def all_faults(tools, page, questions, pages, layouts, room):
     yield "a wrong answer key", lambda is_planted: refused_key(tools, questions, files, room, with_key if is_planted else with_right_key)
     yield "a wrong answer in the page", lambda is_planted: wrong_answers(tools, default, files, layouts, room, with_answer if is_planted else str)
     for what, (kind, old, new) in SCRIPTS.items():
-        path, of = {"owners": sixteen, "counts": sixteen, "distances": in_c, "branches": in_c, "bss": with_bss}.get(kind, class_example)
+        path, of = {"owners": sixteen, "counts": sixteen, "distances": in_c, "branches": in_c, "bss": with_bss, "cards": with_bss}.get(kind, class_example)
         yield what, lambda is_planted, path=path, of=of, kind=kind, old=old, new=new: in_scripts(tools, page, path, of, layouts, room, (kind, old, new if is_planted else old))
     page.load(default)
     for what, script in LAYOUT.items():
