@@ -184,7 +184,7 @@ showChosen(true);
 const struck = [...document.querySelectorAll("#image .word:is(.bound, .put-back)")].map((row) => [row.id, text(row, ".was")]);
 return [note, status, names, Object.fromEntries(struck)];
 """
-# what depends on the room for arrows, and what the first step says besides
+# what depends on the space for arrows, and what the first step says besides
 BESIDES = re.compile(r" \d+ arrows? more: choose a word to see its own\.| Now add another object, and look at which words change\.")
 
 
@@ -327,7 +327,7 @@ return [typed, wait.number, predictionOf(view.done + 1).reason, predictionOf(vie
 
 
 def questions(page, path, same):
-    """Under an open question nothing changes the session, and its answer is not on the screen; a number in the other base is told."""
+    """Under an open question nothing changes the session, and its answer is not on the screen; a number in the other base is reported."""
     page.load(path)
     asked, others = 0, 0
     for guide in range(1, page.run("return GUIDES.length")):
