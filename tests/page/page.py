@@ -1,8 +1,9 @@
 """Opens the page of the lesson in Chromium, from the disk, and compares what it shows, in every state, with what `v7-lesson`
 prints for the same objects, and the addresses with what `v7 ld` and `v7 nm` say. Then it looks at the layout in many sizes, takes the
 tour and the lessons by keys alone, and compares what is said with a model (tests/page/page_model.py). It measures the stage with the
-sixteen compiled objects of tests/page/data and with the examples: model, layout and stage in Firefox too, if it is installed. The pictures of docs/pictures are compared with the page. Faults
-are planted (tests/page/page_planted.py), and have to be found. No other script starts a browser.
+sixteen compiled objects of tests/page/data and with the examples: model, layout and stage in Firefox too, if it is installed. The
+pictures of docs/pictures are compared with the page. Faults are planted (tests/page/page_planted.py), and have to be found. No other
+script starts a browser.
 
 usage: python3 -m tests.page.page [-j JOBS] [-s SEED] [PART..]     all parts or these, so many side by side; eight objects are made from the seed
        the parts: firefox, layout, stage, planted, states, model, use; and pictures, which writes docs/pictures anew
