@@ -137,7 +137,7 @@ function putScene(context, parts, how) {
 // shows parts with the instructions around their words, with a line for each word, or a cell
 function showsAll(context, parts) {
     const count = parts.flatMap(({ groups }) => groups.flatMap(({ words }) => words)).length;
-    return [...(count <= FEW ? [{ near: true }] : []), {}, { cells: true }, { cells: true, isLast: true }].some((how) => putScene(context, parts, { limit: Infinity, ...how }));
+    return [...(count <= FEW ? [{ near: true }] : []), {}, { cells: true }, { cells: true, isLast: true }, { cells: true, isDense: true, isLast: true }].some((how) => putScene(context, parts, { limit: Infinity, ...how }));
 }
 
 // puts the first scene that fits on the stage; if none does, the last one, with so many words of large groups as fit. That of another
@@ -238,7 +238,7 @@ function partElements(context, part, number, how, used) {
     for (const one of head) setChildren(one, [...title, ...fold]);
     return [...head, ...part.groups.map((group, i) => {
         const id = `group-${number}-${i}`;
-        const element = withAttributes(byId(id) ?? make("div"), { id, class: group.isCells ? "group cells asked" : how.cells && !group.isPlain ? "group cells" : "group", role: "group", "aria-label": group.target ? counted(group.words.length, "word") : part.title || "words" });
+        const element = withAttributes(byId(id) ?? make("div"), { id, class: group.isCells ? "group cells asked" : how.cells && !group.isPlain ? `group cells${how.isDense ? " dense" : ""}` : "group", role: "group", "aria-label": group.target ? counted(group.words.length, "word") : part.title || "words" });
         setChildren(element, groupRows(context, group, how, used));
         return element;
     })];

@@ -1,11 +1,12 @@
 """Opens the page of the lesson in Chromium, from the disk, and compares what it shows, in every state, with what `v7-lesson`
-prints for the same objects, and the addresses with what `v7 ld` and `v7 nm` say. Then it looks at the layout in many sizes,
-takes the tour and the lessons by keys alone, compares what is said with a model (tests/page/page_model.py), and measures the stage with the sixteen compiled objects of tests/page/data and with the
-examples: layout and stage in Firefox too, if it is installed. The pictures of docs/pictures are compared with the page. Faults are
-planted (tests/page/page_planted.py), and have to be found.
+prints for the same objects, and the addresses with what `v7 ld` and `v7 nm` say. Then it looks at the layout in many sizes, takes the
+tour and the lessons by keys alone, and compares what is said with a model (tests/page/page_model.py). It measures the stage with the
+sixteen compiled objects of tests/page/data and with the examples: model, layout and stage in Firefox too, if it is installed. The
+pictures of docs/pictures are compared with the page. Faults are planted (tests/page/page_planted.py), and have to be found. No other
+script starts a browser.
 
 usage: python3 -m tests.page.page [-j JOBS] [-s SEED] [PART..]     all parts or these, so many side by side; eight objects are made from the seed
-       the parts: firefox, layout, stage, planted, states, model, use
+       the parts: firefox, layout, stage, planted, states, model, use; and pictures, which writes docs/pictures anew
 tier: all, 1500 seconds; words: -j 4; programs: v7 v7-lesson v7-explain; for: crates/v7_lesson page examples/lessons.txt docs/pictures; needs: chromium chromedriver selenium firefox-esr
 """
 import argparse
@@ -27,10 +28,10 @@ from tests.page import page_data
 from tests.page import page_pictures
 from tests.page.page_browser import Chromium, Firefox, Keys, firefox
 from tests.page.page_data import LAYOUTS, Tools, faults, made_objects, object_of, program_files, program_in_c, same, sixteen_objects, tables_and_bss, words_of
-from tests.page.page_layout import look_everywhere, look_in_firefox
+from tests.page.page_layout import WIDTHS, look_at_states, look_everywhere, look_so_wide
 from tests.page.page_model import said_everywhere
 from tests.page.page_planted import plant_all
-from tests.page.page_stage import SIZES, WHOLE, response, response_with_all, stage
+from tests.page.page_stage import SIZES, WHOLE, response, response_with_all, stage, whole_steps
 from tests.page.page_use import use_all
 
 # what the page shows, as lines of text; a word is its segment and the texts of its parts
@@ -86,9 +87,15 @@ def sum_of(text):
     return second, (first + second - sum(minus)) % 65536 == final, final
 
 
+def by_alphabet(lines):
+    """Lines with the names sorted: in which order the page has them, page_model.py compares."""
+    names = iter(sorted(line for line in lines if line.startswith("name ")))
+    return [next(names) if line.startswith("name ") else line for line in lines]
+
+
 def compare_state(tools, page, what, step, files):
     shown = page.read()
-    same(what, lines_on(shown), tools.step(step, files))
+    same(what, by_alphabet(lines_on(shown)), by_alphabet(tools.step(step, files)))
     return shown
 
 
@@ -161,14 +168,13 @@ def walk(tools, page, files, chosen):
 
 def program(tools, files):
     """Five objects in their order, with words that refer to each segment of their own."""
-    page = Page(tools.page_of(files, "program.html"))
-    for number in range(1, len(files) + 1):
-        here = files[:number]
-        what = " ".join(os.path.basename(file) for file in here)
-        page.type(str(number))
-        compare_state(tools, page, what, number, here)
-        compare_addresses(tools, page, what, here)
-    page.quit()
+    with Page(tools.page_of(files, "program.html")) as page:
+        for number in range(1, len(files) + 1):
+            here = files[:number]
+            what = " ".join(os.path.basename(file) for file in here)
+            page.type(str(number))
+            compare_state(tools, page, what, number, here)
+            compare_addresses(tools, page, what, here)
 
 
 def every_state(tools, page, files):
@@ -225,12 +231,11 @@ def large(tools, files):
     given[4] = files[1]
     path = tools.page_of(given, "large.html")
     same("bytes of large objects", os.path.getsize(path) <= 5_000_000, True)
-    page = Page(path)
-    page.type("1", "5")
-    shown = page.run(READ)
+    with Page(path) as page:
+        page.type("1", "5")
+        shown = page.run(READ)
     same("what changed", sorted(word["number"] for word in shown["words"] if word["tag"] == "bound"), [1400, 4400, 7400, 10400])
     same("words that are not folded", 4 < len(shown["words"]) < 100, True)
-    page.quit()
 
 
 # what is clicked in which state, to see how long the page takes
@@ -238,10 +243,10 @@ CLICKS = {"an object": ("objects=1,2,3,4", "#add5"), "Withdraw": ("objects=1,2,3
           "a word": ("objects=1,2,3,4,5", ".word.bound"), "a name": ("objects=1,2,3,4,5", ".name"), "a fold": ("objects=1,2,3,4,5", ".fold")}
 
 
-def five_of_500(tools, given, path):
+def five_of_500(tools, page, given, path):
     """Each word of five objects of 500 words can be reached, in the image and in each link; what changed is never folded."""
     same("bytes of five objects of 500 words", os.path.getsize(path) <= 5_000_000, True)
-    page = Page(path)
+    page.load(path)
     for order in ("1,2,3,4,5", "5,3,1", "2,4"):
         here = [given[int(number) - 1] for number in order.split(",")]
         page.open(f"#objects={order}")
@@ -258,16 +263,14 @@ def five_of_500(tools, given, path):
         same(f"{order}: words", len(shown["words"]), 500 * len(here))
         compare_addresses(tools, page, f"five objects, {order}", here)
     response(page, "five objects of 500 words", CLICKS)
-    page.quit()
 
 
 def full(tools, files):
     """A link of a full segment is refused, with the text that the programs have."""
-    page = Page(tools.page_of([page_data.full(tools, files), files[3]], "full.html"))
-    page.shows_all = False
-    page.type("1", "2")
-    compare_addresses(tools, page, "full.o l.o", [os.path.join(tools.room, "full.o"), files[3]])
-    page.quit()
+    with Page(tools.page_of([page_data.full(tools, files), files[3]], "full.html")) as page:
+        page.shows_all = False
+        page.type("1", "2")
+        compare_addresses(tools, page, "full.o l.o", [os.path.join(tools.room, "full.o"), files[3]])
 
 
 class Given:
@@ -286,11 +289,18 @@ class Given:
         return self.tools.page_of(objects, name, os.path.join(os.path.dirname(objects[0]), "lessons.txt"))
 
     @cached_property
+    def pages(self):
+        """The pages whose texts are read, with their objects: the class example, a program in C, pointers and bss, and sixteen objects."""
+        course, tables = self.with_lessons(self.program, "course.html"), self.with_lessons(self.tables, "tables.html")
+        return ((self.default, self.files), (course, self.program), (tables, self.tables), (self.compiled_page, self.compiled))
+
+    @cached_property
     def staged(self):
         """The pages whose stage is measured, with their objects, and what each is."""
         made = made_objects(self.tools, 8, 60, self.seed)
-        return ((self.default, self.files, "the default page"), (self.tools.page_of(self.program, "program.html"), self.program, "a program in C"),
-                (self.compiled_page, self.compiled, "sixteen objects"), (self.tools.page_of(made, "made.html"), made, f"eight objects of seed {self.seed}"))
+        default, in_c, _, sixteen = self.pages
+        return ((*default, "the default page"), (*in_c, "a program in C"), (*sixteen, "sixteen objects"),
+                (self.tools.page_of(made, "made.html"), made, f"eight objects of seed {self.seed}"))
 
     @cached_property
     def large(self):
@@ -307,37 +317,41 @@ class Given:
 
 def planted(tools, given):
     """Each fault that is planted is found."""
-    page = Page(given.default)
-    count = plant_all(tools, page, given.default, given.questions, given.files, given.staged[1][0], given.program, given.compiled_page, given.compiled, LAYOUTS, same)
-    page.quit()
+    with Page(given.default) as page:
+        count = plant_all(tools, page, given.questions, given.pages, LAYOUTS, same)
     print(f"{count} faults were planted", flush=True)
 
 
 def stages(tools, given):
-    """The stage of four pages in Chromium. Of all steps that bind words nine of ten are whole in view."""
-    page = Page()
-    counts = [stage(tools, page, path, objects, LAYOUTS, same, what) for path, objects, what in given.staged]
-    steps, whole = (sum(both) for both in zip(*counts))
-    print(f"{whole} of {steps} steps are whole in view at 1366 x 768", flush=True)
-    same("steps whole in view, nine of ten", 10 * whole >= 9 * steps, True)
+    """The stage of four pages in Chromium."""
+    with Page() as page:
+        look_at_stages(tools, page, given, SIZES)
+
+
+def look_at_stages(tools, page, given, sizes):
+    """The stage of four pages, and the steps of one more: each is whole in view, with objects that are made from a seed nine of ten."""
+    for path, objects, what in given.staged:
+        steps, whole = stage(tools, page, path, objects, LAYOUTS, same, what, sizes)
+        same(f"steps whole in view, {what}", 10 * whole >= 9 * steps if "seed" in what else whole == steps > 0, True)
+    path, objects = given.pages[2]
+    page.load(path)
+    same("steps whole in view, pointers and bss", whole_steps(page, len(objects), same, "pointers and bss"), (10, 10))
     response_with_all(page, given.compiled_page, len(given.compiled))
-    page.quit()
 
 
 def in_firefox(tools, given):
-    """The stage and the layout of the pages in Firefox."""
+    """What the pages say, their stage and their layout in Firefox."""
     if not firefox():
         print("not measured in Firefox, as it is not installed: Debian's package is firefox-esr")
         return
-    for zoom, sizes in ((1, SIZES[:-1]), (2, SIZES[-1:])):
-        page = Firefox(zoom)
-        try:
-            for path, objects, what in given.staged:
-                stage(tools, page, path, objects, LAYOUTS, same, what, sizes)
-            response_with_all(page, given.compiled_page, len(given.compiled))
-        finally:
-            page.quit()
-    say_counts("Firefox", look_in_firefox(given.looked_at, faults))
+    counts = {}
+    for zoom, sizes, widths in ((1, SIZES[:-1], WIDTHS), (2, SIZES[-1:], [640])):
+        with Firefox(zoom=zoom) as page:
+            if zoom == 1:
+                said_everywhere(page, given.pages, same, 40)
+            look_at_stages(tools, page, given, sizes)
+            look_so_wide(page, given.looked_at, widths, f"zoom {zoom} in Firefox", faults, counts)
+    say_counts("Firefox", counts)
 
 
 def say_counts(name, counts):
@@ -346,46 +360,50 @@ def say_counts(name, counts):
 
 
 def layouts(_, given):
-    """The layout of four pages in all sizes in Chromium."""
-    page = Page()
-    say_counts("Chromium", look_everywhere(page, given.looked_at, faults))
-    page.quit()
+    """The layout of four pages in all sizes, and with large text, in Chromium."""
+    counts = {}
+    with Page() as page:
+        look_everywhere(page, given.looked_at, faults, counts)
+    with Page(text=32) as page:
+        for name, path in given.looked_at.items():
+            page.load(path)
+            look_at_states(page, name, "text of 200 %", faults, counts)
+    say_counts("Chromium", counts)
 
 
 def uses(tools, given):
     """The page is used as a student does."""
-    page = Page(given.default)
-    course, tables = given.with_lessons(given.program, "course.html"), given.with_lessons(given.tables, "tables.html")
-    pages = [(given.default, given.files), (course, given.program), (tables, given.tables), (given.compiled_page, given.compiled)]
-    use_all(tools, page, given.default, course, given.compiled_page, pages, LAYOUTS, same)
-    page.quit()
+    with Page() as page:
+        use_all(tools, page, given.pages, LAYOUTS, same)
 
 
-def model(tools, given):
+def model(_, given):
     """What the page says is what a model of the session says."""
-    page = Page(given.default)
-    course, tables = given.with_lessons(given.program, "course.html"), given.with_lessons(given.tables, "tables.html")
-    said_everywhere(tools, page, [(given.default, given.files), (course, given.program), (tables, given.tables), (given.compiled_page, given.compiled)], same)
-    page.quit()
+    with Page() as page:
+        said_everywhere(page, given.pages, same)
 
 
 def states(tools, given):
     """Each state of five objects, and of some larger ones."""
     files = given.files
-    page = Page(tools.page_of(files[:4]))
-    clicks(tools, page, files)
-    by_keyboard(tools, page, files)
-    page.open("")
-    walk(tools, page, files[:4], [])
-    page.quit()
-    page = Page(given.default)
-    every_state(tools, page, files)
-    page_pictures.compare(page, same)
-    page.quit()
+    with Page(tools.page_of(files[:4])) as page:
+        clicks(tools, page, files)
+        by_keyboard(tools, page, files)
+        page.open("")
+        walk(tools, page, files[:4], [])
+    with Page(given.default) as page:
+        every_state(tools, page, files)
+        page_pictures.compare(page, same)
+        five_of_500(tools, page, *given.large)
     program(tools, program_files(files))
     large(tools, files)
     full(tools, files)
-    five_of_500(tools, *given.large)
+
+
+def pictures(_, given):
+    """Writes the pictures of docs/pictures."""
+    with Page(given.default) as page:
+        page_pictures.make(page, page_pictures.PICTURES)
 
 
 # the parts, the longest first
@@ -398,7 +416,7 @@ def run_part(name, seed):
     with tempfile.TemporaryDirectory() as room:
         try:
             tools = Tools(room)
-            PARTS[name](tools, Given(tools, seed))
+            {**PARTS, "pictures": pictures}[name](tools, Given(tools, seed))
         except (Exception, KeyboardInterrupt) as error:  # the faults that were found are printed all the same
             faults.append(f"{type(error).__name__}: {error}")
             traceback.print_exc()

@@ -33,16 +33,29 @@ PATIENCE = 300
 SETTLED = "const done = arguments[arguments.length - 1]; requestAnimationFrame(() => requestAnimationFrame(() => done()));"
 
 
-def wait_for(page, script, *words):
-    """Waits until a script gives true."""
-    end = time.monotonic() + PATIENCE
-    while not page.run(script, *words):
-        if time.monotonic() > end:
-            raise TimeoutError(f"{page.name} does not come to: {script} {words}")
-        time.sleep(0.02)
+class Browser:
+    """What both browsers have: a `with` starts one with a page, and ends it."""
+
+    def __enter__(self):
+        return self
+
+    def __exit__(self, *_):
+        self.quit()
+
+    def load(self, path):
+        self.url = "file://" + path
+        self.open("")
+
+    def wait(self, script, *words):
+        """Waits until a script gives true."""
+        end = time.monotonic() + PATIENCE
+        while not self.run(script, *words):
+            if time.monotonic() > end:
+                raise TimeoutError(f"{self.name} does not come to: {script} {words}")
+            time.sleep(0.02)
 
 
-class Chromium:
+class Chromium(Browser):
     name = "Chromium"
     # it tells how much of the processor the page has taken
     counts_processor = True
@@ -71,10 +84,6 @@ class Chromium:
                 if time.monotonic() > end:
                     raise
 
-    def load(self, path):
-        self.url = "file://" + path
-        self.open("")
-
     def open(self, address):
         self.driver.get("about:blank")
         self.driver.get(self.url + address)
@@ -98,9 +107,6 @@ class Chromium:
 
     def run(self, script, *words):
         return self.driver.execute_script(script, *words)
-
-    def wait(self, script, *words):
-        wait_for(self, script, *words)
 
     def settle(self):
         self.driver.execute_async_script(SETTLED)
@@ -169,13 +175,13 @@ def firefox():
     return shutil.which("firefox-esr") or shutil.which("firefox")
 
 
-class Firefox:
+class Firefox(Browser):
     """The same for Firefox, as far as it is needed. Its window is at least 500 pixels wide, so the page is a frame in it."""
 
     name = "Firefox"
     counts_processor = False
 
-    def __init__(self, zoom=1):
+    def __init__(self, path="", zoom=1):
         self.home = tempfile.mkdtemp()
         with socket.socket() as free:
             free.bind(("127.0.0.1", 0))
@@ -183,12 +189,14 @@ class Firefox:
         with open(os.path.join(self.home, "user.js"), "w", encoding="ascii") as out:
             out.write(f'user_pref("marionette.port", {port});\nuser_pref("layout.css.devPixelsPerPx", "{zoom}");\n')
             out.write('user_pref("browser.shell.checkDefaultBrowser", false);\nuser_pref("security.fileuri.strict_origin_policy", false);\n')
-        self.window = self.framed = (0, 0)
+        self.window, self.framed = (1366, 768), (0, 0)
         words = [firefox(), "--headless", "--marionette", "--no-remote", "--profile", self.home]
         self.process = subprocess.Popen(words, stdout=subprocess.DEVNULL, stderr=subprocess.DEVNULL, env={**os.environ, "HOME": self.home})
         self.socket, self.rest, self.number = self.reach(port), b"", 0
         self.receive()
         self.send("WebDriver:NewSession", {"timeouts": {"script": 1000 * PATIENCE}})
+        if path:
+            self.load(path)
 
     def reach(self, port):
         end = time.monotonic() + PATIENCE
@@ -216,14 +224,6 @@ class Firefox:
         if fault:
             raise RuntimeError(f"{command}: {fault['error']}: {fault['message']}")
         return result
-
-    def load(self, path):
-        self.url = "file://" + path
-
-    def show(self, width, height):
-        """Opens the page in a window, or a frame, that is so wide."""
-        self.window = width, height
-        self.open("")
 
     def size(self, width, height, scale=1):
         """The size of the frame that the next page is opened in. A dot is what `zoom` of the browser makes it."""
@@ -261,9 +261,6 @@ class Firefox:
         text = f"JSON.stringify((function () {{ {script}\n }}).apply(null, {json.dumps(words)}) ?? null)"
         value = self.send("WebDriver:ExecuteScript", {"script": "return window.eval(arguments[0]);", "args": [text]})["value"]
         return json.loads(value)
-
-    def wait(self, script, *words):
-        wait_for(self, script, *words)
 
     def settle(self):
         self.send("WebDriver:ExecuteAsyncScript", {"script": SETTLED, "args": []})

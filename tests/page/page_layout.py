@@ -1,6 +1,4 @@
 """Looks at where things are on the page of the lesson: arrows, text in its frames, badges."""
-from tests.page.page_browser import Chromium, Firefox
-
 # faults of the layout that is shown, as texts, and how many things were looked at
 LOOK = r"""
 const faults = [], counts = { arrows: 0, lines: 0, texts: 0, badges: 0, crossings: 0 };
@@ -130,7 +128,7 @@ def look(page, what, faults, counts):
 
 # widths, heights and scales of a window in Chromium; a zoom of 200 % at 1280 is a window of 640 pixels, each of two dots
 SIZES = [(390, 844, 1), (820, 1180, 1), (1280, 720, 1), (1920, 1080, 1), (640, 360, 2)]
-FIREFOX_WIDTHS = [390, 820, 1280, 1920]
+WIDTHS = [390, 820, 1280, 1920]
 
 # of each page the states that are looked at
 STATES = {
@@ -221,8 +219,8 @@ def look_with_instructions(page, path, faults, counts):
             look(page, f"instructions, {width} wide, {state}", faults, counts)
 
 
-def look_everywhere(page, pages, faults):
-    counts = {}
+def look_everywhere(page, pages, faults, counts):
+    """In all sizes, with the longest instructions, and on paper."""
     look_with_instructions(page, pages["the default page"], faults, counts)
     for name, path in pages.items():
         page.load(path)
@@ -231,24 +229,13 @@ def look_everywhere(page, pages, faults):
             look_at_states(page, name, f"{width} wide", faults, counts)
         page.open("")
         look_on_paper(page, name, faults, counts)
-    large = Chromium(text=32)
+
+
+def look_so_wide(page, pages, widths, what, faults, counts):
+    """In some widths."""
     for name, path in pages.items():
-        large.load(path)
-        look_at_states(large, name, "text of 200 %", faults, counts)
-    large.quit()
-    return counts
-
-
-def look_in_firefox(pages, faults):
-    counts = {}
-    for zoom, widths in ((1, FIREFOX_WIDTHS), (2, [640])):
-        page = Firefox(zoom)
-        try:
-            for name, path in pages.items():
-                page.load(path)
-                for width in widths:
-                    page.show(width, 800)
-                    look_at_states(page, name, f"{width} wide in Firefox, zoom {zoom}", faults, counts)
-        finally:
-            page.quit()
-    return counts
+        page.load(path)
+        for width in widths:
+            page.size(width, 800)
+            page.open("")
+            look_at_states(page, name, f"{width} wide, {what}", faults, counts)

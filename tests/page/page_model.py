@@ -7,19 +7,14 @@ from itertools import permutations
 
 from tests.lib.files import read_bytes
 from tests.lib.objects import unpack
+from tests.page.page_data import PARTS, WORD, branch_of, size_said
 
-WORD = 0o200000
-PARTS = ("text", "data")
 SEGMENT = {0o2: "text", 0o4: "data", 0o6: "bss"}
 DEFINED = {0o42: "text", 0o43: "data", 0o44: "bss"}
 
 
 def counted(number, what):
     return f"{number} {what}{'' if number == 1 else 's'}"
-
-
-def size_said(size):
-    return f"0{size:o} ({size}.) bytes"
 
 
 def addend(meant):
@@ -75,9 +70,10 @@ class Session:
                 self.names[name] = ("common", max(size, value))
             return
         segment = DEFINED.get(kind, "number")
+        place = segment, value if segment == "number" else (value - one.start(segment) + front[segment]) % WORD
         if known in ("undefined", "common"):
-            self.names[name] = (segment, value if segment == "number" else (value - one.start(segment) + front[segment]) % WORD)
-        elif name not in self.multiples:
+            self.names[name] = place
+        elif self.names[name] != place and name not in self.multiples:
             self.multiples.append(name)
 
     def word(self, one, front, part, index, word, reloc):
@@ -188,16 +184,17 @@ showChosen(true);
 const struck = [...document.querySelectorAll("#image .word:is(.bound, .put-back)")].map((row) => [row.id, text(row, ".was")]);
 return [note, status, names, Object.fromEntries(struck)];
 """
-# what depends on the room for arrows, and what the first step says besides
+# what depends on the space for arrows, and what the first step says besides
 BESIDES = re.compile(r" \d+ arrows? more: choose a word to see its own\.| Now add another object, and look at which words change\.")
 
 
-def says(page, path, files, same, most=1000):
+def says(page, path, files, same, most):
     """The sentence, the status, the names and what is struck out in each state, or so many."""
     page.load(path)
     objects, count = [Given(file) for file in files], len(files)
     lists = [order for length in range(1, count + 1) for order in permutations(range(count), length)] if count <= 5 else [range(length) for length in range(1, count + 1)]
-    for order in lists[::max(1, len(lists) // most)]:
+    lists = lists[::max(1, len(lists) // most)]
+    for order in lists:
         for is_gone in (False, True):
             step, what = Step([objects[number] for number in order], is_gone), f"{[*order]}{', withdrawn' if is_gone else ''}"
             note, status, names, struck = page.run(SAID, [*order], is_gone)
@@ -216,17 +213,24 @@ def reloc_said(reloc):
 
 CARDS = """
 document.querySelectorAll(".given").forEach((words, i) => { words.open = true; showListing(words, DATA.objects[i]); });
-return [...document.querySelectorAll(".card")].map((card) => [...card.querySelectorAll("[role=option]")].map((row) => [...row.children].map((cell) => cell.textContent)));
+return [...document.querySelectorAll(".card")].map((card) => [[...card.querySelectorAll("[role=option]")].map((row) => [...row.children].map((cell) => cell.textContent)), card.querySelector(".symbols").textContent.split("\\n")]);
 """
-CHOSEN = "choose(arguments[0], true); const row = byId(arguments[0]); return [row.getAttribute('aria-description'), getComputedStyle(row, '::after').content.includes(row.getAttribute('aria-description')), byId('note').textContent];"
+# the description of a chosen row, whether it is shown (Firefox says of what attribute), and the sentence
+CHOSEN = """
+choose(arguments[0], true);
+const row = byId(arguments[0]), said = row.getAttribute("aria-description"), after = getComputedStyle(row, "::after").content;
+return [said, after.includes(said) || after.includes("attr(aria-description)"), byId("note").textContent];
+"""
 
 
 def cards(page, path, files, same):
-    """Each line of a card: where the word is in its object, its value, and its relocation word; the chosen row has this too."""
+    """Each line of a card: where the word is in its object, its value, and its relocation word; the chosen row has this too. The symbols have
+    the numbers that these words name."""
     page.load(path)
     shown = page.run(CARDS)
-    for file, rows in zip(files, shown):
+    for file, (rows, symbols) in zip(files, shown):
         one = Given(file)
+        same(f"symbols of the card of {one.name}", [(line.split()[0], line.split()[-1]) for line in symbols], [(str(number), name) for number, (name, _, _) in enumerate(one.symbols)])
         wanted = [(part, index, word, reloc) for part in PARTS for index, (word, reloc) in enumerate(one.words[part])]
         same(f"lines of the card of {one.name}", len(rows), len(wanted))
         for (part, index, word, reloc), (offset, value, said) in zip(wanted, rows):
@@ -274,15 +278,6 @@ def tour_count(page, path, same):
 BRANCHES = "isWhole = true; for (const one of view.list) opened.add(one); showChosen(true); return [...document.querySelectorAll('#image .word')].map((row) => [row.id, row.querySelector('.instruction')?.textContent ?? '']);"
 
 
-def branch_of(word, address):
-    """The address to which a word branches, if it does."""
-    if word & 0o177000 == 0o077000:
-        return (address + 2 - 2 * (word & 0o77)) % WORD
-    if 0o400 <= word < 0o4000 or 0o100000 <= word < 0o104000:
-        return (address + 2 + 2 * (word & 0o377) - (0o1000 if word & 0o200 else 0)) % WORD
-    return None
-
-
 def branches(page, path, files, same):
     """A branch of the image leads to its place there, and has that of the object after it, if this is another one; the sentence says so."""
     page.load(path)
@@ -321,19 +316,18 @@ if (wait.kind === "where" && wait.number !== null && [...document.querySelectorA
 if (wait.act?.[0] === "link" && wait.act[1] === view.layout) found.push("the link is shown");
 return found;
 """
+# the answer of the open question in decimal, as far as its digits could be octal, and what is said of it
 OTHER_BASE = """
-const wait = nextStep();
-if (!["value", "where"].includes(wait?.kind) || wait.number === null || wait.number < 8) return null;
-byId("number").value = String(wait.number) + (/[89]/.test(String(wait.number)) ? "" : "");
-const typed = byId("number").value, asOctal = /[89]/.test(typed) ? NaN : parseInt(typed, 8);
-if (Number.isNaN(asOctal)) return null;
+const wait = nextStep(), typed = String(wait?.number ?? "");
+if (!["value", "where"].includes(wait?.kind) || !/^[0-7]{2,}$/.test(typed)) return null;
+byId("number").value = typed;
 giveNumber();
 return [typed, wait.number, predictionOf(view.done + 1).reason, predictionOf(view.done + 1).isRight];
 """
 
 
 def questions(page, path, same):
-    """Under an open question nothing changes the session, and its answer is not on the screen; a number in the other base is told."""
+    """Under an open question nothing changes the session, and its answer is not on the screen; a number in the other base is reported."""
     page.load(path)
     asked, others = 0, 0
     for guide in range(1, page.run("return GUIDES.length")):
@@ -348,18 +342,20 @@ def questions(page, path, same):
             other = page.run(OTHER_BASE)
             if other:
                 typed, number, reason, is_right = other
-                same(f"{what}: {typed} for {number:o}", (is_right, reason), (False, f"Read in decimal that is right, but {typed} is octal here: type {number}."))
+                same(f"{what}: {typed} for {number:o}", (is_right, reason), (False, f"Read in decimal that is right, but {typed} is octal here: type 0{number:o}, or {number}. with the point."))
             asked, others = asked + 1, others + bool(other)
-    page.open("#objects=1&lesson=6&done=3")
-    page.wait("return view.guide === 6")
-    same("an address with other objects", page.run("return [view.list, isAsked()]"), [page.run("return guideView(6, 3).list"), page.run("return Boolean(GUIDES[6].steps[4].ask)")])
+    done = page.run("return GUIDES[1].steps.findIndex(({ ask }) => ask) - 1")
+    page.open(f"#objects=2&lesson=1&done={done}")
+    same("an address with other objects", page.run("return [view.list, isAsked()]"), [page.run("return guideView(1, arguments[0]).list", done), True])
     same("questions, and numbers in the other base", (asked > 5, others > 0), (True, True))
 
 
-def said_everywhere(tools, page, pages, same):
-    """All of this; `pages` are paths with their objects, the first with the lessons of the class, the second a program in C."""
-    count = sum(says(page, path, files, same) for path, files in pages)
-    cards(page, *pages[0], same)
+def said_everywhere(page, pages, same, most=1000):
+    """All of this, of each page that many states; `pages` are paths with their objects, the first with the lessons of the class, the second a
+    program in C."""
+    count = sum(says(page, path, files, same, most) for path, files in pages)
+    for path, files in pages[:3]:
+        cards(page, path, files, same)
     for path, files in pages:
         in_link(page, path, files, same)
     branches(page, *pages[1], same)
@@ -367,4 +363,4 @@ def said_everywhere(tools, page, pages, same):
     tour_count(page, pages[0][0], same)
     for path, _ in pages[:3]:
         questions(page, path, same)
-    print(f"{count} sentences, and as many lists of names, are those of the model", flush=True)
+    print(f"{page.name}: {count} sentences, and as many lists of names, are those of the model", flush=True)

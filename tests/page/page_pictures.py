@@ -1,15 +1,8 @@
-#!/usr/bin/env python3
-"""The pictures of docs/pictures are made from the page of the lesson: this writes them, and tests/page/page.py compares them.
-
-usage: python3 -m tests.page.page_pictures PAGE     PAGE is the page as `make page` leaves it, build/lesson.html
-"""
+"""The pictures of docs/pictures are made from the page of the lesson. `python3 -m tests.page.page pictures` writes them."""
 import base64
-import os
-import sys
 import tempfile
 
 from tests.lib.files import read_bytes
-from tests.page.page_browser import Chromium
 
 PICTURES = "docs/pictures"
 STATES = {"first": "", "bound": "objects=1,2"}
@@ -53,12 +46,5 @@ def compare(page, same):
     with tempfile.TemporaryDirectory() as folder:
         make(page, folder)
         for name in STATES:
-            same(f"docs/pictures/{name}.png, as tests/page/page_pictures.py makes it", difference(page, f"{folder}/{name}.png", f"{PICTURES}/{name}.png") <= LIMIT, True)
+            same(f"docs/pictures/{name}.png, as the part `pictures` makes it", difference(page, f"{folder}/{name}.png", f"{PICTURES}/{name}.png") <= LIMIT, True)
         same("planted: a picture of another state", difference(page, f"{folder}/first.png", f"{PICTURES}/bound.png") > LIMIT, True)
-
-
-if __name__ == "__main__":
-    os.makedirs(PICTURES, exist_ok=True)
-    shown = Chromium(os.path.abspath(sys.argv[1]))
-    make(shown, PICTURES)
-    shown.quit()

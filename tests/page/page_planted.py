@@ -41,14 +41,14 @@ SCRIPTS = {
     "decimal read as octal": ("numbers", "return parseInt(typed, 10);", "return parseInt(typed, 8);"),
     "a number of a lesson that is octal in decimal too": ("numbers", '(typeof part === "number" ? small(part) : part)', '(typeof part === "number" ? part.toString(8) : part)'),
     "-n with data at 0 in the maps": ("maps", '["data", bases[1], bases[2]]', '["data", layout === 1 ? 0 : bases[1], bases[2]]'),
-    "the practice asks for the state before": ("practice", "const marks = wordsOfMarks(list);\n    const adds", "const marks = wordsOfMarks(list.slice(0, -1));\n    const adds"),
+    "the practice asks for the state before": ("practice", "const answers = marks.map(", "const answers = wordsOfMarks(list.slice(0, -1)).map("),
     "the practice exchanges before and after": ("practice", "number, before, act: adds }];", "number: before, before: number, act: adds }];"),
     "a distance from the word itself": ("says", "the distance from ${shown(offset + 2)} to", "the distance from ${shown(offset)} to"),
     "as many words wait as names": ("says", 'return `${counted(waiting.length, "word")} ${waiting.length === 1', 'return `${counted(names.size, "word")} ${waiting.length === 1'),
-    "bytes of bss called words": ("says", "[bss, `${bytesText(bss)} of bss`]", "[bss, `${bss} words of bss`]"),
+    "bytes of bss called words": ("bss", "[bss, `${bytesText(bss)} of bss`]", "[bss, `${bss} words of bss`]"),
     "what a name was": ("says", 'return mark ? stateText(mark.kind, mark.number) : "";', 'return mark ? "undefined" : "";'),
     "a sum turned round": ("says", "`${was} + ${bound} = ${now}`", "`${bound} + ${was} = ${now}`"),
-    "a size in one base": ("says", "`0${size.toString(8)} (${size}.)`", "`0${size} (${size}.)`"),
+    "a size in one base": ("bss", "`0${size.toString(8)} (${size}.)`", "`0${size} (${size}.)`"),
     "a name without its addend": ("in_link", "const of = word.own.kind < 0 ? nameText(word.own)", "const of = word.own.kind < 0 ? word.own.name"),
     "offsets of a card that begin at 0": ("cards", "const cells = [column(word.offset), column(word.value)", "const cells = [column(2 * index), column(word.value)"),
     "another symbol in a relocation word": ("cards", "`symbol ${reloc >> 4}`", "`symbol ${reloc >> 3}`"),
@@ -145,7 +145,8 @@ def in_scripts(tools, page, path, files, layouts, room, change):
                 "maps": lambda: maps(tools, page, changed, files, layouts, found.same), "practice": lambda: practice(tools, page, changed, files, found.same),
                 "owners": lambda: owners(page, changed, files, found.same), "counts": lambda: counts(page, changed, len(files), found.same), "paper": lambda: paper(page, changed, found.same),
                 "result": lambda: result(page, changed, found.same), "beside": lambda: beside(page, changed, files, found.same), "distances": lambda: distances(page, changed, found.same),
-                "says": lambda: page_model.says(page, changed, files, found.same, 40), "in_link": lambda: page_model.in_link(page, changed, files, found.same),
+                **{kind: lambda: page_model.says(page, changed, files, found.same, 40) for kind in ("says", "bss")},
+                "in_link": lambda: page_model.in_link(page, changed, files, found.same),
                 "cards": lambda: page_model.cards(page, changed, files, found.same), "legend": lambda: page_model.legend(page, changed, found.same),
                 "tour": lambda: page_model.tour_count(page, changed, found.same), "questions": lambda: page_model.questions(page, changed, found.same),
                 "branches": lambda: page_model.branches(page, changed, files, found.same), "count": lambda: named(tools, page, changed, files, found.same)}
@@ -196,13 +197,15 @@ def labels(page, default, more):
     return found.faults
 
 
-def all_faults(tools, page, default, questions, files, program, given, compiled, many, layouts, room):
+def all_faults(tools, page, questions, pages, layouts, room):
     """Each fault, with what finds it where it is planted, and where it is not."""
+    class_example, in_c, with_bss, sixteen = pages
+    (default, files), (compiled, many) = class_example, sixteen
     yield "a label set as a property", lambda is_planted: labels(page, default, LABEL_AS_PROPERTY if is_planted else "")
     yield "a wrong answer key", lambda is_planted: refused_key(tools, questions, files, room, with_key if is_planted else with_right_key)
     yield "a wrong answer in the page", lambda is_planted: wrong_answers(tools, default, files, layouts, room, with_answer if is_planted else str)
     for what, (kind, old, new) in SCRIPTS.items():
-        path, of = {"owners": (compiled, many), "counts": (compiled, many), "distances": (program, given), "branches": (program, given)}.get(kind, (default, files))
+        path, of = {"owners": sixteen, "counts": sixteen, "distances": in_c, "branches": in_c, "bss": with_bss, "cards": with_bss}.get(kind, class_example)
         yield what, lambda is_planted, path=path, of=of, kind=kind, old=old, new=new: in_scripts(tools, page, path, of, layouts, room, (kind, old, new if is_planted else old))
     page.load(default)
     for what, script in LAYOUT.items():
@@ -214,11 +217,11 @@ def all_faults(tools, page, default, questions, files, program, given, compiled,
         yield what, lambda is_planted, kind=kind, script=script: on_stage(tools, page, many[:5], layouts, kind, script if is_planted else "")
 
 
-def plant_all(tools, page, default, questions, files, program, given, compiled, many, layouts, same):
+def plant_all(tools, page, questions, pages, layouts, same):
     """Plants each fault, and prints whether it is found."""
     count = 0
     with tempfile.TemporaryDirectory() as room:
-        for what, measure in all_faults(tools, page, default, questions, files, program, given, compiled, many, layouts, room):
+        for what, measure in all_faults(tools, page, questions, pages, layouts, room):
             without, planted = measure(False), measure(True)
             print(f"planted: {what}: {'found' if planted else 'NOT FOUND'}{f': {planted[0].strip()[:90]}' if planted else ''}", flush=True)
             same(f"planted: {what}, without the fault", without, [])

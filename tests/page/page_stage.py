@@ -289,7 +289,8 @@ const changed = [...changesOf(view)].filter(([key, how]) => isWordKey(key) && ho
 const names = [...document.querySelectorAll(".name:is(.changed, .put-back)")];
 const inNames = (row) => [byId("names"), document.body].every((room) => row.getBoundingClientRect().top >= room.getBoundingClientRect().top - 2 && row.getBoundingClientRect().bottom <= Math.min(room.getBoundingClientRect().bottom, innerHeight) + 2);
 const lead = changed.filter((key) => wordOf(stateNow(), key)?.to);
-return { words: changed.length, there: changed.filter((key) => seen(byId(key))).length, more, leading: lead.length, whole: lead.filter(isWholeArrow).length,
+const note = byId("note");
+return { said: note.getBoundingClientRect().height > 0 && note.scrollHeight <= note.clientHeight + 1, words: changed.length, there: changed.filter((key) => seen(byId(key))).length, more, leading: lead.length, whole: lead.filter(isWholeArrow).length,
     names: names.length, named: names.filter(inNames).length,
     drawn: document.querySelectorAll("g.arrow").length, cut: [...document.querySelectorAll("g.arrow")].filter((arrow) => ![arrow.dataset.from, arrow.dataset.to].every((id) => seen(byId(id)))).length };
 """
@@ -310,21 +311,39 @@ return wait.answers.filter((key) => !seen(byId(key))).length <= more ? [] : wait
 """
 
 
+# a step that changes more words counts those that do not fit
+MOST = 60
+
+
+def whole_steps(page, count, same, what):
+    """At 1366 x 768, of each addition and each withdrawal: the changed names are in view, and each changed word is, or is counted in its group.
+    Returns how many of them change at most so many words, and how many of these are whole in view, with all words and arrows."""
+    page.size(1366, 768)
+    steps, whole = 0, 0
+    for number in range(1, count + 1):
+        page.open("#" + first(number))
+        for act in ("add", "withdraw"):
+            if act == "withdraw":
+                page.run("withdraw()")
+            page.settle()
+            seen = page.run(STEP)
+            where = f"{what}, {act} {number}"
+            same(f"{where}: changed words in view, or counted", seen["there"] + seen["more"], seen["words"])
+            same(f"{where}: arrows with an end out of view, changed names, and the sentence", (seen["cut"], seen["named"], seen["said"]), (0, seen["names"], True))
+            if seen["words"] <= MOST:
+                steps, whole = steps + 1, whole + ((seen["there"], seen["whole"]) == (seen["words"], seen["leading"]))
+    print(f"{page.name}: {whole} of {steps} steps are whole in view at 1366 x 768, {what}", flush=True)
+    return steps, whole
+
+
 def scenes(page, path, count, same, what):
-    """At 1366 x 768: of the choices in each state nine of ten are whole in view. Each changed word is in view, or counted in its group. The
-    right words of each question are on the stage. Returns how many steps bind words, and how many of them are whole in view."""
+    """At 1366 x 768: of the choices in each state nine of ten are whole in view. The right words of each question are on the stage."""
     page.load(path)
     page.size(1366, 768)
-    steps, whole, chosen, wholly = 0, 0, 0, 0
+    chosen, wholly = 0, 0
     for number in range(1, count + 1):
         page.open("#" + first(number))
         page.settle()
-        seen = page.run(STEP)
-        if seen["words"]:
-            same(f"{what}, step {number}: changed words in view, or counted", seen["there"] + seen["more"], seen["words"])
-        same(f"{what}, step {number}: arrows with an end out of view", seen["cut"], 0)
-        if seen["leading"]:
-            steps, whole = steps + 1, whole + (seen["whole"] == seen["leading"] and seen["there"] == seen["words"] and seen["named"] == seen["names"])
         missing = page.run(CHOSEN)
         chosen, wholly = chosen + len(missing), wholly + missing.count("")
     asked = 0
@@ -336,9 +355,7 @@ def scenes(page, path, count, same, what):
             asked += out is not None
             same(f"{what}, question {done + 1} of lesson {guide}: right words that are not on the stage", out or [], [])
     same(f"{what}: choices whole in view, nine of ten", (10 * wholly >= 9 * chosen, chosen > 0), (True, True))
-    same(f"{what}: steps that bind", steps > 0, True)
-    print(f"whole in view at 1366 x 768, {what}: {whole} of {steps} steps, {wholly} of {chosen} choices; {asked} questions have their right words there", flush=True)
-    return steps, whole
+    print(f"whole in view at 1366 x 768, {what}: {wholly} of {chosen} choices; {asked} questions have their right words there", flush=True)
 
 
 # ---- choices
@@ -476,7 +493,9 @@ def stage(tools, page, path, files, layouts, same, what, sizes=SIZES):
         page.open("#" + first(len(files)))
         counts["arrows of choices"] += choices(page, same, f"{what}, {width} wide", page.run(CHOOSE_FROM, 20), uses)
         whole_and_back(page, same)
-    whole = scenes(page, path, len(files), same, what) if page.counts_processor else (0, 0)
+    whole = whole_steps(page, len(files), same, what)
+    if page.counts_processor:
+        scenes(page, path, len(files), same, what)
     page.size(1366, 768)
     page.open("#" + first(len(files)))
     counts["found calls"], counts["calls in the map"] = search(tools, page, same, files)

@@ -6,6 +6,7 @@ from tests.lib.files import read_bytes, write
 from tests.lib.objects import unpack
 from tests.page.page_browser import Keys
 from tests.page.page_data import object_of, size_said
+from tests.page.page_model import Given, Session, addend
 from tests.page.page_stage import VIEW, first
 
 FIRST = """
@@ -284,7 +285,7 @@ def lessons(page, default, program, tables, same):
     same("a wrong answer", page.run("return document.querySelector('#guide .is-wrong').textContent").startswith("You chose"), True)
     page.back()
     page.wait("return view.done === 1")
-    same("Back in a lesson", page.run("return [view.list, document.querySelector('#guide .ask').textContent.slice(0, 10)]"), [[0], "Why is the"])
+    same("Back in a lesson", page.run("return [view.list, document.querySelector('#guide .ask').textContent.slice(0, 10)]"), [[0], "Why does t"])
 
 
 # the wrong answers of the open question, each with the reason that the page gives, and the list that is there
@@ -307,8 +308,8 @@ def word_wanted(line):
     return f"It {said}" if said.startswith("waits") else "It is a number" if said == "a" and " pc " not in line else f"refers to {said}"
 
 
-def reason_wanted(kind, act, text, lines, known, wait, adds):
-    """How the reason of a wrong answer begins, or what it has, by what `v7-lesson` says of the state."""
+def reason_wanted(kind, act, text, lines, known, wait, adds, session):
+    """How the reason of a wrong answer begins, or what it has, by what `v7-lesson` and the model say of the state."""
     line_of = lambda key: next((line for line in lines if line.startswith(key + " ")), "")
     if kind == "changes" and text != "no word":
         wanted = word_wanted(line_of(text))
@@ -322,7 +323,10 @@ def reason_wanted(kind, act, text, lines, known, wait, adds):
             return "That is what the word is now"
         if adds[1]:
             return f"{adds[0]} defines {adds[1]}: add the place of {adds[1]} to the word, modulo 200000."
-        return word_wanted(line) if act == "link" and " pc " not in line else "subtract" if act in ("link", "withdraw") else "the word"
+        if act == "link" and " pc " in line:
+            word = session.words[part, int(offset)]
+            return f"Take the address of {word.name + addend(word.added) if word.name else session.place(word)} in this link, and subtract that of the place after the word."
+        return word_wanted(line) if act == "link" else "subtract" if act == "withdraw" else "the word"
     if kind == "where" and known and act == "link" and text.isdigit() and int(text, 8) == known[1] and known[0] in ("text", "data", "bss"):
         return f"That is its offset in {known[0]}"
     return ""
@@ -340,7 +344,7 @@ def reasons(tools, page, paths, same, least=80):
                 same(f"lesson {guide}, question {done + 1}: a wrong answer", not page.run("return isAsked()") or len(wrong) > 0, True)
                 for kind, act, text, reason, here, known, wait, adds in wrong:
                     lines = tools.step(len(here), [files[number] for number in here])
-                    wanted = reason_wanted(kind, act, text, lines, known, wait, adds)
+                    wanted = reason_wanted(kind, act, text, lines, known, wait, adds, Session([Given(files[number]) for number in here]))
                     same(f"lesson {guide}, question {done + 1}, {text}: {reason}", (len(reason) > 15, wanted in reason, "undefined" in reason and kind != "choice"), (True, True, False))
                     count += 1
     print(f"{count} wrong answers have a reason", flush=True)
@@ -359,7 +363,7 @@ def numbers(page, default, same):
     page.open("#objects=1,2&numbers=decimal")
     same("numbers of a page in decimal", page.run("return ['016', '16', '16.'].map(numberOf)"), [14, 16, 16])
     page.open("#objects=1&numbers=decimal&lesson=1&done=1")
-    asked = "Why is the word at 2 65532?"
+    asked = "Why does the word at 2 hold 65532?"
     same("a lesson in decimal", page.run("return [prose(nextStep().ask), document.querySelector('#guide .ask').textContent.slice(0, arguments[0]), numberOf('16')]", len(asked)), [asked, asked, 16])
 
 
@@ -379,7 +383,7 @@ def leads(page, default, same):
         page.size(width, height)
         page.open("#objects=1,2,3,4,5")
         page.run("window.scrollTo(0, 400); document.getElementById('main').scrollTop = 400;")
-        top = page.run("return ['h1', '#status', '#withdraw', '#back'].map((s) => document.querySelector(s).getBoundingClientRect()).every((b) => b.top >= 0 && b.bottom <= innerHeight)")
+        top = page.run("return ['h1', '#status', '#withdraw', '#flick'].map((s) => document.querySelector(s).getBoundingClientRect()).every((b) => b.top >= 0 && b.bottom <= innerHeight)")
         same(f"the bar stays, {width} wide", top, True)
     page.size(390, 844)
     page.open("")
@@ -672,19 +676,21 @@ def ends(tools, page, same):
         same(f"what words mean, {key or 'the image'}", page.run("return allReferences(stateNow()).map((one) => one.to)"), ["text-end", "data-end"])
 
 
-def use_all(tools, page, default, program, compiled, pages, layouts, same):
+def use_all(tools, page, pages, layouts, same):
+    (default, _), (program, _), (tables, _), (compiled, many) = pages
+    page.load(default)
     first_view(page, same)
     roles(page, same)
     stops(page, compiled, same)
     keys(page, default, same)
     history(page, default, same)
     tour(page, default, same)
-    lessons(page, default, program, pages[2][0], same)
-    log_of_lessons(page, (program, pages[2][0], default), same)
+    lessons(page, default, program, tables, same)
+    log_of_lessons(page, (program, tables, default), same)
     numbers(page, default, same)
     leads(page, default, same)
     texts(page, default, same)
-    presenter(page, default, compiled, len(pages[3][1]), same)
+    presenter(page, default, compiled, len(many), same)
     paper(page, default, same)
     for path, files in pages[:3]:
         maps(tools, page, path, files, layouts, same)
