@@ -124,28 +124,47 @@ known_are : (files : List (List ℕ × List ℕ)) → known_inputs (inputs_opene
 known_are [] = refl
 known_are (f ∷ fs) = ap (λ (k : Option (List (List ℕ × List ℕ))). option_map (λ rest. f ∷ rest) k) (known_are fs)
 
-took : (forced : List (List ℕ)) (kept more : List Labelled) (files : List (List ℕ × List ℕ)) → with_inputs forced kept files ≡ Ok more →
-    TakesAll forced kept (inputs_opened (known files)) more
-took forced kept more [] e = cc
-took forced kept more (f ∷ fs) e = by_object (object_in (decode f.1)) refl
+-- an input that is taken, by its bytes
+record Taken (forced : List (List ℕ)) (kept more : List Labelled) (f : List ℕ × List ℕ) (fs : List (List ℕ × List ℕ)) : Type 0 where
+  next : List Labelled
+  object : Contents
+  found : object_in (decode f.1) ≡ Ok object
+  accepts : kept_with forced kept f.0 (Ok object) ≡ Ok next
+  rest : with_inputs forced next fs ≡ Ok more
+
+taken : (forced : List (List ℕ)) (kept more : List Labelled) (f : List ℕ × List ℕ) (fs : List (List ℕ × List ℕ)) →
+    with_inputs forced kept (f ∷ fs) ≡ Ok more → Taken forced kept more f fs
+taken forced kept more f fs e = by_object (object_in (decode f.1)) refl
   where
     after : Result (List Labelled) Cause → Result (List Labelled) Refusal
     after x = and_then (at_path f.0 x) (λ es. with_inputs forced es fs)
 
     by_next : (object : Contents) → object_in (decode f.1) ≡ Ok object → (x : Result (List Labelled) Cause) →
-        kept_with forced kept f.0 (Ok object) ≡ x → TakesAll forced kept (inputs_opened (known (f ∷ fs))) more
+        kept_with forced kept f.0 (Ok object) ≡ x → Taken forced kept more f fs
     by_next object found (Err cause) is =
         absurd (let bad : after (Err cause) ≡ Ok more = ap after (sym (ap (kept_with forced kept f.0) found ∙ is)) ∙ e in cc)
-    by_next object found (Ok next) is = (
-      next,
-      record { works = refl; object = object; is_found = sym found; accepts = is },
-      took forced next more fs (ap after (sym (ap (kept_with forced kept f.0) found ∙ is)) ∙ e),
-    )
+    by_next object found (Ok next) is = record {
+      next = next;
+      object = object;
+      found = found;
+      accepts = is;
+      rest = ap after (sym (ap (kept_with forced kept f.0) found ∙ is)) ∙ e;
+    }
 
-    by_object : (x : Result Contents Cause) → object_in (decode f.1) ≡ x → TakesAll forced kept (inputs_opened (known (f ∷ fs))) more
+    by_object : (x : Result Contents Cause) → object_in (decode f.1) ≡ x → Taken forced kept more f fs
     by_object (Err cause) found =
         absurd (let bad : after (Err cause) ≡ Ok more = ap (λ (x : Result Contents Cause). after (kept_with forced kept f.0 x)) (sym found) ∙ e in cc)
     by_object (Ok object) found = by_next object found (kept_with forced kept f.0 (Ok object)) refl
+
+took : (forced : List (List ℕ)) (kept more : List Labelled) (files : List (List ℕ × List ℕ)) → with_inputs forced kept files ≡ Ok more →
+    TakesAll forced kept (inputs_opened (known files)) more
+took forced kept more [] e = cc
+took forced kept more (f ∷ fs) e =
+    let t = taken forced kept more f fs e in (
+      t.next,
+      record { works = refl; object = t.object; is_found = sym t.found; accepts = t.accepts },
+      took forced t.next more fs t.rest,
+    )
 
 module _ (words : List (List ℕ)) (disk : Disk) (files : List (List ℕ × List ℕ)) (out : String Global) (made : Linked) where
   abbrev found : List Opened

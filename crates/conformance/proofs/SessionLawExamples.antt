@@ -277,6 +277,7 @@ alike r known still = record { gives = refl; known = known; first = still; secon
 -- the law of two lines: these runs have nothing but the answers of the two between, and the opening of b
 undo_says : UndoLaw contents contents →
     LeavesNoTrace contents contents b (session_of long_script long_lines) (session_of short_script short_lines)
+unfolding long_session short_session ended
 undo_says law =
     law [] plain (session_of long_script long_lines) (session_of short_script short_lines) long_session short_session before
     (link_line ∷ []) (add_line b e_o three) withdraw_line b refl refl refl refl refl (
@@ -310,6 +311,7 @@ undo_needs_an_accepted_addition : ((forced : List (List ℕ)) (o : Choices) (lon
     add.line ≡ to_add path → withdraw.line ≡ to_withdraw →
     lines_asked s.runs ≡ lines_asked (before ++ after) → AreGivenTheSame (before ++ after) s.runs →
     LeavesNoTrace contents contents path long short) → ⊥
+unfolding refused_session ended silent_session
 undo_needs_an_accepted_addition law =
     let h = law [] plain (session_of refused_script refused_lines) (session_of [] []) refused_session silent_session [] []
     missing_line nothing_line x refl refl refl refl tt in
