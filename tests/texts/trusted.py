@@ -7,10 +7,10 @@ specs/ of a crate may import the internals of another.
 docs/PROOFS.md has by hand what each promise means, and whose contract it is: a function or a type of the crates of the heading, or
 of those that the cell names. The index, which -i prints, is made of that and the code. It has the file of each contract, the
 definitions that it cites, and how many lines it leads to. It has all files of definitions too, those of the theorem apart. The theorem
-is the first claim of PROOFS, which is followed definition by definition, with the relation of linking. The function `link` is left out
-of claims, since `linking_law` ties it to the relation. `Performs` is left out of the theorem, which concludes nothing by it: as the
-contract of `perform` it is proved of each run. Lines are those of definitions, without imports, comments and empty lines. For each law
-of links and commands `conformance` has an instance, and the law without a premise, which is false.
+is the first claim of PROOFS, which is followed definition by definition, with what a session does and the relation of linking. The
+function `link` is left out of claims, since `linking_law` ties it to the relation. The theorem is about sessions and links that were run;
+by which arguments, `call_law` says, and the claim of `Performs` counts that. Lines are those of definitions, without imports, comments
+and empty lines. For each law of links and commands `conformance` has an instance, and the law without a premise, which is false.
 
 usage: python3 -m tests.texts.trusted        compares
        python3 -m tests.texts.trusted -w     writes the numbers of PROOFS and TRUST
@@ -31,11 +31,11 @@ from tests.texts.layers import sections
 PROOFS, TRUST = "docs/PROOFS.md", "docs/TRUST.md"
 # the laws that are the theorem: the first claim begins with what they cite
 THEOREM = ("crates/laws/src/commands.rt", ["session_law", "undo_law"])
-# what a link is, which the theorem leads to besides, and what is left out
-RELATION = {"IsLinkedFrom", "IsRefused"}
+# what it is followed from besides: what a session does, and what a link is; and what is left out
+BESIDES = {"IsSessionRun", "IsLinkedFrom", "IsRefused"}
 LEFT_OUT = {("link_out", "function.Link", "link")}
-LEFT_OUT_OF_THEOREM = LEFT_OUT | {("v7tools", "CommandRuns", "Performs")}
-# the definitions by which arguments are read, with the kit's `clap`
+# the definitions by which arguments are read, with the kit's `clap`, and the claim that leads to them
+READS_WORDS = "`Performs`"
 WORDS = ("crates/command_words/specs/", ["Calls", "LinkWords", "Tools"]), ("crates/tool_options/specs/", ["Flags", "ForcedNames"])
 WORDS_LINES = re.compile(r"\d+ of its lines say how arguments are read")
 # the crates whose laws have examples
@@ -195,7 +195,7 @@ def named_definitions():
 
 def claims(text):
     """The claims of PROOFS: each with the lines that it leads to, by file, and its row."""
-    where, left_out = named_definitions(), LEFT_OUT_OF_THEOREM
+    where = named_definitions()
     for row in re.findall(r"^\| (?:[^|\n]+ \| ){3}\d+ \| \d+ \|$", text, re.M):
         claim, _, names = row.strip("| ").split(" | ")[:3]
         starts = []
@@ -205,8 +205,7 @@ def claims(text):
             if len(found) != 1:
                 faults.append(f"{PROOFS}: {claim}: {len(found)} definitions are called {name}")
             starts += found
-        yield led_to(starts, left_out), row
-        left_out = LEFT_OUT
+        yield led_to(starts), row
 
 
 def cited_by_theorem():
@@ -299,15 +298,15 @@ def expected():
     pages = {path: read(path) for path in (PROOFS, TRUST)}
     all_claims = list(claims(pages[PROOFS]))
     theorem = all_claims[0][0]
-    if set(re.findall(r"`(?:\w+\.)?(\w+)`", all_claims[0][1].split(" | ")[2])) != cited_by_theorem() | RELATION:
-        faults.append(f"{PROOFS}: the first claim should begin with {', '.join(sorted(cited_by_theorem() | RELATION))}")
+    if set(re.findall(r"`(?:\w+\.)?(\w+)`", all_claims[0][1].split(" | ")[2])) != cited_by_theorem() | BESIDES:
+        faults.append(f"{PROOFS}: the first claim should begin with {', '.join(sorted(cited_by_theorem() | BESIDES))}")
     rest = {path: n - theorem.get(path, 0) for path in trusted() if (n := count(path)) > theorem.get(path, 0)}
     for found, row in all_claims:
         pages[PROOFS] = pages[PROOFS].replace(row, re.sub(r"\d+ \| \d+ \|$", f"{sum(found.values())} | {len(found)} |", row))
     first = sum(count(f"crates/{name}.antt") for name in FIRST)
-    words = sum(theorem.get(f"{folder}{name}.antt", 0) for folder, names in WORDS for name in names)
+    words = sum(found.get(f"{folder}{name}.antt", 0) for found, row in all_claims if READS_WORDS in row for folder, names in WORDS for name in names)
     pages[PROOFS], said = WORDS_LINES.subn(f"{words} of its lines say how arguments are read", pages[PROOFS])
-    faults.extend([f"{PROOFS} does not say how many lines of the theorem say how arguments are read"] * (said != 1))
+    faults.extend([f"{PROOFS} does not say how many lines say how arguments are read"] * (said != 1))
     for page in (PROOFS, TRUST):
         pages[page], said = FIRST_LINES.subn(f"files of `specs/`, {first} lines", pages[page])
         faults.extend([f"{page} does not say how many lines the first files have"] * (said != 1))

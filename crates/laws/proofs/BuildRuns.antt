@@ -15,10 +15,10 @@ use Rattle.v7tools.specs.LinkRuns.{IsLinkOfFiles, Refuses, Reports, ReportsIf}
 use Rattle.v7tools.specs.{CommandRuns.Ends, FaultTexts.cause_text, FaultTexts.cli_text, FaultTexts.fault_line}
 use Rattle.v7tools.specs.{LinkAnswers.IsLinkOfBytes, LinkAnswers.IsTrueOf, LinkAnswers.said_by, declared.fault.CliFault.CliFault}
 use Rattle.laws.specs.{Disks.Disk, Disks.IsOn, Disks.Run, Disks.Writes}
-use Rattle.laws.specs.SessionsByCommands.{AreThere, CannotRead, CannotWrite, IsOpening, Says}
+use Rattle.laws.specs.SessionsByCommands.{AreThere, CannotRead, CannotWrite, IsOpening, RunsLd, Says}
 use Rattle.laws.specs.Builds.{Command, Holds, IsDisturbed, EndsInRefusal, IsLdRun}
 use Rattle.laws.proofs.LeftLemmas.{bytes_of}
-use Rattle.laws.proofs.LinkLineLemmas.{LdRan, all_openings, by_words, bytes_say}
+use Rattle.laws.proofs.{CallLemmas.link_call, LinkLineLemmas.all_openings, LinkLineLemmas.bytes_say}
 use Rattle.aout_core.specs.declared.file.ReadFault.TheVariants as reads
 use Rattle.link_session.specs.declared.entry.AddFault.TheVariants as adds
 use Rattle.link_out.specs.declared.linked.LinkFault.TheVariants as links
@@ -95,16 +95,15 @@ module _ {W E : Type 0} (out_contents : W → Option (List ℕ)) (error_contents
 
   -- what the contract of `perform` says of a link
   abbrev Ran : Command → Run W E → Type 0
-  Ran c r = LdRan out_contents error_contents r c.forced c.options c.out c.inputs
+  Ran c r = RunsLd out_contents error_contents c.forced c.options c.out c.inputs r
 
   ran : (disk : Disk) (c : Command) (r : Run W E) → IsRun disk c r → Ran c r
-  ran disk c r h =
-      by_words out_contents error_contents r c.forced c.options c.out c.inputs h.performs.0 h.performs.2 h.asks h.performs.1
+  ran disk c r h = link_call out_contents error_contents c.forced c.options c.out c.inputs r h.performs h.asks
 
   -- a fault ends a run with 2 and its line
-  ended : (c : Command) (r : Run W E) (d : Ran c r) (fault : CliFault) → d.result ≡ Err fault →
+  ended : (c : Command) (r : Run W E) (d : Ran c r) (fault : CliFault) → d.did.0 ≡ Err fault →
       (r.status ≡ 2) × Says out_contents error_contents r (fault_line fault)
-  ended c r d fault is = subst (λ (x : Result ℕ CliFault). Ends error_contents x r.status r.error_before r.error_after) is d.ends
+  ended c r d fault is = subst (λ (x : Result ℕ CliFault). Ends error_contents x r.status r.error_before r.error_after) is d.did.2
 
   -- ---- a step
 
@@ -115,30 +114,30 @@ module _ {W E : Type 0} (out_contents : W → Option (List ℕ)) (error_contents
     pub answer : IsLinkOfFiles c.forced c.options c.inputs found (Ok made)
     pub events : r.events ≡ opens found ++ stored c.out made.file Kept ∷ []
 
-  no_fault : (c : Command) (r : Run W E) (d : Ran c r) → r.status ≤ 1 → (fault : CliFault) → d.result ≡ Err fault → ⊥
+  no_fault : (c : Command) (r : Run W E) (d : Ran c r) → r.status ≤ 1 → (fault : CliFault) → d.did.0 ≡ Err fault → ⊥
   no_fault c r d small fault is = let two : r.status ≡ 2 = (ended c r d fault is).0 in omega arith
 
   pub stored_link : (disk : Disk) (c : Command) (r : Run W E) → IsRun disk c r → r.status ≤ 1 → StoredLink c r
-  stored_link disk c r h small = by_ran (ran disk c r h).ran
+  stored_link disk c r h small = by_ran (ran disk c r h).did.1
     where
       d : Ran c r
       d = ran disk c r h
 
       by_what : (made : Linked) (found : List Opened) (what : Stored) → IsLinkOfFiles c.forced c.options c.inputs found (Ok made) →
           Extends (Some r.earlier) (Some (r.earlier ++ r.events)) (opens found ++ stored (string_bytes d.output) made.file what ∷ []) →
-          ReportsIf out_contents what d.output (report_names made.report) d.result r.output_before r.output_after → StoredLink c r
+          ReportsIf out_contents what d.output (report_names made.report) d.did.0 r.output_before r.output_after → StoredLink c r
       by_what made found Kept answer asked reports = record {
         made = made;
         found = found;
         answer = answer;
         events = append_cancel_left r.earlier r.events (opens found ++ stored (string_bytes d.output) made.file Kept ∷ []) asked
-            ∙ ap (λ (path : List ℕ). opens found ++ stored path made.file Kept ∷ []) d.at;
+            ∙ ap (λ (path : List ℕ). opens found ++ stored path made.file Kept ∷ []) d.out_path;
       }
       by_what made found NotCreated answer asked reports = absurd (no_fault c r d small (faults.CannotCreate d.output) reports.0)
       by_what made found (Failed _) answer asked reports = absurd (no_fault c r d small (faults.WriteFailed device_fault) reports.0)
 
       by_ran : Rattle.v7tools.specs.LinkRuns.IsLinkRun out_contents c.forced c.options d.output c.inputs (Some r.earlier)
-          (Some (r.earlier ++ r.events)) d.result r.output_before r.output_after → StoredLink c r
+          (Some (r.earlier ++ r.events)) d.did.0 r.output_before r.output_after → StoredLink c r
       by_ran (inl h) = absurd (no_fault c r d small (faults.Memory refused) h.1.refusal)
       by_ran (inr (inl h)) = absurd (no_fault c r d small (faults.CannotOpen h.path) h.refuses.refusal)
       by_ran (inr (inr (inl h))) = absurd (no_fault c r d small h.fault h.refuses.refusal)
@@ -177,13 +176,13 @@ module _ {W E : Type 0} (out_contents : W → Option (List ℕ)) (error_contents
     Did = Stores ⊎ (IsNone ⊎ IsDisturbed out_contents error_contents r)
 
     module _ (d : Ran c r) where
-      cannot_read : (fault : CliFault) → d.result ≡ Err fault → CannotRead fault → Did
+      cannot_read : (fault : CliFault) → d.did.0 ≡ Err fault → CannotRead fault → Did
       cannot_read fault is such = let e = ended c r d fault is in inr (inr (inl (e.0, fault, such, e.1)))
 
-      cannot_write : (fault : CliFault) → d.result ≡ Err fault → CannotWrite fault → Did
+      cannot_write : (fault : CliFault) → d.did.0 ≡ Err fault → CannotWrite fault → Did
       cannot_write fault is such = let e = ended c r d fault is in inr (inr (inr (e.0, fault, such, e.1)))
 
-      not_made : (fault : CliFault) → Refuses fault d.result r.output_before r.output_after → AllByRecursion IsOpening r.events →
+      not_made : (fault : CliFault) → Refuses fault d.did.0 r.output_before r.output_after → AllByRecursion IsOpening r.events →
           CannotRead fault ⊎ IsRefusal fault (linked c.forced files c.options) → Did
       not_made fault refuses openings (inl such) = cannot_read fault refuses.refusal such
       not_made fault refuses openings (inr h) =
@@ -196,12 +195,12 @@ module _ {W E : Type 0} (out_contents : W → Option (List ℕ)) (error_contents
           }))
 
       reported : (made : Linked) (found : List Opened) → paths_of found ≡ c.inputs → linked c.forced files c.options ≡ Ok (outcome_of made) →
-          r.events ≡ opens found ++ stored c.out made.file Kept ∷ [] → (result : Result ℕ CliFault) → d.result ≡ result →
+          r.events ≡ opens found ++ stored c.out made.file Kept ∷ [] → (result : Result ℕ CliFault) → d.did.0 ≡ result →
           Reports out_contents (report_names made.report) result r.output_before r.output_after → Did
       reported made found all is events (Err fault) e h =
           cannot_write (faults.WriteFailed device_fault) (e ∙ ap (λ (f : CliFault). Err f) h.write_failed) tt
       reported made found all is events (Ok status) e h =
-          let ends = subst (λ (x : Result ℕ CliFault). Ends error_contents x r.status r.error_before r.error_after) e d.ends in
+          let ends = subst (λ (x : Result ℕ CliFault). Ends error_contents x r.status r.error_before r.error_after) e d.did.2 in
           inl (record {
             outcome = outcome_of made;
             is_link = is;
@@ -215,15 +214,15 @@ module _ {W E : Type 0} (out_contents : W → Option (List ℕ)) (error_contents
 
       by_what : (made : Linked) (found : List Opened) (what : Stored) → IsLinkOfFiles c.forced c.options c.inputs found (Ok made) →
           r.events ≡ opens found ++ stored c.out made.file what ∷ [] →
-          ReportsIf out_contents what d.output (report_names made.report) d.result r.output_before r.output_after → Did
+          ReportsIf out_contents what d.output (report_names made.report) d.did.0 r.output_before r.output_after → Did
       by_what made found Kept answer events reports =
           reported made found answer.all
-          (answer_by_bytes found (Ok made) (stored c.out made.file Kept ∷ []) events answer) events d.result refl reports
+          (answer_by_bytes found (Ok made) (stored c.out made.file Kept ∷ []) events answer) events d.did.0 refl reports
       by_what made found NotCreated answer events reports = cannot_write (faults.CannotCreate d.output) reports.0 tt
       by_what made found (Failed _) answer events reports = cannot_write (faults.WriteFailed device_fault) reports.0 tt
 
       by_ran : Rattle.v7tools.specs.LinkRuns.IsLinkRun out_contents c.forced c.options d.output c.inputs (Some r.earlier)
-          (Some (r.earlier ++ r.events)) d.result r.output_before r.output_after → Did
+          (Some (r.earlier ++ r.events)) d.did.0 r.output_before r.output_after → Did
       by_ran (inl h) = cannot_read (faults.Memory refused) h.1.refusal tt
       by_ran (inr (inl h)) = cannot_read (faults.CannotOpen h.path) h.refuses.refusal tt
       by_ran (inr (inr (inl h))) =
@@ -234,9 +233,9 @@ module _ {W E : Type 0} (out_contents : W → Option (List ℕ)) (error_contents
       by_ran (inr (inr (inr h))) =
           let events : r.events ≡ opens h.found ++ stored c.out h.linked.file h.what ∷ [] =
           append_cancel_left r.earlier r.events (opens h.found ++ stored (string_bytes d.output) h.linked.file h.what ∷ []) h.asked
-          ∙ ap (λ (path : List ℕ). opens h.found ++ stored path h.linked.file h.what ∷ []) d.at in
+          ∙ ap (λ (path : List ℕ). opens h.found ++ stored path h.linked.file h.what ∷ []) d.out_path in
           by_what h.linked h.found h.what h.answer events h.reports
 
     -- what it did
     pub did : (disk : Disk) → IsRun disk c r → Did
-    did disk h = by_ran (ran disk c r h) (ran disk c r h).ran
+    did disk h = by_ran (ran disk c r h) (ran disk c r h).did.1

@@ -5,17 +5,18 @@ use Rattle.std.proofs.lemmas.List.{map-append}
 use Rattle.std.specs.Prelude.{IfSome, eqb, unwrap_or}
 use Rattle.aout_core.specs.{Contents.Contents, Decoding.decode}
 use Rattle.link_session.specs.Edits.{last_of, without_last}
-use Rattle.link_session.specs.{declared.entry.AddFault.AddFault, Labelled.Labelled, Labelled.objects, Limits.refusal, Undo.Kept}
+use Rattle.link_session.specs.{declared.entry.AddFault.AddFault, Labelled.Labelled, Labelled.objects, Limits.refusal}
+use Rattle.link_out.specs.{declared.linked.LinkFault.LinkFault, function.Link.Outcome, function.Link.link}
 use Rattle.link_out.specs.Steps.{and_then, unless}
 use Rattle.link_out.specs.Inputs.{Cause, Refusal, not_added, at_path, kept_with, object_in, with_input, with_inputs}
 use Rattle.link_session.proofs.EditLemmas.{without_last-put_last}
 use Rattle.tool_options.specs.Choices.{Choices}
 use Rattle.surroundings.specs.Events.{Event, Opened}
 use Rattle.command_words.specs.Scripts.{Asked, to_add, to_withdraw, for_externals, for_undefined, to_link, for_nothing}
-use Rattle.v7tools.specs.Answers.{Verdict, done, refused, Stepped, add_step, withdraw_step}
+use Rattle.v7tools.specs.Answers.{refused, Stepped, add_step, withdraw_step}
 use Rattle.v7tools.specs.LineRuns.{DoesStep, IsAddOf, IsLineOf, LineRun, OpensOne, status_after}
 use Rattle.v7tools.specs.{LinkAnswers.Input, LinkAnswers.Takes, LinkAnswers.TakesAll, LinkAnswers.known_inputs, LinkRuns.inputs_opened}
-use Rattle.v7tools.specs.{SessionRuns.Chains, SessionSteps.AddsIf, SessionSteps.IsAddOn, SessionSteps.WithdrawsIf}
+use Rattle.v7tools.specs.{SessionRuns.Chains, SessionSteps.IsAddOn, SessionSteps.IsLinkBy}
 use Rattle.laws.specs.{Disks.Disk, SessionsByCommands.AreThere, SessionsByCommands.left_after, SessionsByCommands.left_by}
 
 pub same_ok : {A B : Type 0} (a b : A) → (let x : Result A B = Ok a in let y : Result A B = Ok b in x ≡ y) → a ≡ b
@@ -51,22 +52,28 @@ inputs_but_last _ = refl
 -- ---- line by line
 
 -- a session keeps the objects of the files that are left
-pub record IsLeft (forced : List (List ℕ)) (left : List Opened) (k : Kept) : Type 0 where
-  pub names : k.forced ≡ forced
-  pub taken : TakesAll forced [] (inputs_opened left) k.entries
+abbrev pub IsLeft : List (List ℕ) → List Opened → List Labelled → Type 0
+IsLeft forced left kept = TakesAll forced [] (inputs_opened left) kept
 
 -- an addition that neither the device nor memory prevented
-pub record AddsFound (known : Option (List ℕ)) (old : Kept) (path : List ℕ) (did : Stepped) : Type 0 where
+pub record AddsFound (known : Option (List ℕ)) (forced : List (List ℕ)) (old : List Labelled) (path : List ℕ)
+    (did : Stepped) : Type 0 where
   pub found : Result Contents Cause
   pub is_found : IfSome known (λ bytes. found ≡ object_in (decode bytes))
-  pub did_it : did ≡ add_step old.entries path (kept_with old.forced old.entries path found)
+  pub did_it : did ≡ add_step old path (kept_with forced old path found)
 
-pub adds_found : (known : Option (List ℕ)) (old : Kept) (path : List ℕ) (did : Stepped) →
-    IsAddOn known old.forced old.entries path did → AddsFound known old path did
-adds_found None old path did (found, e) = record { found = found; is_found = tt; did_it = e }
-adds_found (Some bytes) old path did e = record { found = object_in (decode bytes); is_found = refl; did_it = e }
+pub adds_found : (known : Option (List ℕ)) (forced : List (List ℕ)) (old : List Labelled) (path : List ℕ) (did : Stepped) →
+    IsAddOn known forced old path did → AddsFound known forced old path did
+adds_found None forced old path did (found, e) = record { found = found; is_found = tt; did_it = e }
+adds_found (Some bytes) forced old path did e = record { found = object_in (decode bytes); is_found = refl; did_it = e }
 
-module _ (o : Choices) (forced : List (List ℕ)) (left : List Opened) (old : Kept) (r : LineRun) (is : IsLeft forced left old) where
+-- a link keeps what was kept
+link_keeps : (kept : List Labelled) (answer : Result Outcome LinkFault) (did : Stepped) → IsLinkBy kept answer did → did.kept ≡ kept
+link_keeps kept (Ok x) did (inl e) = ap (λ (s : Stepped). s.kept) e
+link_keeps kept (Err fault) did (inl e) = ap (λ (s : Stepped). s.kept) e
+link_keeps kept answer did (inr (e, some)) = ap (λ (s : Stepped). s.kept) e
+
+module _ (o : Choices) (forced : List (List ℕ)) (left : List Opened) (old : List Labelled) (r : LineRun) (is : IsLeft forced left old) where
   abbrev Next : Asked → Bool → Type 0
   Next a b = IsLeft forced (left_by a b r.events left) r.kept
 
@@ -76,95 +83,87 @@ module _ (o : Choices) (forced : List (List ℕ)) (left : List Opened) (old : Ke
   is_zero : (n : ℕ) → r.status ≡ n → eqb r.status 0 ≡ eqb n 0
   is_zero n e = ap (λ (n : ℕ). eqb n 0) e
 
-  not_added_line : (path : List ℕ) (did : Stepped) → did.verdict ≡ refused → r.status ≡ status_after did.verdict →
-      AddsIf did.verdict old r.kept → Next (to_add path) (eqb r.status 0)
-  not_added_line path did e status adds = search rules
-
-  added_line : (path : List ℕ) (h : OpensOne old path r) (object : Contents) (fault : Option AddFault) →
-      refusal old.forced (objects old.entries) object ≡ fault → IfSome h.known (λ bytes. Ok object ≡ object_in (decode bytes)) →
-      h.did ≡ add_step old.entries path (unless not_added fault (old.entries ++ record { label = path; object = object } ∷ [])) →
+  not_added_line : (path : List ℕ) (asked : List Event) (did : Stepped) (answer : List ℕ) →
+      (let none : Stepped = record { verdict = refused; answer = answer; kept = old } in did ≡ none) → DoesStep asked did r →
       Next (to_add path) (eqb r.status 0)
-  added_line path h object (Some fault) limit found e =
-      not_added_line path h.did (ap (λ (s : Stepped). s.verdict) e) h.does.status h.changes
+  not_added_line path asked did answer e does =
+      subst (Next (to_add path)) (sym (is_zero 1 (does.status ∙ ap (λ (s : Stepped). status_after s.verdict) e)))
+      (stays (does.kept ∙ ap (λ (s : Stepped). s.kept) e))
+
+  added_line : (path : List ℕ) (h : OpensOne forced old path r) (object : Contents) (fault : Option AddFault) →
+      refusal forced (objects old) object ≡ fault → IfSome h.known (λ bytes. Ok object ≡ object_in (decode bytes)) →
+      h.did ≡ add_step old path (unless not_added fault (old ++ record { label = path; object = object } ∷ [])) →
+      Next (to_add path) (eqb r.status 0)
+  added_line path h object (Some fault) limit found e = not_added_line path _ h.did _ e h.does
   added_line path h object None limit found e =
       subst (Next (to_add path)) (sym (is_zero 0 (h.does.status ∙ ap (λ (s : Stepped). status_after s.verdict) e)))
-      (subst (λ (events : List Event). IsLeft forced (left_by (to_add path) true events left) r.kept) (sym h.events)
-      (record { names = adds.1.forced ∙ is.names; taken = all }))
+      (subst (λ (events : List Event). IsLeft forced (left_by (to_add path) true events left) r.kept) (sym h.does.events) all)
     where
-      adds : AddsIf done old r.kept
-      adds = subst (λ (v : Verdict). AddsIf v old r.kept) (ap (λ (s : Stepped). s.verdict) e) h.changes
-
       i : Input
       i = record { path = path; known = h.known; has_failed = false }
 
       whole : List Labelled
-      whole = old.entries ++ record { label = path; object = object } ∷ []
+      whole = old ++ record { label = path; object = object } ∷ []
 
-      entries : r.kept.entries ≡ whole
-      entries = h.does.entries ∙ ap (λ (s : Stepped). s.kept) e
-
-      takes : Takes old.forced old.entries i whole
+      takes : Takes forced old i whole
       takes = search rules
 
-      one_more : TakesAll forced [] (inputs_opened left ++ i ∷ []) whole
-      one_more =
-          takes_more forced [] old.entries whole (inputs_opened left) i is.taken
-          (subst (λ (ns : List (List ℕ)). Takes ns old.entries i whole) is.names takes)
-
-      all : TakesAll forced [] (inputs_opened (left ++ (path, h.known) ∷ [])) r.kept.entries
+      all : TakesAll forced [] (inputs_opened (left ++ (path, h.known) ∷ [])) r.kept
       all =
-          subst (λ (es : List Labelled). TakesAll forced [] (inputs_opened (left ++ (path, h.known) ∷ [])) es) (sym entries)
+          subst (λ (es : List Labelled). TakesAll forced [] (inputs_opened (left ++ (path, h.known) ∷ [])) es)
+          (sym (h.does.kept ∙ ap (λ (s : Stepped). s.kept) e))
           (subst (λ (is : List Input). TakesAll forced [] is whole)
           (sym (map-append (λ (f : Opened). let i : Input = record { path = f.0; known = f.1; has_failed = false } in i) left
-          ((path, h.known) ∷ []))) one_more)
+          ((path, h.known) ∷ []))) (takes_more forced [] old whole (inputs_opened left) i is takes))
 
-  found_line : (path : List ℕ) (h : OpensOne old path r) (found : Result Contents Cause) →
-      IfSome h.known (λ bytes. found ≡ object_in (decode bytes)) →
-      h.did ≡ add_step old.entries path (kept_with old.forced old.entries path found) → Next (to_add path) (eqb r.status 0)
-  found_line path h (Err cause) is_found e =
-      not_added_line path h.did (ap (λ (s : Stepped). s.verdict) e) h.does.status h.changes
-  found_line path h (Ok object) is_found e =
-      added_line path h object (refusal old.forced (objects old.entries) object) refl is_found e
+  found_line : (path : List ℕ) (h : OpensOne forced old path r) (found : Result Contents Cause) →
+      IfSome h.known (λ bytes. found ≡ object_in (decode bytes)) → h.did ≡ add_step old path (kept_with forced old path found) →
+      Next (to_add path) (eqb r.status 0)
+  found_line path h (Err cause) is_found e = not_added_line path _ h.did _ e h.does
+  found_line path h (Ok object) is_found e = added_line path h object (refusal forced (objects old) object) refl is_found e
 
-  opened_line : (path : List ℕ) (h : OpensOne old path r) → IsAddOf h.known old path h.did → Next (to_add path) (eqb r.status 0)
-  opened_line path h (inl e) = not_added_line path h.did (ap (λ (s : Stepped). s.verdict) e) h.does.status h.changes
-  opened_line path h (inr (inl (e, wants))) = not_added_line path h.did (ap (λ (s : Stepped). s.verdict) e) h.does.status h.changes
-  opened_line path h (inr (inr k)) = let f = adds_found h.known old path h.did k in found_line path h f.found f.is_found f.did_it
+  opened_line : (path : List ℕ) (h : OpensOne forced old path r) → IsAddOf h.known forced old path h.did → Next (to_add path) (eqb r.status 0)
+  opened_line path h (inl e) = not_added_line path _ h.did _ e h.does
+  opened_line path h (inr (inl (e, wants))) = not_added_line path _ h.did _ e h.does
+  opened_line path h (inr (inr k)) = let f = adds_found h.known forced old path h.did k in found_line path h f.found f.is_found f.did_it
 
-  withdrawn_line : (last : Option Labelled) → DoesStep (withdraw_step old.entries last) r →
-      WithdrawsIf (withdraw_step old.entries last).verdict old r.kept → Next to_withdraw (eqb r.status 0)
-  withdrawn_line None does same = subst (Next to_withdraw) (sym (is_zero 1 does.status)) (stays same)
-  withdrawn_line (Some e) does (d, takes) = search (rules, is_zero, inputs_but_last, takes_but_last)
+  withdrawn_line : (last : Option Labelled) → DoesStep [] (withdraw_step old last) r → Next to_withdraw (eqb r.status 0)
+  withdrawn_line None does = subst (Next to_withdraw) (sym (is_zero 1 does.status)) (stays does.kept)
+  withdrawn_line (Some e) does =
+      subst (Next to_withdraw) (sym (is_zero 0 does.status))
+      (subst (λ (is : List Input). TakesAll forced [] is r.kept) (sym (inputs_but_last left))
+      (subst (λ (es : List Labelled). TakesAll forced [] (without_last (inputs_opened left)) es) (sym does.kept)
+      (takes_but_last forced old (inputs_opened left) is)))
 
-  left_line : (a : Asked) → IsLineOf o old r a → Next a (eqb r.status 0)
-  left_line (to_add path) (inl h) =
-      subst (Next (to_add path)) (sym (is_zero 1 h.does.status)) (stays h.same)
+  left_line : (a : Asked) → IsLineOf forced o old r a → Next a (eqb r.status 0)
+  left_line (to_add path) (inl does) = not_added_line path _ _ _ refl does
   left_line (to_add path) (inr h) = opened_line path h h.is_add
-  left_line to_withdraw h = withdrawn_line (last_of old.entries) h.does h.changes
-  left_line for_externals h = stays h.same
-  left_line for_undefined h = stays h.same
-  left_line (to_link path) (inl h) = stays h.only_answer.same
+  left_line to_withdraw does = withdrawn_line (last_of old) does
+  left_line for_externals does = stays does.kept
+  left_line for_undefined does = stays does.kept
+  left_line (to_link path) (inl h) = stays (h.does.kept ∙ link_keeps old (link forced (objects old) o) h.did h.is_link)
   left_line (to_link path) (inr h) = stays h.same
-  left_line for_nothing h = stays h.same
+  left_line for_nothing does = stays does.kept
 
 -- what a chain of lines leaves
-pub left_lines : (o : Choices) (forced : List (List ℕ)) (left : List Opened) (old : Kept) (runs : List LineRun) (new : Kept) →
-    IsLeft forced left old → Chains o old runs new → IsLeft forced (left_after left runs) new
+pub left_lines : (o : Choices) (forced : List (List ℕ)) (left : List Opened) (old : List Labelled) (runs : List LineRun)
+    (new : List Labelled) → IsLeft forced left old → Chains forced o old runs new → IsLeft forced (left_after left runs) new
 left_lines o forced left old [] new is same = subst (IsLeft forced left) (sym same) is
 left_lines o forced left old (r ∷ rs) new is (line, rest) =
     left_lines o forced (left_by r.line (eqb r.status 0) r.events left) r.kept rs new (left_line o forced left old r is r.line line) rest
 
 -- a line of a chain, with what is kept before it
-pub record IsAt (o : Choices) (old : Kept) (before : List LineRun) (r : LineRun) (after : List LineRun) (new : Kept) : Type 0 where
-  pub mid : Kept
-  pub first : Chains o old before mid
-  pub line : IsLineOf o mid r r.line
-  pub rest : Chains o r.kept after new
+pub record IsAt (forced : List (List ℕ)) (o : Choices) (old : List Labelled) (before : List LineRun) (r : LineRun)
+    (after : List LineRun) (new : List Labelled) : Type 0 where
+  pub mid : List Labelled
+  pub first : Chains forced o old before mid
+  pub line : IsLineOf forced o mid r r.line
+  pub rest : Chains forced o r.kept after new
 
-pub at_line : (o : Choices) (old : Kept) (before : List LineRun) (r : LineRun) (after : List LineRun) (new : Kept) →
-    Chains o old (before ++ r ∷ after) new → IsAt o old before r after new
-at_line o old [] r after new (line, rest) = record { mid = old; first = refl; line = line; rest = rest }
-at_line o old (s ∷ ss) r after new (line, rest) = search (rules, (at_line o s.kept ss r after new rest))
+pub at_line : (forced : List (List ℕ)) (o : Choices) (old : List Labelled) (before : List LineRun) (r : LineRun) (after : List LineRun)
+    (new : List Labelled) → Chains forced o old (before ++ r ∷ after) new → IsAt forced o old before r after new
+at_line forced o old [] r after new (line, rest) = record { mid = old; first = refl; line = line; rest = rest }
+at_line forced o old (s ∷ ss) r after new (line, rest) = search (rules, (at_line forced o s.kept ss r after new rest))
 
 -- ---- the bytes of the files that are left
 

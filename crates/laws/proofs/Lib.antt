@@ -17,7 +17,6 @@ pub mod LeadLemmas
 pub mod CleanProgramLemmas
 pub mod CallLemmas
 pub mod LeftLemmas
-pub mod LineLawLemmas
 pub mod LinkLineLemmas
 pub mod UndoLemmas
 pub mod SameDiskLemmas

@@ -6,9 +6,8 @@ use Rattle.std.specs.Prelude.{IfSome, String, string_bytes}
 use Rattle.std.specs.{declared.alloc.Global.Global, List.AllByRecursion}
 use Rattle.std.proofs.lemmas.List.{append-nil, append_cancel_left}
 use Rattle.aout_core.specs.{Contents.Contents, Refusals.refused}
-use Rattle.command_words.specs.declared.words.Call.TheVariants.{Ld}
-use Rattle.command_words.specs.{declared.words.Call.Call, Scripts.Asked, Scripts.to_link}
-use Rattle.link_session.specs.{Labelled.Labelled, Labelled.objects, Sessions.nothing_kept}
+use Rattle.command_words.specs.Scripts.{Asked, to_link}
+use Rattle.link_session.specs.Labelled.{Labelled, objects}
 use Rattle.link_session.proofs.ListLemmas.{all_append}
 use Rattle.link_out.specs.{declared.linked.Linked.Linked, declared.linked.LinkFault.LinkFault, FaultTexts.link_text, Outcomes.outcome_of}
 use Rattle.link_out.specs.{Outcomes.report_names, Results.Outcome, Steps.and_then, Steps.refused_as, function.Link.link}
@@ -18,17 +17,15 @@ use Rattle.surroundings.specs.Events.{Event, Extends, Opened, opened, opens, pat
 use Rattle.surroundings.specs.declared.office.Stored.{Stored}
 use Rattle.surroundings.specs.declared.office.Stored.TheVariants.{Kept, NotCreated, Failed}
 use Rattle.v7tools.specs.LinkRuns.{IsLinkOfFiles, IsLinkRun, Refuses, Reports, ReportsIf, inputs_opened}
-use Rattle.v7tools.specs.{Answers.link_answer_text, Calls.fault_of_words, CommandRuns.Ends, CommandRuns.IsCallRun, CommandRuns.RunsWords}
+use Rattle.v7tools.specs.{Answers.link_answer_text, CommandRuns.Ends}
 use Rattle.v7tools.specs.{FaultTexts.cli_text, FaultTexts.no_memory, LineRuns.IsLineOf, LineRuns.LineRun, LinkAnswers.IsLinkOfBytes}
 use Rattle.v7tools.specs.{LinkAnswers.IsTrueOf, LinkAnswers.known_inputs, LinkAnswers.said_by, declared.fault.CliFault.CliFault}
-use Rattle.laws.specs.SessionsByCommands.{AreThere, AsksToLink, CannotRead, CannotWrite, DoesAsLd, FailsBy, IsOpening, IsRefusedAsLd}
+use Rattle.laws.specs.SessionsByCommands.{AreThere, CannotRead, CannotWrite, DoesAsLd, FailsBy, IsOpening, IsRefusedAsLd}
 use Rattle.laws.specs.SessionsByCommands.{LinkLineLaw, RefusedLineLaw, files_left}
 use Rattle.laws.specs.{Disks.Disk, Disks.IsOn, Disks.Run}
 use Rattle.laws.proofs.LeftLemmas.{IsAt, IsLeft, all_known, at_line, bytes_of, left_lines, same_ok, taken_bytes}
-use Rattle.laws.proofs.{CallLemmas.IsLink, CallLemmas.same_link}
 use Rattle.aout_core.specs.declared.file.ReadFault.TheVariants as reads
 use Rattle.link_session.specs.declared.entry.AddFault.TheVariants as adds
-use Rattle.link_session.specs.Undo as undo
 use Rattle.link_out.specs.declared.linked.LinkFault.TheVariants as links
 use Rattle.v7tools.specs.declared.fault.CliFault.TheVariants as faults
 
@@ -57,38 +54,38 @@ same_found disk (f ∷ fs) (g ∷ gs) paths gives there =
 same_found disk _ _ paths gives there = absurd (cc)
 
 -- the bytes that are left link as the objects that the session keeps do
-linked_left : (disk : Disk) (forced : List (List ℕ)) (o : Choices) (left : List Opened) (k : undo.Kept) → AreThere disk left →
-    IsLeft forced left k → linked forced (bytes_of left) o ≡ refused_as not_linked (link k.forced (objects k.entries) o)
-linked_left disk forced o left k there is =
+linked_left : (disk : Disk) (forced : List (List ℕ)) (o : Choices) (left : List Opened) (kept : List Labelled) → AreThere disk left →
+    IsLeft forced left kept → linked forced (bytes_of left) o ≡ refused_as not_linked (link forced (objects kept) o)
+linked_left disk forced o left kept there is =
     ap (λ (x : Result (List Labelled) Refusal). and_then x (λ es. refused_as not_linked (link forced (objects es) o)))
-    (taken_bytes disk forced left [] k.entries there is.taken)
-    ∙ ap (λ (ns : List (List ℕ)). refused_as not_linked (link ns (objects k.entries) o)) (sym is.names)
+    (taken_bytes disk forced left [] kept there is)
 
 -- ---- what the line did
 
 -- a line that stored its link
-record StoredLink (o : Choices) (k : undo.Kept) (p : List ℕ) (file : Contents) (r : LineRun) : Type 0 where
+record StoredLink (forced : List (List ℕ)) (o : Choices) (kept : List Labelled) (p : List ℕ) (file : Contents)
+    (r : LineRun) : Type 0 where
   outcome : Outcome
-  is_link : link k.forced (objects k.entries) o ≡ Ok outcome
+  is_link : link forced (objects kept) o ≡ Ok outcome
   same : outcome.file ≡ file
   answer : r.answer ≡ link_answer_text outcome.report p Kept
   status : r.status ≡ status_of outcome.report
 
-stored_link : (o : Choices) (k : undo.Kept) (p : List ℕ) (file : Contents) (r : LineRun) → IsLineOf o k r (to_link p) →
-    r.events ≡ stored p file Kept ∷ [] → StoredLink o k p file r
-stored_link o k p file r (inl h) e = absurd (let none : r.events ≡ [] = h.only_answer.events in cc)
-stored_link o k p file r (inr h) e = search rules
+stored_link : (forced : List (List ℕ)) (o : Choices) (kept : List Labelled) (p : List ℕ) (file : Contents) (r : LineRun) →
+    IsLineOf forced o kept r (to_link p) → r.events ≡ stored p file Kept ∷ [] → StoredLink forced o kept p file r
+stored_link forced o kept p file r (inl h) e = absurd (let none : r.events ≡ [] = h.does.events in cc)
+stored_link forced o kept p file r (inr h) e = search rules
 
 -- a line whose link was refused
-record RefusedLink (o : Choices) (k : undo.Kept) (r : LineRun) : Type 0 where
+record RefusedLink (forced : List (List ℕ)) (o : Choices) (kept : List Labelled) (r : LineRun) : Type 0 where
   cause : LinkFault
-  is_none : link k.forced (objects k.entries) o ≡ Err cause
+  is_none : link forced (objects kept) o ≡ Err cause
   answer : r.answer ≡ line (link_text cause)
 
-refused_link : (o : Choices) (k : undo.Kept) (p : List ℕ) (r : LineRun) → IsLineOf o k r (to_link p) → r.events ≡ [] →
-    (r.answer ≡ line no_memory → ⊥) → RefusedLink o k r
-refused_link o k p r (inr h) e memory = absurd (let some : r.events ≡ stored p h.outcome.file h.what ∷ [] = h.events in cc)
-refused_link o k p r (inl h) e memory = search rules
+refused_link : (forced : List (List ℕ)) (o : Choices) (kept : List Labelled) (p : List ℕ) (r : LineRun) →
+    IsLineOf forced o kept r (to_link p) → r.events ≡ [] → (r.answer ≡ line no_memory → ⊥) → RefusedLink forced o kept r
+refused_link forced o kept p r (inr h) e memory = absurd (let some : r.events ≡ stored p h.outcome.file h.what ∷ [] = h.events in cc)
+refused_link forced o kept p r (inl h) e memory = search rules
 
 -- ---- what ld did
 
@@ -121,43 +118,6 @@ reason cause _ h = absurd h
 module _ {W E : Type 0} (out_contents : W → Option (List ℕ)) (error_contents : E → Option (List ℕ)) where
   -- ---- any ld
 
-  module _ (l : Run W E) (forced : List (List ℕ)) (o : Choices) (q : List ℕ) (paths : List (List ℕ)) where
-    -- ld was run by its arguments, whatever came of it
-    pub record LdRan : Type 0 where
-      pub result : Result ℕ CliFault
-      pub output : String Global
-      pub at : string_bytes output ≡ q
-      pub ran : IsLinkRun out_contents forced o output paths (Some l.earlier) (Some (l.earlier ++ l.events)) result l.output_before l.output_after
-      pub ends : Ends error_contents result l.status l.error_before l.error_after
-
-    module _ (result : Result ℕ CliFault) (ends : Ends error_contents result l.status l.error_before l.error_after) where
-      by_call : (call : Call) → IsLink forced o q paths call →
-          IsCallRun out_contents l.script call (Some l.earlier) (Some (l.earlier ++ l.events)) result l.output_before l.output_after → LdRan
-      by_call (Ld options names output files) same run = record {
-        result = result;
-        output = output;
-        at = same.2;
-        ran = search rules;
-        ends = ends;
-      }
-      by_call _ same run = absurd same
-
-      pub by_words : (asks : AsksToLink l.words forced o q paths) →
-          RunsWords out_contents l.words l.script (Some l.earlier) (Some (l.earlier ++ l.events)) result l.output_before l.output_after → LdRan
-      by_words asks (inl h) =
-          let memory : h.fault ≡ faults.Memory refused =
-          h.of_words.1 ∙ ap fault_of_words (h.of_words.2 (Ld o forced asks.output asks.files) asks.asks.whole asks.asks.asked asks.asks.dashes) in
-          record {
-            result = result;
-            output = asks.output;
-            at = asks.out_path;
-            ran = inl (h.asked, subst (λ (f : CliFault). Refuses f result l.output_before l.output_after) memory h.refuses);
-            ends = ends;
-          }
-      by_words asks (inr h) =
-          by_call h.call (subst (λ (P : Type 0). P) (λ i. IsLink forced o (asks.out_path i) (asks.file_paths i) h.call)
-          (same_link l.words forced o asks.output asks.files asks.asks h.call h.asks)) h.run
-
   module _ (l : Run W E) (forced : List (List ℕ)) (o : Choices) (left : List Opened) (there : AreThere l.disk left)
       (on_disk : IsOn l.disk l.events) where
     -- the events of the run
@@ -178,7 +138,7 @@ module _ {W E : Type 0} (out_contents : W → Option (List ℕ)) (error_contents
   -- ---- a line that stored its link
 
   module _ (l : Run W E) (forced : List (List ℕ)) (o : Choices) (left : List Opened) (there : AreThere l.disk left)
-      (on_disk : IsOn l.disk l.events) (p q : List ℕ) (file : Contents) (r : LineRun) (k : undo.Kept) (did : StoredLink o k p file r)
+      (on_disk : IsOn l.disk l.events) (p q : List ℕ) (file : Contents) (r : LineRun) (kept : List Labelled) (did : StoredLink forced o kept p file r)
       (some : linked forced (bytes_of left) o ≡ Ok did.outcome) (result : Result ℕ CliFault)
       (ends : Ends error_contents result l.status l.error_before l.error_after) where
     abbrev Ended : Type 0
@@ -268,27 +228,23 @@ module _ {W E : Type 0} (out_contents : W → Option (List ℕ)) (error_contents
         absurd (let ok = say h.found (Ok h.linked) _ (asked _ h.asked) h.answer in let both = sym none ∙ ok in cc)
 
   pub refused_line : RefusedLineLaw out_contents error_contents
-  refused_line forced o s l before after r p q ran is_link silent memory ld =
-      let at : IsAt o (nothing_kept forced) before r after ran.kept = at_line o (nothing_kept forced) before r after ran.kept ran.chain in
+  refused_line forced o kept l before after r p q chain is_link silent memory ld =
+      let at : IsAt forced o [] before r after kept = at_line forced o [] before r after kept chain in
       let left = files_left before in
-      let is : IsLeft forced left at.mid =
-      left_lines o forced [] (nothing_kept forced) before at.mid (record { names = refl; taken = refl }) at.first in
-      let did : RefusedLink o at.mid r =
-      refused_link o at.mid p r (subst (λ (a : Asked). IsLineOf o at.mid r a) is_link at.line) silent memory in
-      let d : LdRan l forced o q (paths_of left) =
-      by_words l forced o q (paths_of left) ld.performs.0 ld.performs.2 ld.asks ld.performs.1 in
+      let is : IsLeft forced left at.mid = left_lines o forced [] [] before at.mid refl at.first in
+      let did : RefusedLink forced o at.mid r =
+      refused_link forced o at.mid p r (subst (λ (a : Asked). IsLineOf forced o at.mid r a) is_link at.line) silent memory in
       by_ran l forced o left ld.there ld.on_disk r did.cause did.answer
-      (linked_left l.disk forced o left at.mid ld.there is ∙ ap (refused_as not_linked) did.is_none) d.result d.ends d.output d.ran
+      (linked_left l.disk forced o left at.mid ld.there is ∙ ap (refused_as not_linked) did.is_none) ld.runs.did.0 ld.runs.did.2
+      ld.runs.output ld.runs.did.1
 
   pub link_line : LinkLineLaw out_contents error_contents
-  link_line forced o s l before after r p q file ran is_link stores ld =
-      let at : IsAt o (nothing_kept forced) before r after ran.kept = at_line o (nothing_kept forced) before r after ran.kept ran.chain in
+  link_line forced o kept l before after r p q file chain is_link stores ld =
+      let at : IsAt forced o [] before r after kept = at_line forced o [] before r after kept chain in
       let left = files_left before in
-      let is : IsLeft forced left at.mid =
-      left_lines o forced [] (nothing_kept forced) before at.mid (record { names = refl; taken = refl }) at.first in
-      let did : StoredLink o at.mid p file r =
-      stored_link o at.mid p file r (subst (λ (a : Asked). IsLineOf o at.mid r a) is_link at.line) stores in
-      let d : LdRan l forced o q (paths_of left) =
-      by_words l forced o q (paths_of left) ld.performs.0 ld.performs.2 ld.asks ld.performs.1 in
+      let is : IsLeft forced left at.mid = left_lines o forced [] [] before at.mid refl at.first in
+      let did : StoredLink forced o at.mid p file r =
+      stored_link forced o at.mid p file r (subst (λ (a : Asked). IsLineOf forced o at.mid r a) is_link at.line) stores in
       ended_by l forced o left ld.there ld.on_disk p q file r at.mid did
-      (linked_left l.disk forced o left at.mid ld.there is ∙ ap (refused_as not_linked) did.is_link) d.result d.ends d.output d.at d.ran
+      (linked_left l.disk forced o left at.mid ld.there is ∙ ap (refused_as not_linked) did.is_link) ld.runs.did.0 ld.runs.did.2
+      ld.runs.output ld.runs.out_path ld.runs.did.1

@@ -1,6 +1,6 @@
 -- The files that a session has left, on its disk and on another.
-use Rattle.std.proofs.Common.{rules, ◌≡◌, ℕ, Bool, true, List, [], ◌∷◌, ◌++◌, Option, Some, None, refl, ◌∙◌, subst}
-use Rattle.std.proofs.{lemmas.Grind.flat_map-append, lemmas.List.append_assoc}
+use Rattle.std.proofs.Common.{rules, ◌≡◌, ℕ, Bool, true, List, [], ◌∷◌, ◌++◌, Option, Some, None, refl, sym, ◌∙◌, subst}
+use Rattle.std.proofs.{lemmas.List.append-nil, lemmas.List.append_assoc}
 use Rattle.std.specs.{List.AllByRecursion, Prelude.◌≢◌, Prelude.IfSome, Prelude.eqb}
 use Rattle.command_words.specs.Scripts.{Asked, to_add, to_withdraw}
 use Rattle.link_session.specs.Edits.{without_last}
@@ -86,10 +86,8 @@ module _ (disk : Disk) (all : List Event) where
   same_there other [] h k = tt
   same_there other (f ∷ fs) h k = search (rules, (same_there other fs h.1 k.1))
 
-module _ {W E : Type 0} (out_contents : W → Option (List ℕ)) (error_contents : E → Option (List ℕ)) where
-  pub same_disk : SameDiskLaw out_contents error_contents
-  same_disk forced o s before after disk ran on same =
-      let events : s.events ≡ events_of before ++ (events_of after ++ ran.further) = search (rules, flat_map-append, append_assoc) in
-      same_there s.disk (events_of before) disk (files_left before)
-      (lines_gave s.disk (events_of before) s.disk [] before (events_of after ++ ran.further) (λ path h. refl) (λ path h. h)
-      (subst (λ (es : List Event). IsOn s.disk es) events on) tt) same
+pub same_disk : SameDiskLaw
+same_disk before one other on same =
+    same_there one (events_of before) other (files_left before)
+    (lines_gave one (events_of before) one [] before [] (λ path h. refl) (λ path h. h)
+    (subst (λ (es : List Event). IsOn one es) (sym (append-nil (events_of before))) on) tt) same

@@ -12,7 +12,8 @@ use Rattle.tool_options.specs.Choices.{Choices}
 use Rattle.surroundings.specs.Events.{stored, Opened, opens, paths_of}
 use Rattle.surroundings.specs.declared.office.Stored.TheVariants.{Kept}
 use Rattle.laws.specs.{Disks.Disk, Disks.IsOn, Disks.Run, Disks.Writes, Disks.disk_after}
-use Rattle.laws.specs.SessionsByCommands.{AsksToLink, CannotRead, CannotWrite, DoesPerform, FailsBy, IsOpening, Says}
+use Rattle.laws.specs.Calls.{AsksToLink, DoesPerform}
+use Rattle.laws.specs.SessionsByCommands.{CannotRead, CannotWrite, FailsBy, IsOpening, Says}
 
 -- ---- what a path stands for
 

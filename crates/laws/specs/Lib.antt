@@ -10,5 +10,6 @@ pub mod ReachedInstructions
 pub mod CleanPrograms
 pub mod Disks
 pub mod SessionsByCommands
+pub mod Calls
 pub mod Maps
 pub mod Builds

@@ -4,22 +4,20 @@
 -- A session's run is taken line by line: what each line asked of the system, what it answered, and its status. The files that are
 -- left after some lines are those that were added and not withdrawn, with the bytes that were read there. Nothing is assumed of the
 -- disk during the session, and files may change between the session and `ld`, but for those that are left.
-use Rattle.std.specs.Prelude.{◌≡◌, ◌≢◌, ◌⊎◌, ℕ, Bool, true, eqb, List, [], ◌∷◌, ◌++◌, map, Option, Some, None, String, Vec, codes, decimal}
-use Rattle.std.specs.Prelude.{IsTrue, string_bytes}
+use Rattle.std.specs.Prelude.{◌≡◌, ◌≢◌, ◌⊎◌, ℕ, Bool, true, eqb, List, [], ◌∷◌, ◌++◌, map, Option, Some, None, Ok, String, codes, decimal}
+use Rattle.std.specs.Prelude.{string_bytes}
 use Rattle.std.specs.{declared.alloc.Global.Global, List.AllByRecursion}
-use Rattle.aout_core.specs.{declared.file.ReadFault.TheVariants.Device, Contents.Contents, Refusals.device_fault, Refusals.refused}
-use Rattle.link_session.specs.{Edits.without_last, Sessions.nothing_kept}
+use Rattle.aout_core.specs.{declared.file.ReadFault.TheVariants.Device, Contents.Contents, Refusals.device_fault}
+use Rattle.link_session.specs.{Edits.without_last, Labelled.Labelled}
 use Rattle.link_out.specs.{function.Reports.line, Inputs.bad_file}
 use Rattle.tool_options.specs.Choices.{Choices}
 use Rattle.surroundings.specs.Events.{Event, looked, opened, stored, written, Opened, opens, paths_of}
 use Rattle.surroundings.specs.{Emits.PutsUnless, declared.nodes.Node.Node, declared.office.Stored.Stored, declared.office.Stored.TheVariants.Kept}
-use Rattle.command_words.specs.declared.words.Call.TheVariants.{Ld, Session}
 use Rattle.command_words.specs.Scripts.{Asked, to_add, to_withdraw, to_link}
 use Rattle.v7tools.specs.FaultTexts.{cause_text, fault_line, no_memory}
-use Rattle.v7tools.specs.SessionRuns.{AreFirst, AreLines, Chains, StopsAfter, answers_of, events_of, lines_asked, worst}
-use Rattle.v7tools.specs.{CommandRuns.AsksFor, CommandRuns.Performs, LineRuns.IsLineOf, LineRuns.LineRun, declared.fault.CliFault.CliFault}
-use Rattle.laws.specs.{Disks.Disk, Disks.IsOn, Disks.Run, Disks.EndsWell, Disks.Writes}
-use Rattle.link_session.specs.Undo as undo
+use Rattle.v7tools.specs.SessionRuns.{Chains, RunsLines, events_of, lines_asked}
+use Rattle.v7tools.specs.{LineRuns.LineRun, LinkRuns.IsLinkRun, declared.fault.CliFault.CliFault}
+use Rattle.laws.specs.{Disks.Did, Disks.Disk, Disks.IsOn, Disks.Run, Disks.Writes}
 use Rattle.v7tools.specs.declared.fault.CliFault.TheVariants as faults
 
 -- ---- what is left
@@ -67,6 +65,13 @@ pub record IsSameOn (one other : Disk) (events : List Event) (file : Opened) : T
   pub first : one file.0 ≡ Some bytes
   pub second : other file.0 ≡ Some bytes
   pub untouched : AllByRecursion (StoresNot file.0) events
+
+-- what the session's disk has at the files that are left another disk has too, if both have the same bytes there and the lines before
+-- stored nothing there
+abbrev pub SameDiskLaw : Type 0
+SameDiskLaw =
+    (before : List LineRun) (one other : Disk) → IsOn one (events_of before) →
+    AllByRecursion (IsSameOn one other (events_of before)) (files_left before) → AreThere other (files_left before)
 
 -- ---- what the system gave
 
@@ -125,22 +130,7 @@ CannotWrite (faults.CannotCreate path) = Unit {0}
 CannotWrite (faults.WriteFailed _) = Unit {0}
 CannotWrite _ = ⊥
 
--- the arguments ask ld for a link of the files at these paths into the file at `out`
-pub record AsksToLink (words forced : List (List ℕ)) (o : Choices) (out : List ℕ) (paths : List (List ℕ)) : Type 0 where
-  pub output : String Global
-  pub files : Vec (String Global) Global
-  pub asks : AsksFor words (Ld o forced output files)
-  pub out_path : string_bytes output ≡ out
-  pub file_paths : map string_bytes files.items ≡ paths
-
 module _ {W E : Type 0} (out_contents : W → Option (List ℕ)) (error_contents : E → Option (List ℕ)) where
-  -- it did what the contract of `perform` specifies
-  abbrev pub DoesPerform : Run W E → Type 0
-  DoesPerform r =
-      Performs out_contents error_contents r.words r.script
-      (record { asked = Some r.earlier; output = r.output_before; error = r.error_before })
-      (record { asked = Some (r.earlier ++ r.events); output = r.output_after; error = r.error_after }) r.status
-
   -- ---- a fault
 
   -- standard error got this line; only a prefix of it if that device failed
@@ -151,85 +141,24 @@ module _ {W E : Type 0} (out_contents : W → Option (List ℕ)) (error_contents
   abbrev pub FailsBy : (CliFault → Type 0) → Run W E → Type 0
   FailsBy IsSuch r = (r.status ≡ 2) × (fault : CliFault) × IsSuch fault × Says r (fault_line fault)
 
-  -- ---- a session and its lines
+  -- ---- a session, and ld
 
-  -- a run is that of these lines: each did what a line does on what those before it left, and the run asked of the system and answered
-  -- what they did, one after another, and nothing else. The largest of their statuses is its status
-  pub record RanLines (forced : List (List ℕ)) (o : Choices) (r : Run W E) (runs : List LineRun) : Type 0 where
-    pub kept : undo.Kept
-    pub chain : Chains o (nothing_kept forced) runs kept
-    pub lines : AreLines r.script (lines_asked runs) None
-    pub events : r.events ≡ events_of runs
-    pub answers : Writes out_contents r (answers_of runs)
-    pub status : r.status ≡ worst runs
+  -- a session was run, and ended well: these were all its lines, one after another, and their answers went out whole
+  abbrev pub EndsWell : List (List ℕ) → Choices → Run W E → Type 0
+  EndsWell forced o r =
+      RunsLines out_contents forced o r.script (Some r.earlier) (Some (r.earlier ++ r.events)) (Ok r.status) r.output_before r.output_after
 
-  -- a session was run, whatever ended it, and these are the first lines of its script, whose answers went out whole. After them it may
-  -- have asked more of the system, and part of a further answer may have gone out
-  pub record AnsweredLines (forced : List (List ℕ)) (o : Choices) (r : Run W E) (runs : List LineRun) : Type 0 where
-    pub kept : undo.Kept
-    pub chain : Chains o (nothing_kept forced) runs kept
-    pub lines : AreFirst r.script (lines_asked runs)
-    pub further : List Event
-    pub events : r.events ≡ events_of runs ++ further
-    pub part : List ℕ
-    pub answers : Writes out_contents r (answers_of runs ++ part)
-
-  -- memory ran out before a line was read: nothing was asked of the system, and nothing written
-  pub record NeverBegan (r : Run W E) (runs : List LineRun) : Type 0 where
-    pub none : runs ≡ []
-    pub asked : r.events ≡ []
-    pub silent : r.output_after ≡ r.output_before
-    pub fails : FailsBy (λ fault. fault ≡ faults.Memory refused) r
-
-  -- the lines are all of the script, and nothing else was asked or answered; the largest of their statuses is that of the session
-  pub record EndedWell (r : Run W E) (runs : List LineRun) : Type 0 where
-    pub lines : AreLines r.script (lines_asked runs) None
-    pub events : r.events ≡ events_of runs
-    pub answers : Writes out_contents r (answers_of runs)
-    pub status : r.status ≡ worst runs
-
-  -- after the lines the script gave no further one, which is the fault; nothing else was asked or answered
-  pub record StoppedAfter (r : Run W E) (runs : List LineRun) : Type 0 where
-    pub events : r.events ≡ events_of runs
-    pub answers : Writes out_contents r (answers_of runs)
-    pub fails : FailsBy (StopsAfter r.script (lines_asked runs)) r
-
-  -- the next line of the script was run too, on what those before it left, and only a prefix of its answer could be written
-  pub record BrokeOff (o : Choices) (kept : undo.Kept) (r : Run W E) (runs : List LineRun) : Type 0 where
-    pub last : LineRun
-    pub is_run : IsLineOf o kept last last.line
-    pub first : AreFirst r.script (lines_asked runs ++ last.line ∷ [])
-    pub events : r.events ≡ events_of runs ++ last.events
-    pub part : List ℕ
-    pub rest : List ℕ
-    pub split : last.answer ≡ part ++ rest
-    pub wrote : Writes out_contents r (answers_of runs ++ part)
-    pub failed : IsTrue r.output_after.has_failed
-    pub fails : FailsBy (λ fault. fault ≡ faults.WriteFailed device_fault) r
-
-  -- how a session ended after the lines that it answered, which left this
-  abbrev pub EndedAfter : Choices → undo.Kept → Run W E → List LineRun → Type 0
-  EndedAfter o kept r runs = NeverBegan r runs ⊎ (EndedWell r runs ⊎ (StoppedAfter r runs ⊎ BrokeOff o kept r runs))
-
-  -- each session answers lines of its script, one after another: all of them, or those up to one that the script does not give or whose
-  -- answer cannot be written
-  abbrev pub AnswersLaw : Type 0
-  AnswersLaw =
-      (forced : List (List ℕ)) (o : Choices) (r : Run W E) → AsksFor r.words (Session o forced) → DoesPerform r →
-      (runs : List LineRun) × (answered : AnsweredLines forced o r runs) × EndedAfter o answered.kept r runs
-
-  -- each session that ends well is the run of all lines of its script
-  abbrev pub LinesLaw : Type 0
-  LinesLaw =
-      (forced : List (List ℕ)) (o : Choices) (r : Run W E) → AsksFor r.words (Session o forced) → EndsWell out_contents error_contents r →
-      (runs : List LineRun) × RanLines forced o r runs
+  -- ld was run: a link of the files at these paths into the file at `out`
+  pub record RunsLd (forced : List (List ℕ)) (o : Choices) (out : List ℕ) (paths : List (List ℕ)) (r : Run W E) : Type 0 where
+    pub output : String Global
+    pub out_path : string_bytes output ≡ out
+    pub did : Did error_contents (IsLinkRun out_contents forced o output paths) r
 
   -- ---- a link in a session
 
   -- ld was run with these options, on a disk that has the files that are left
   pub record LinksLeft (forced : List (List ℕ)) (o : Choices) (out : List ℕ) (left : List Opened) (r : Run W E) : Type 0 where
-    pub asks : AsksToLink r.words forced o out (paths_of left)
-    pub performs : DoesPerform r
+    pub runs : RunsLd forced o out (paths_of left) r
     pub on_disk : IsOn r.disk r.events
     pub there : AreThere r.disk left
 
@@ -252,24 +181,17 @@ module _ {W E : Type 0} (out_contents : W → Option (List ℕ)) (error_contents
   -- a line `link P` that stored its file, and any ld of the files that are left
   abbrev pub LinkLineLaw : Type 0
   LinkLineLaw =
-      (forced : List (List ℕ)) (o : Choices) (s l : Run W E) (before after : List LineRun) (r : LineRun) (p q : List ℕ) (file : Contents) →
-      AnsweredLines forced o s (before ++ r ∷ after) → r.line ≡ to_link p → r.events ≡ stored p file Kept ∷ [] →
-      LinksLeft forced o q (files_left before) l →
+      (forced : List (List ℕ)) (o : Choices) (kept : List Labelled) (l : Run W E) (before after : List LineRun) (r : LineRun)
+      (p q : List ℕ) (file : Contents) → Chains forced o [] (before ++ r ∷ after) kept → r.line ≡ to_link p →
+      r.events ≡ stored p file Kept ∷ [] → LinksLeft forced o q (files_left before) l →
       DoesAsLd p q file (files_left before) r l ⊎ (FailsBy CannotRead l ⊎ FailsBy CannotWrite l)
 
   -- a line `link P` that stored nothing, for another reason than that memory ran out, and any ld of the files that are left
   abbrev pub RefusedLineLaw : Type 0
   RefusedLineLaw =
-      (forced : List (List ℕ)) (o : Choices) (s l : Run W E) (before after : List LineRun) (r : LineRun) (p q : List ℕ) →
-      AnsweredLines forced o s (before ++ r ∷ after) → r.line ≡ to_link p → r.events ≡ [] → r.answer ≢ line no_memory →
+      (forced : List (List ℕ)) (o : Choices) (kept : List Labelled) (l : Run W E) (before after : List LineRun) (r : LineRun)
+      (p q : List ℕ) → Chains forced o [] (before ++ r ∷ after) kept → r.line ≡ to_link p → r.events ≡ [] → r.answer ≢ line no_memory →
       LinksLeft forced o q (files_left before) l → IsRefusedAsLd r l
-
-  -- the files that are left are those of another disk, if both have the same bytes there and the lines before stored nothing there
-  abbrev pub SameDiskLaw : Type 0
-  SameDiskLaw =
-      (forced : List (List ℕ)) (o : Choices) (s : Run W E) (before after : List LineRun) (disk : Disk) →
-      AnsweredLines forced o s (before ++ after) → IsOn s.disk s.events →
-      AllByRecursion (IsSameOn s.disk disk (events_of before)) (files_left before) → AreThere disk (files_left before)
 
   -- ---- an addition and a withdrawal
 
@@ -291,9 +213,7 @@ module _ {W E : Type 0} (out_contents : W → Option (List ℕ)) (error_contents
   -- two runs, of a script and of the same with two lines more, an addition that is done and a withdrawal right after it
   abbrev pub UndoLaw : Type 0
   UndoLaw =
-      (forced : List (List ℕ)) (o : Choices) (long short : Run W E) (before after others : List LineRun)
-      (add withdraw : LineRun) (path : List ℕ) →
-      RanLines forced o long (before ++ add ∷ (withdraw ∷ after)) → RanLines forced o short others →
+      (forced : List (List ℕ)) (o : Choices) (long short : Run W E) (l : EndsWell forced o long) (s : EndsWell forced o short)
+      (before after : List LineRun) (add withdraw : LineRun) (path : List ℕ) → l.runs ≡ before ++ add ∷ (withdraw ∷ after) →
       add.line ≡ to_add path → add.status ≡ 0 → withdraw.line ≡ to_withdraw →
-      lines_asked others ≡ lines_asked (before ++ after) → AreGivenTheSame (before ++ after) others →
-      LeavesNoTrace path long short
+      lines_asked s.runs ≡ lines_asked (before ++ after) → AreGivenTheSame (before ++ after) s.runs → LeavesNoTrace path long short

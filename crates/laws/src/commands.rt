@@ -1,15 +1,25 @@
 //! Laws of commands, over the definitions of what they do. Each law is the contract of a function with an empty body.
 ghost use Rattle.laws.specs.Builds.{BuildsLaw, OnceLaw, ElsewhereLaw};
-ghost use Rattle.laws.specs.SessionsByCommands.{AnswersLaw, LinesLaw, LinkLineLaw, RefusedLineLaw, SameDiskLaw, UndoLaw};
+ghost use Rattle.laws.specs.Calls.{LinkCallLaw, SessionCallLaw};
+ghost use Rattle.laws.specs.SessionsByCommands.{LinkLineLaw, RefusedLineLaw, SameDiskLaw, UndoLaw};
 
 use std::io::Write;
 
+/// A run of `perform` is a run of the session, or of the `ld`, that its arguments ask for. (own choice)
+///
+/// - `session`: it ran the first lines of its script, one after another, and answered them: all of them; or those before one that the
+///   script does not give, or for which memory ran out; or those before one whose answer could not be written whole. Or memory ran out
+///   before the first line, and nothing was asked or answered.
+/// - `link`: it opened the files in order and linked them, or tells why not.
+pub fn call_law<W: Write, E: Write>()
+    ensures session { SessionCallLaw W.contents E.contents }
+    ensures link { LinkCallLaw W.contents E.contents }
+{}
+
 /// A link in a session is a link by `ld` of the files that are left: those that were added before it and not withdrawn. (own choice)
 ///
-/// - `lines`: a session that ends well is the run of the lines of its script, one after another.
-/// - `answers`: any session, whatever ends it, answered the first lines of its script, one after another: all of them; or those before
-///   one that the script does not give, or for which memory ran out; or those before one whose answer could not be written whole. The
-///   other clauses are about these.
+/// The lines of a session are any that were run one after another, as `call_law` says of each session, whatever ends it.
+///
 /// - `linked`: take a line `link P` that stored its file, and any `ld -o Q` with the options and the `-u` of the session, of the files
 ///   that are left, on a disk that has the bytes which the session read. It opens these files and stores in Q what the line stored in
 ///   P, the line answered what it writes, and after that `linked P` with its status, and has that status too. Or memory ran out, an
@@ -20,17 +30,15 @@ use std::io::Write;
 /// - `disks`: a disk has the bytes which the session read, if it has those of the session's disk at the paths that are left, and no
 ///   line before stored a file there.
 pub fn session_law<W: Write, E: Write>()
-    ensures lines { LinesLaw W.contents E.contents }
-    ensures answers { AnswersLaw W.contents E.contents }
     ensures linked { LinkLineLaw W.contents E.contents }
     ensures refused { RefusedLineLaw W.contents E.contents }
-    ensures disks { SameDiskLaw W.contents E.contents }
+    ensures disks { SameDiskLaw }
 {}
 
 /// Two lines that add a file and withdraw it leave no trace. (own choice)
 ///
-/// Take two sessions with the same options and `-u`, of a script and of the same with two lines put in anywhere: `add P`, which is
-/// accepted, and `withdraw`. If the system gave both the same, the longer one answers what the shorter one answers, with `added P` and
+/// Take two sessions that end well, with the same options and `-u`, of a script and of the same with two lines put in anywhere: `add P`,
+/// which is accepted, and `withdraw`. If the system gave both the same, the longer one answers what the shorter one does, with `added P` and
 /// `withdrew P` between. It asks of the system what that asks, and opens P between, and it ends with the same status.
 pub fn undo_law<W: Write, E: Write>()
     ensures { UndoLaw W.contents E.contents }

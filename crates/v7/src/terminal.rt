@@ -1,6 +1,9 @@
 //! The program at a terminal: pages of help, why arguments are refused, what else looks into a file, and a session with a prompt.
 //! Nothing of this is written if standard error is not a terminal.
-ghost use Rattle.std.specs.Prelude.{◌≤◌};
+ghost use Rattle.std.specs.Prelude.{◌≡◌, ◌≤◌, ◌⊎◌, ℕ, List, Option, Result, map, string_bytes, IfErr, IfOk};
+ghost use Rattle.v7tools.specs.CommandRuns.{RunsWords};
+ghost use Rattle.v7tools.specs.declared.fault.CliFault.{CliFault};
+ghost use Rattle.v7tools.specs.declared.fault.CliFault.TheVariants.{Usage};
 
 mod answers;
 mod lines;
@@ -10,7 +13,7 @@ mod prompts;
 mod reasons;
 
 use answers::{Answer, Answers};
-use aout_core::Wire;
+use aout_core::{BufferedWrite, Wire};
 use lines::{put_hint, put_reason};
 use pages::{asked_shown, page_asked};
 use prompts::Prompts;
@@ -18,7 +21,7 @@ use reasons::{Tool, first_reason};
 use std::cell::Cell;
 use std::rt::Runtime;
 use std::{env, io};
-use surroundings::{Disk, show, words};
+use surroundings::{Disk, Office, show, words};
 use v7tools::{BlockWriter, CliFault, attempt};
 
 /// The arguments once more.
@@ -46,6 +49,7 @@ fn refuse<H: Runtime + AllocGlobal>(rt: &H, words: &[String]) -> u8
 /// Writes the line of a fault, and a hint after it; a page, if the arguments ask for that. It returns the status.
 fn report<H: Runtime + AllocGlobal>(rt: &H, fault: &CliFault) -> u8
     ensures { result ≤ 2 }
+    ensures two { (fault.now ≡ Usage) ⊎ (result ≡ 2) }
 {
     if matches!(fault, CliFault::Usage)
         && let Ok(words) = arguments(rt)
@@ -55,6 +59,35 @@ fn report<H: Runtime + AllocGlobal>(rt: &H, fault: &CliFault) -> u8
     let _ = eprintln!(rt; "v7: {fault}");
     put_hint(rt, fault);
     2
+}
+
+/// Does what the arguments ask for, over any `Office`, and returns the status; if `is_typed`, a session reads its script after prompts.
+fn attempt_at_terminal<H: Runtime + AllocGlobal, O: Office, W: BufferedWrite>(
+    rt: &H,
+    office: &mut O,
+    is_typed: bool,
+    prompts: &mut Prompts<'_, H>,
+    output: &mut Wire<W>,
+    words: Vec<String>,
+) -> u8
+    ensures { result ≤ 2 }
+    // as `attempt`; the status is 2 for a fault, unless the arguments ask for no call: it may be for a page
+    ensures run { (script : Option (List ℕ)) × (done : Result ℕ CliFault)
+        × RunsWords W.contents (map string_bytes words.items) script (O.history office.old) (O.history office.new) done output.old output.new
+        × IfOk done (λ status. result ≡ status) × IfErr done (λ fault. (fault ≡ Usage) ⊎ (result ≡ 2)) }
+{
+    let done = if is_typed {
+        attempt(rt.alloc(), office, &mut *prompts, output, words)
+    } else {
+        attempt(rt.alloc(), office, rt.reader(), output, words)
+    };
+    match done {
+        Ok(status) => {
+            prompts.end(status);
+            status
+        }
+        Err(fault) => report(rt, &fault),
+    }
 }
 
 /// Does what the arguments ask for, for a reader at a terminal, and returns the status of the program. It is that of
@@ -71,16 +104,5 @@ pub(crate) fn command_at_terminal<H: Runtime + AllocGlobal>(
     let mut prompts = Prompts::new(rt, &answer);
     let mut office = Disk::new(rt);
     let mut output = Wire::new(BlockWriter::new(Answers::new(io::writer(rt), &answer)));
-    let done = if is_typed {
-        attempt(rt.alloc(), &mut office, &mut prompts, &mut output, words)
-    } else {
-        attempt(rt.alloc(), &mut office, rt.reader(), &mut output, words)
-    };
-    match done {
-        Ok(status) => {
-            prompts.end(status);
-            status
-        }
-        Err(fault) => report(rt, &fault),
-    }
+    attempt_at_terminal(rt, &mut office, is_typed, &mut prompts, &mut output, words)
 }

@@ -11,9 +11,9 @@ use Rattle.link_out.specs.Outcomes.{report_names, outcome_of}
 use Rattle.link_out.specs.{declared.linked.Linked.Linked, function.Link.Outcome, function.Link.link, Inputs.Cause, Inputs.kept_with}
 use Rattle.v7tools.specs.Answers.{absent, Verdict, done, refused, to_store, Stepped, add_step, input_from, failing, giving, withdraw_step}
 use Rattle.v7tools.specs.Answers.{link_answer_text, link_status}
-use Rattle.v7tools.specs.LineRuns.{DoesStep, IsAddOf, IsLineOf, LineRun, OnlyAnswers, TakesLast, status_after}
+use Rattle.v7tools.specs.LineRuns.{DoesStep, IsAddOf, IsLineOf, LineRun, status_after}
 use Rattle.v7tools.specs.internal.SessionParts.{AnswersLine, AnswersStep, IsCommandOf, IsNoLink, IsOpenedAt, PassesOn, TakesPlainStep}
-use Rattle.v7tools.specs.SessionSteps.{AddsIf, Does, GoesOut, IsAddBy, IsAddOn, IsStepOn, TakesStep, verdict_of}
+use Rattle.v7tools.specs.SessionSteps.{AddsIf, Does, GoesOut, IsAddBy, IsAddOn, IsStepOn, TakesStep, WithdrawsIf, verdict_of}
 use Rattle.v7tools.specs.declared.session.commands.Command.TheVariants.{Add, Withdraw, Externals, Undefined, Link, Bad}
 use Rattle.v7tools.specs.{FaultTexts.cli_text, FaultTexts.fault_of_link, internal.StepParts.RefusesLink}
 use Rattle.v7tools.specs.{declared.session.commands.Command.Command, declared.session.commands.Step.Step, declared.fault.CliFault.CliFault}
@@ -116,17 +116,20 @@ module _ {W : Type 0} (contents : W → Option (List ℕ)) where
   -- ---- a line
 
   -- a line that a step answers
-  abbrev run_of : Asked → List Event → Stepped → Kept → LineRun
-  run_of asks events did left = record { line = asks; events = events; answer = did.answer; status = status_after did.verdict; kept = left }
+  abbrev run_of : Asked → List Event → Stepped → LineRun
+  run_of asks events did =
+      record { line = asks; events = events; answer = did.answer; status = status_after did.verdict; kept = did.kept }
 
   answered_by : (o : Choices) (asks : Asked) (events : List Event) (did : Stepped) (kept left : Kept)
       (old new : History) (result : Result ℕ CliFault) (before after : Latched W) →
-      AnswersStep contents did left result before after → Extends old new events →
-      IsLineOf o kept (run_of asks events did left) asks → AnswersLine contents o asks kept left old new result before after
-  answered_by o asks events did kept left old new result before after told asked is = record {
-    run = run_of asks events did left;
+      AnswersStep contents did left result before after → left.forced ≡ kept.forced → Extends old new events →
+      IsLineOf kept.forced o kept.entries (run_of asks events did) asks →
+      AnswersLine contents o asks kept left old new result before after
+  answered_by o asks events did kept left old new result before after told names asked is = record {
+    run = run_of asks events did;
     line = refl;
-    leaves = refl;
+    leaves = sym told.entries;
+    names = names;
     is_run = is;
     asked = asked;
     status = told.status;
@@ -135,21 +138,27 @@ module _ {W : Type 0} (contents : W → Option (List ℕ)) where
     bytes = told.bytes;
   }
 
-  does_step : (asks : Asked) (events : List Event) (did : Stepped) (left : Kept) → left.entries ≡ did.kept →
-      DoesStep did (run_of asks events did left)
-  does_step asks events did left e = record { answer = refl; status = refl; entries = e }
+  -- a line that does a step
+  does_line : (asks : Asked) (events : List Event) (did by : Stepped) → did ≡ by → DoesStep events by (run_of asks events did)
+  does_line asks events did by e =
+      subst (λ (d : Stepped). DoesStep events d (run_of asks events did)) e
+      (record { events = refl; answer = refl; status = refl; kept = refl })
 
-  -- a line that only tells
-  answers_line : (asks : Asked) (did by : Stepped) (kept left : Kept) → did ≡ by → left.entries ≡ did.kept →
-      left ≡ kept → OnlyAnswers by kept (run_of asks [] did left)
-  answers_line asks did by kept left e entries same =
-      subst (λ (d : Stepped). OnlyAnswers d kept (run_of asks [] did left)) e
-      (record { events = refl; does = does_step asks [] did left entries; same = same })
+  -- no step changes the forced names
+  add_names : (v : Verdict) (old new : Kept) → AddsIf v old new → new.forced ≡ old.forced
+  add_names done old new h = h.1.forced
+  add_names refused old new h = ap (λ (k : Kept). k.forced) h
+  add_names (to_store x) old new h = ap (λ (k : Kept). k.forced) h
+
+  withdraw_names : (v : Verdict) (old new : Kept) → WithdrawsIf v old new → new.forced ≡ old.forced
+  withdraw_names done old new h = h.1.forced
+  withdraw_names refused old new h = ap (λ (k : Kept). k.forced) h
+  withdraw_names (to_store x) old new h = ap (λ (k : Kept). k.forced) h
 
   module _ {R : Type 0} (remaining : R → Option (List ℕ)) (o : Choices) (kept left : Kept) (result : Result ℕ CliFault)
       (before after : Latched W) where
     add_of : (wire : Latched R) (path : List ℕ) (did : Stepped) →
-        IsAddBy remaining wire kept.forced kept.entries path did → IsAddOf (remaining wire.device) kept path did
+        IsAddBy remaining wire kept.forced kept.entries path did → IsAddOf (remaining wire.device) kept.forced kept.entries path did
     add_of wire path did (inl e) = inl e
     add_of wire path did (inr (working, inl h)) = inr (inl h)
     add_of wire path did (inr (working, inr h)) = inr (inr h)
@@ -161,32 +170,25 @@ module _ {W : Type 0} (contents : W → Option (List ℕ)) where
     added_line old new path at None is asked (did, e, changes, told) =
         let asks = to_add (string_bytes path) in
         let events = opened (string_bytes path) None ∷ [] in
-        let same : left ≡ kept = subst (λ (v : Verdict). AddsIf v kept left) (ap (λ (d : Stepped). d.verdict) e) changes in
-        answered_by o asks events did kept left old new result before after told
-        (subst (λ (p : List ℕ). Extends old new (opened p None ∷ [])) is asked)
-        (inl (record {
-          events = refl;
-          does = subst (λ (d : Stepped). DoesStep d (run_of asks events did left)) e (does_step asks events did left told.entries);
-          same = same;
-        }))
+        answered_by o asks events did kept left old new result before after told (add_names did.verdict kept left changes)
+        (subst (λ (p : List ℕ). Extends old new (opened p None ∷ [])) is asked) (inl (does_line asks events did _ e))
     added_line old new path at (Some wire) is asked (did, by, changes, told) =
         let asks = to_add (string_bytes path) in
         let events = opened (string_bytes path) (Some (remaining wire.device)) ∷ [] in
-        answered_by o asks events did kept left old new result before after told
+        answered_by o asks events did kept left old new result before after told (add_names did.verdict kept left changes)
         (subst (λ (p : List ℕ). Extends old new (opened p (Some (remaining wire.device)) ∷ [])) is asked.1)
         (inr (record {
           known = remaining wire.device;
-          events = refl;
           did = did;
           is_add = add_of wire (string_bytes path) did by;
-          does = does_step asks events did left told.entries;
-          changes = changes;
+          does = does_line asks events did did refl;
         }))
 
     -- a line for which no file is opened
-    told_line : (h : History) (asks : Asked) (did : Stepped) → IsLineOf o kept (run_of asks [] did left) asks →
-        AnswersStep contents did left result before after → AnswersLine contents o asks kept left h h result before after
-    told_line h asks did is told = answered_by o asks [] did kept left h h result before after told (nothing_asked h) is
+    told_line : (h : History) (asks : Asked) (did : Stepped) → IsLineOf kept.forced o kept.entries (run_of asks [] did) asks →
+        left.forced ≡ kept.forced → AnswersStep contents did left result before after →
+        AnswersLine contents o asks kept left h h result before after
+    told_line h asks did is names told = answered_by o asks [] did kept left h h result before after told names (nothing_asked h) is
 
     -- a line that is not a link, from the step that it asks for
     pub line_by_step : (old new : History) (line : Line) (command : Command R) → IsCommandOf remaining old new line command →
@@ -196,18 +198,17 @@ module _ {W : Type 0} (contents : W → Option (List ℕ)) where
         added_line old new path (string_bytes path) wire refl found (rw is at told)
     line_by_step old new lines.Withdraw command (is, same) told =
         let (did, e, changes, step) = rw is at told in
-        rw same (told_line old to_withdraw did (subst (λ (d : Stepped). TakesLast d kept (run_of to_withdraw [] did left)) e
-        (record { events = refl; does = does_step to_withdraw [] did left step.entries; changes = changes })) step)
+        rw same (told_line old to_withdraw did (does_line to_withdraw [] did _ e) (withdraw_names did.verdict kept left changes) step)
     line_by_step old new lines.Externals command (is, same) told =
         let (did, e, changes, step) = rw is at told in
-        rw same (told_line old for_externals did (answers_line for_externals did _ kept left e step.entries changes) step)
+        rw same (told_line old for_externals did (does_line for_externals [] did _ e) (ap (λ (k : Kept). k.forced) changes) step)
     line_by_step old new lines.Undefined command (is, same) told =
         let (did, e, changes, step) = rw is at told in
-        rw same (told_line old for_undefined did (answers_line for_undefined did _ kept left e step.entries changes) step)
+        rw same (told_line old for_undefined did (does_line for_undefined [] did _ e) (ap (λ (k : Kept). k.forced) changes) step)
     line_by_step old new (lines.Link path) command h told = absurd h
     line_by_step old new lines.Bad command (is, same) told =
         let (did, e, changes, step) = rw is at told in
-        rw same (told_line old for_nothing did (answers_line for_nothing did _ kept left e step.entries changes) step)
+        rw same (told_line old for_nothing did (does_line for_nothing [] did _ e) (ap (λ (k : Kept). k.forced) changes) step)
 
   module _ {R : Type 0} (remaining : R → Option (List ℕ)) where
     step_of_line : (old new : History) (line : Line) (command : Command R) → IsCommandOf remaining old new line command →
@@ -248,12 +249,12 @@ module _ {W : Type 0} (contents : W → Option (List ℕ)) where
         let did = refused_as kept.entries (cli_text (fault_of_link fault)) in
         answered_by o (to_link path) [] did kept kept h h result before after
         (record { entries = refl; status = status; write_failed = write_failed; fault = written.fault; bytes = written.bytes })
-        (nothing_asked h)
+        refl (nothing_asked h)
         (inl (record {
           did = did;
           is_link = link_refused_by kept.entries (link kept.forced (objects kept.entries) o) fault is;
           refuses = refl;
-          only_answer = answers_line (to_link path) did did kept kept refl refl refl;
+          does = does_line (to_link path) [] did did refl;
         }))
 
     -- there is a link, and it is known what became of its file
@@ -269,10 +270,11 @@ module _ {W : Type 0} (contents : W → Option (List ℕ)) where
         events = stored path made.file what ∷ [];
         answer = link_answer_text (report_names made.report) path what;
         status = link_status (report_names made.report) what;
-        kept = kept;
+        kept = kept.entries;
       };
       line = refl;
       leaves = refl;
+      names = refl;
       is_run =
           inr (record { outcome = outcome_of made; is_link = is; what = what; events = refl; answer = refl; status = refl; same = refl });
       asked = asked;
@@ -302,6 +304,7 @@ module _ {W : Type 0} (contents : W → Option (List ℕ)) where
     run = h.run;
     line = h.line;
     leaves = h.leaves;
+    names = h.names;
     is_run = h.is_run;
     asked = h.asked;
     status = passes.same ∙ h.status;
@@ -313,6 +316,7 @@ module _ {W : Type 0} (contents : W → Option (List ℕ)) where
     run = h.run;
     line = h.line;
     leaves = h.leaves;
+    names = h.names;
     is_run = h.is_run;
     asked = h.asked;
     status = tt;

@@ -6,7 +6,7 @@ use Rattle.std.proofs.{KnownBytes.Appends-nil, KnownBytes.Appends-trans, KnownBy
 use Rattle.std.proofs.lemmas.List.{map-append}
 use Rattle.std.specs.{Prelude.IfSome, Prelude.IsSome, Prelude.IsTrue, Prelude.◌⊎◌, Io.KnownBytes.Appends}
 use Rattle.std.specs.{Io.KnownBytes.prepend_known}
-use Rattle.link_session.specs.{Sessions.nothing_kept, Undo.Kept}
+use Rattle.link_session.specs.{Labelled.Labelled, Sessions.nothing_kept, Undo.Kept}
 use Rattle.tool_options.specs.Choices.{Choices}
 use Rattle.surroundings.specs.Events.{History, Extends}
 use Rattle.command_words.specs.Scripts.{Asked, Given, ScriptFault, long_line, many_lines, and_given, given_after}
@@ -24,10 +24,10 @@ use Rattle.command_words.specs.declared.line_reader.Stop.TheVariants as stops
 
 -- ---- one more line
 
-chains_more : (o : Choices) (old mid new : Kept) (runs : List LineRun) (r : LineRun) → Chains o old runs mid →
-    IsLineOf o mid r r.line → r.kept ≡ new → Chains o old (runs ++ r ∷ []) new
-chains_more o old mid new [] r h is e = (subst (λ (k : Kept). IsLineOf o k r r.line) h is, sym e)
-chains_more o old mid new (s ∷ ss) r h is e = (h.0, chains_more o s.kept mid new ss r h.1 is e)
+chains_more : (forced : List (List ℕ)) (o : Choices) (old mid new : List Labelled) (runs : List LineRun) (r : LineRun) →
+    Chains forced o old runs mid → IsLineOf forced o mid r r.line → r.kept ≡ new → Chains forced o old (runs ++ r ∷ []) new
+chains_more forced o old mid new [] r h is e = (subst (λ (k : List Labelled). IsLineOf forced o k r r.line) h is, sym e)
+chains_more forced o old mid new (s ∷ ss) r h is e = (h.0, chains_more forced o s.kept mid new ss r h.1 is e)
 
 worst_more : (runs : List LineRun) (r : LineRun) → worst (runs ++ r ∷ []) ≡ max (worst runs) r.status
 worst_more [] r = omega arith
@@ -210,7 +210,8 @@ module _ {R W : Type 0} (remaining : R → Option (List ℕ)) (contents : W → 
   pub record Running (o : Choices) (start kept : Kept) (begun script : Progress R) (old new : History)
       (before after : Latched W) (status : ℕ) : Type 0 where
     pub runs : List LineRun
-    pub ran : Ran contents o start kept runs old new before after
+    pub names : kept.forced ≡ start.forced
+    pub ran : Ran contents start.forced o start.entries kept.entries runs old new before after
     pub reading : Reading (left_of remaining begun) (left_of remaining script) script.line_count script.settled (lines_asked runs)
     pub worst_so_far : status ≡ worst runs
 
@@ -218,6 +219,7 @@ module _ {R W : Type 0} (remaining : R → Option (List ℕ)) (contents : W → 
       begun.line_count ≡ 0 → begun.settled ≡ None → Running o start start begun begun old old before before 0
   runs_none o start begun old before none e = record {
     runs = [];
+    names = refl;
     ran = record {
       chain = refl;
       asked = nothing_asked old;
@@ -248,6 +250,10 @@ module _ {R W : Type 0} {remaining : R → Option (List ℕ)} {contents : W → 
       reads_given (left_of remaining begun) (left_of remaining script) (left_of remaining next) script.line_count script.settled
       next.settled asked_so_far h.reading answer it next.line_count is stays gives.settles gives.next gives.count
 
+  -- a line that was run on what is kept, with the first forced names
+  line_is : (r : LineRun) → IsLineOf mid.forced o mid.entries r r.line → IsLineOf start.forced o mid.entries r r.line
+  line_is r is = subst (λ (ns : List (List ℕ)). IsLineOf ns o mid.entries r r.line) h.names is
+
   -- one more line
   pub runs_more : {left : Kept} {new : History} {after : Latched W} {answered : ℕ} (it : Line) → answer ≡ Ok it →
       AnswersLine contents o (asked_by it) mid left between new (Ok answered) during after →
@@ -255,8 +261,11 @@ module _ {R W : Type 0} {remaining : R → Option (List ℕ)} {contents : W → 
       Running remaining contents o start left begun next old new before after (max status answered)
   runs_more {left} {new} {after} {answered} it is line kept = record {
     runs = h.runs ++ line.run ∷ [];
+    names = line.names ∙ h.names;
     ran = record {
-      chain = chains_more o start mid left h.runs line.run h.ran.chain line.is_run line.leaves;
+      chain =
+          chains_more start.forced o start.entries mid.entries left.entries h.runs line.run h.ran.chain (line_is line.run line.is_run)
+          line.leaves;
       asked =
           subst (Extends old new) (flat_map_more (λ (r : LineRun). r.events) [] h.runs line.run)
           (asked_after old between new (events_of h.runs) line.run.events h.ran.asked line.asked);
@@ -290,8 +299,8 @@ module _ {R W : Type 0} {remaining : R → Option (List ℕ)} {contents : W → 
         IsSessionRun contents forced o (remaining begun.wire.device) old between result before during
     all_ran ends = inr (inl (record {
       runs = h.runs;
-      kept = mid;
-      ran = subst (λ (k : Kept). Ran contents o k mid h.runs old between before during) is h.ran;
+      kept = mid.entries;
+      ran = subst (λ (k : Kept). Ran contents k.forced o k.entries mid.entries h.runs old between before during) is h.ran;
       ends = subst (λ (known : Option (List ℕ)). EndsAfter known h.runs result) first_is ends;
     }))
 
@@ -319,10 +328,10 @@ module _ {R W : Type 0} {remaining : R → Option (List ℕ)} {contents : W → 
         let (part, rest, split, sent) = line.bytes in
         inr (inr (record {
           runs = h.runs;
-          kept = mid;
-          chain = subst (λ (k : Kept). Chains o k h.runs mid) is h.ran.chain;
+          kept = mid.entries;
+          chain = subst (λ (k : Kept). Chains k.forced o k.entries h.runs mid.entries) is h.ran.chain;
           last = line.run;
-          is_run = line.is_run;
+          is_run = subst (λ (k : Kept). IsLineOf k.forced o mid.entries line.run line.run.line) is (line_is line.run line.is_run);
           first = subst (λ (known : Option (List ℕ)). AreFirst known (asked_so_far ++ line.run.line ∷ [])) first_is
               (subst (λ (a : Asked). AreFirst (left_of remaining begun) (asked_so_far ++ a ∷ [])) (sym line.line)
               (reads_front (left_of remaining begun) (left_of remaining next) next.line_count next.settled

@@ -7,7 +7,7 @@ use Rattle.std.specs.List.{flat_map}
 use Rattle.aout_core.specs.{declared.symbol.Symbol.Symbol, declared.file.ReadFault.TheVariants.Device, Refusals.device_fault, WellFormed.segment_number}
 use Rattle.link_session.specs.Edits.{without_last, last_of}
 use Rattle.link_session.specs.{declared.state.State.State, declared.state.State.TheVariants.Defined}
-use Rattle.link_session.specs.{declared.state.State.TheVariants.Wanted, Labelled.Labelled, Labelled.objects, Mentions.mentions, Image.image}
+use Rattle.link_session.specs.{declared.state.State.TheVariants.Wanted, Labelled.Labelled, Labelled.objects, Mentions.mentions, Image.named_states}
 use Rattle.link_out.specs.function.Reports.{ReportNames, line, report_text, status_of, undefined_names}
 use Rattle.link_out.specs.Inputs.{Cause, cannot_open, bad_file, with_input}
 use Rattle.link_out.specs.{FaultTexts.link_text, declared.linked.LinkFault.LinkFault, function.Link.Outcome, function.Link.link}
@@ -63,7 +63,7 @@ entry_of name (Defined segment offset) = record { name = name; type_bits = 0o40 
 entry_of name (Wanted size) = record { name = name; type_bits = 0o40; value = size }
 
 abbrev pub externals_text : List (List ℕ) → List Labelled → List ℕ
-externals_text forced kept = flat_map (λ e. symbol_line (entry_of e.0 e.1)) (image forced (objects kept)).externals
+externals_text forced kept = flat_map (λ e. symbol_line (entry_of e.0 e.1)) (named_states (mentions forced (objects kept)))
 
 abbrev pub undefined_text : List (List ℕ) → List Labelled → List ℕ
 undefined_text forced kept = flat_map line (undefined_names (mentions forced (objects kept)))

@@ -60,9 +60,15 @@ Ends contents (Ok answer) status before after = (status ≡ answer) × (after �
 Ends contents (Err fault) status before after =
     (status ≡ 2) × PutsUnless after.has_failed (contents before.device) (contents after.device) (fault_line fault)
 
+-- the program did this, by what was asked of the system, the result, and standard output, and ended with this status
+abbrev pub PerformsSo : {W E : Type 0} → (E → Option (List ℕ)) →
+    (History → History → Result ℕ CliFault → Latched W → Latched W → Type 0) → Surroundings W E → Surroundings W E → ℕ → Type 0
+PerformsSo error_contents Does before after status =
+    (result : Result ℕ CliFault) × Does before.asked after.asked result before.output after.output
+    × Ends error_contents result status before.error after.error
+
 -- the arguments were refused or their call was run, and the program ended with this status
 abbrev pub Performs : {W E : Type 0} → (W → Option (List ℕ)) → (E → Option (List ℕ)) → List (List ℕ) → Option (List ℕ) →
     Surroundings W E → Surroundings W E → ℕ → Type 0
 Performs contents error_contents words script before after status =
-    (result : Result ℕ CliFault) × RunsWords contents words script before.asked after.asked result before.output after.output
-    × Ends error_contents result status before.error after.error
+    PerformsSo error_contents (RunsWords contents words script) before after status

@@ -3,92 +3,73 @@
 -- A line opens at most the file that it names, stores at most the link that it asks for, and has an answer and a status: 0, or 1
 -- if it was refused or its link had something to report.
 use Rattle.std.specs.Prelude.{◌≡◌, ◌⊎◌, ℕ, List, [], ◌∷◌, Option, Some, None, Ok, IfSome}
-use Rattle.link_session.specs.{Labelled.objects, Undo.Kept}
+use Rattle.link_session.specs.Labelled.{Labelled, objects}
 use Rattle.tool_options.specs.Choices.{Choices}
 use Rattle.link_out.specs.function.Link.{Outcome, link}
 use Rattle.v7tools.specs.Answers.{absent, failing, adding, withdrawing, listing_externals, listing_undefined, anything_else, Verdict, done}
 use Rattle.v7tools.specs.Answers.{refused, Stepped, add_step, input_from, step, link_answer_text, link_status}
 use Rattle.v7tools.specs.LinkAnswers.{WantsMemory}
-use Rattle.v7tools.specs.SessionSteps.{AddsIf, IsAddOn, IsLinkBy, WithdrawsIf, without_memory}
+use Rattle.v7tools.specs.SessionSteps.{IsAddOn, IsLinkBy, without_memory}
 use Rattle.surroundings.specs.{Events.Event, Events.opened, Events.stored, declared.office.Stored.Stored}
 use Rattle.command_words.specs.Scripts.{Asked, to_add, to_withdraw, for_externals, for_undefined, to_link, for_nothing}
 
--- a line: what it asked for, what it asked of the system, its answer, its status, and what is kept after it
+-- a line: what it asked for, what it asked of the system, its answer, its status, and the objects that are kept after it
 pub record LineRun : Type 0 where
   pub line : Asked
   pub events : List Event
   pub answer : List ℕ
   pub status : ℕ
-  pub kept : Kept
+  pub kept : List Labelled
 
 -- the status of a step that is not a link
 abbrev pub status_after : Verdict → ℕ
 status_after done = 0
 status_after _ = 1
 
--- the line did what this step does
-pub record DoesStep (did : Stepped) (r : LineRun) : Type 0 where
+-- the line did what this step does, and this is what it asked of the system
+pub record DoesStep (asked : List Event) (did : Stepped) (r : LineRun) : Type 0 where
+  pub events : r.events ≡ asked
   pub answer : r.answer ≡ did.answer
   pub status : r.status ≡ status_after did.verdict
-  pub entries : r.kept.entries ≡ did.kept
+  pub kept : r.kept ≡ did.kept
 
 -- the file that was opened is added by its bytes, if they are known; its device may fail, and memory may run out,
 -- if it is wanted
-abbrev pub IsAddOf : Option (List ℕ) → Kept → List ℕ → Stepped → Type 0
-IsAddOf known old path did =
-    (did ≡ add_step old.entries path (input_from old.forced old.entries path failing))
-    ⊎ (((did ≡ without_memory old.entries) × IfSome known (WantsMemory old.forced old.entries path))
-    ⊎ IsAddOn known old.forced old.entries path did)
-
--- the file at the path that is named can't be opened
-pub record OpensNone (o : Choices) (old : Kept) (path : List ℕ) (r : LineRun) : Type 0 where
-  pub events : r.events ≡ opened path None ∷ []
-  pub does : DoesStep (step old.forced o old.entries (adding path absent)) r
-  pub same : r.kept ≡ old
+abbrev pub IsAddOf : Option (List ℕ) → List (List ℕ) → List Labelled → List ℕ → Stepped → Type 0
+IsAddOf known forced old path did =
+    (did ≡ add_step old path (input_from forced old path failing))
+    ⊎ (((did ≡ without_memory old) × IfSome known (WantsMemory forced old path)) ⊎ IsAddOn known forced old path did)
 
 -- the file at the path that is named was opened
-pub record OpensOne (old : Kept) (path : List ℕ) (r : LineRun) : Type 0 where
+pub record OpensOne (forced : List (List ℕ)) (old : List Labelled) (path : List ℕ) (r : LineRun) : Type 0 where
   pub known : Option (List ℕ)
-  pub events : r.events ≡ opened path (Some known) ∷ []
   pub did : Stepped
-  pub is_add : IsAddOf known old path did
-  pub does : DoesStep did r
-  pub changes : AddsIf did.verdict old r.kept
-
--- nothing was opened or stored, and nothing is changed
-pub record OnlyAnswers (did : Stepped) (old : Kept) (r : LineRun) : Type 0 where
-  pub events : r.events ≡ []
-  pub does : DoesStep did r
-  pub same : r.kept ≡ old
-
--- the last object is taken away, if there is one
-pub record TakesLast (did : Stepped) (old : Kept) (r : LineRun) : Type 0 where
-  pub events : r.events ≡ []
-  pub does : DoesStep did r
-  pub changes : WithdrawsIf did.verdict old r.kept
+  pub is_add : IsAddOf known forced old path did
+  pub does : DoesStep (opened path (Some known) ∷ []) did r
 
 -- there is no link: nothing is stored
-pub record LinksNone (o : Choices) (old : Kept) (r : LineRun) : Type 0 where
+pub record LinksNone (forced : List (List ℕ)) (o : Choices) (old : List Labelled) (r : LineRun) : Type 0 where
   pub did : Stepped
-  pub is_link : IsLinkBy old.entries (link old.forced (objects old.entries) o) did
+  pub is_link : IsLinkBy old (link forced (objects old) o) did
   pub refuses : did.verdict ≡ refused
-  pub only_answer : OnlyAnswers did old r
+  pub does : DoesStep [] did r
 
 -- the file of the link was to be stored at the path that is named, and the answer depends on whether it was
-pub record LinksInto (o : Choices) (old : Kept) (path : List ℕ) (r : LineRun) : Type 0 where
+pub record LinksInto (forced : List (List ℕ)) (o : Choices) (old : List Labelled) (path : List ℕ) (r : LineRun) : Type 0 where
   pub outcome : Outcome
-  pub is_link : link old.forced (objects old.entries) o ≡ Ok outcome
+  pub is_link : link forced (objects old) o ≡ Ok outcome
   pub what : Stored
   pub events : r.events ≡ stored path outcome.file what ∷ []
   pub answer : r.answer ≡ link_answer_text outcome.report path what
   pub status : r.status ≡ link_status outcome.report what
   pub same : r.kept ≡ old
 
--- a line that asks for this was run on a session
-abbrev pub IsLineOf : Choices → Kept → LineRun → Asked → Type 0
-IsLineOf o old r (to_add path) = OpensNone o old path r ⊎ OpensOne old path r
-IsLineOf o old r to_withdraw = TakesLast (step old.forced o old.entries withdrawing) old r
-IsLineOf o old r for_externals = OnlyAnswers (step old.forced o old.entries listing_externals) old r
-IsLineOf o old r for_undefined = OnlyAnswers (step old.forced o old.entries listing_undefined) old r
-IsLineOf o old r (to_link path) = LinksNone o old r ⊎ LinksInto o old path r
-IsLineOf o old r for_nothing = OnlyAnswers (step old.forced o old.entries anything_else) old r
+-- a line that asks for this was run on a session with these forced names, which keeps these objects
+abbrev pub IsLineOf : List (List ℕ) → Choices → List Labelled → LineRun → Asked → Type 0
+IsLineOf forced o old r (to_add path) =
+    DoesStep (opened path None ∷ []) (step forced o old (adding path absent)) r ⊎ OpensOne forced old path r
+IsLineOf forced o old r to_withdraw = DoesStep [] (step forced o old withdrawing) r
+IsLineOf forced o old r for_externals = DoesStep [] (step forced o old listing_externals) r
+IsLineOf forced o old r for_undefined = DoesStep [] (step forced o old listing_undefined) r
+IsLineOf forced o old r (to_link path) = LinksNone forced o old r ⊎ LinksInto forced o old path r
+IsLineOf forced o old r for_nothing = DoesStep [] (step forced o old anything_else) r

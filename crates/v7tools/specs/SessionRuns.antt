@@ -7,7 +7,7 @@ use Rattle.aout_core.specs.Refusals.{device_fault}
 use Rattle.aout_core.specs.{Refusals.refused, Wires.Latched}
 use Rattle.std.specs.Prelude.{◌≡◌, ◌⊎◌, ℕ, max, List, [], ◌∷◌, ◌++◌, map, Option, Some, None, Result, Ok, Err, IfSome, IsTrue}
 use Rattle.std.specs.{List.flat_map, Io.KnownBytes.Appends}
-use Rattle.link_session.specs.{Sessions.nothing_kept, Undo.Kept}
+use Rattle.link_session.specs.Labelled.{Labelled}
 use Rattle.tool_options.specs.Choices.{Choices}
 use Rattle.surroundings.specs.Events.{Event, History, Extends}
 use Rattle.v7tools.specs.{LinkRuns.Refuses, declared.fault.CliFault.CliFault, LineRuns.IsLineOf, LineRuns.LineRun}
@@ -16,10 +16,10 @@ use Rattle.command_words.specs.ScriptAnswers.{NamesPath}
 use Rattle.texts.specs.Lines.{lines_in}
 use Rattle.v7tools.specs.declared.fault.CliFault.TheVariants as faults
 
--- the lines were run in order, each on the session that the one before it left
-abbrev pub Chains : Choices → Kept → List LineRun → Kept → Type 0
-Chains o old [] new = new ≡ old
-Chains o old (r ∷ rs) new = IsLineOf o old r r.line × Chains o r.kept rs new
+-- the lines were run in order, each on the objects that the one before it left
+abbrev pub Chains : List (List ℕ) → Choices → List Labelled → List LineRun → List Labelled → Type 0
+Chains forced o old [] new = new ≡ old
+Chains forced o old (r ∷ rs) new = IsLineOf forced o old r r.line × Chains forced o r.kept rs new
 
 abbrev pub lines_asked : List LineRun → List Asked
 lines_asked runs = map (λ r. r.line) runs
@@ -36,9 +36,9 @@ worst [] = 0
 worst (r ∷ rs) = max r.status (worst rs)
 
 -- the lines were run on a session, and their answers went out whole; if the wire had failed before, there are no lines
-pub record Ran {W : Type 0} (contents : W → Option (List ℕ)) (o : Choices) (start kept : Kept) (runs : List LineRun)
-    (old new : History) (before after : Latched W) : Type 0 where
-  pub chain : Chains o start runs kept
+pub record Ran {W : Type 0} (contents : W → Option (List ℕ)) (forced : List (List ℕ)) (o : Choices) (start kept : List Labelled)
+    (runs : List LineRun) (old new : History) (before after : Latched W) : Type 0 where
+  pub chain : Chains forced o start runs kept
   pub asked : Extends old new (events_of runs)
   pub answers : Appends (contents before.device) (contents after.device) (answers_of runs)
   pub working : IsTrue after.has_failed → IsTrue before.has_failed
@@ -74,8 +74,8 @@ EndsAfter script runs (Err fault) = StopsAfter script (lines_asked runs) fault
 pub record RunsLines {W : Type 0} (contents : W → Option (List ℕ)) (forced : List (List ℕ)) (o : Choices)
     (script : Option (List ℕ)) (old new : History) (result : Result ℕ CliFault) (before after : Latched W) : Type 0 where
   pub runs : List LineRun
-  pub kept : Kept
-  pub ran : Ran contents o (nothing_kept forced) kept runs old new before after
+  pub kept : List Labelled
+  pub ran : Ran contents forced o [] kept runs old new before after
   pub ends : EndsAfter script runs result
 
 -- after the lines whose answers went out whole one more was run, and only a prefix of its answer went out; if the wire had
@@ -83,10 +83,10 @@ pub record RunsLines {W : Type 0} (contents : W → Option (List ℕ)) (forced :
 pub record BreaksOff {W : Type 0} (contents : W → Option (List ℕ)) (forced : List (List ℕ)) (o : Choices)
     (script : Option (List ℕ)) (old new : History) (result : Result ℕ CliFault) (before after : Latched W) : Type 0 where
   pub runs : List LineRun
-  pub kept : Kept
-  pub chain : Chains o (nothing_kept forced) runs kept
+  pub kept : List Labelled
+  pub chain : Chains forced o [] runs kept
   pub last : LineRun
-  pub is_run : IsLineOf o kept last last.line
+  pub is_run : IsLineOf forced o kept last last.line
   pub first : AreFirst script (lines_asked runs ++ last.line ∷ [])
   pub asked : Extends old new (events_of runs ++ last.events)
   pub part : List ℕ

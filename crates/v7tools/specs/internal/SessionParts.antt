@@ -60,8 +60,9 @@ pub record AnswersLine {W : Type 0} (contents : W → Option (List ℕ)) (o : Ch
     (old new : History) (result : Result ℕ CliFault) (before after : Latched W) : Type 0 where
   pub run : LineRun
   pub line : run.line ≡ asks
-  pub leaves : run.kept ≡ left
-  pub is_run : IsLineOf o kept run run.line
+  pub leaves : run.kept ≡ left.entries
+  pub names : left.forced ≡ kept.forced
+  pub is_run : IsLineOf kept.forced o kept.entries run run.line
   pub asked : Extends old new run.events
   pub status : IfOk result (λ status. status ≡ run.status)
   pub write_failed : IfErr result (λ fault. fault ≡ faults.WriteFailed device_fault)
