@@ -80,13 +80,9 @@ else
     same answers /dev/null
     # the stack that TRUST names is enough
     stack=$(sed -n 's/.* \([0-9]*\) kB of stack.*/\1/p' "$top/docs/TRUST.md")
-    small() {
-        (ulimit -s "$stack" && exec env -i "$v7" "$@")
-    }
-    for words in 'ld -o out main.o twice.o count.o' 'nm main.o' 'size main.o' 'strip out'; do
-        tried "$words, $stack kB of stack" 0 '' small $words >answers
+    for words in 'ld -o out main.o twice.o count.o' 'nm main.o' 'size main.o' 'strip out' 'session'; do
+        printf 'add twice.o\nexternals\nlink out\n' | tried "$words, $stack kB of stack" 0 '' sh -c "ulimit -s $stack && exec env -i '$v7' $words" >answers
     done
-    printf 'add main.o\nadd none.o\nexternals\nlink out\nwithdraw\n' | tried "session, $stack kB of stack" 1 '' small session >answers
     rm out
 fi
 

@@ -29,7 +29,7 @@ fn bytes_at<O: Office>(
 
 /// The first bytes of the file at a path, at most so many, for a program of this name; or the line that it can't be opened or read.
 /// (own choice)
-#[tactic(auto, using(crate::proofs::ReadingLemmas::by_reading))]
+#[tactic(auto, using(crate::proofs::ReadingLemmas::reads_not))]
 pub fn read_front<O: Office>(
     alloc: Global,
     office: &mut O,
@@ -52,7 +52,7 @@ pub fn read_front<O: Office>(
 
 /// All bytes of the file at a path, for a program of this name and files of at most so many bytes; or the line that it can't be opened
 /// or read, or is too long. No more than one byte after so many is read. (own choice)
-#[tactic(auto, using(crate::proofs::ReadingLemmas::by_reading))]
+#[tactic(auto, using(crate::proofs::ReadingLemmas::reads_whole, crate::proofs::ReadingLemmas::reads_too_much))]
 pub fn read_whole<O: Office>(
     alloc: Global,
     office: &mut O,
