@@ -135,7 +135,7 @@ def number_on(word):
     return word
 
 
-REQUESTS = (b"open", b"read", b"create", b"write")
+REQUESTS = (b"open", b"read", b"create", b"write", b"sync")
 
 
 def request(word):

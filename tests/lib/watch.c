@@ -1,5 +1,5 @@
-/* Loaded before a program by LD_PRELOAD: lists the files that the program opens, reads, creates and writes, and refuses what is
- * planned, requests for memory too. tests/lib/watching.py compiles it, and reads the list; docs/CASES.md has the requests.
+/* Loaded before a program by LD_PRELOAD: lists the files that the program opens, reads, creates, writes and syncs, and refuses
+ * what is planned, requests for memory too. tests/lib/watching.py compiles it, and reads the list; docs/CASES.md has the requests.
  *
  * WATCH_LIST is the path of the list: a line `watched`, and a line for each request, but for memory only if it is refused, or, as
  * `granted` and its number, if it is the last that is not. WATCH_PLAN has three lines for each plan: `refuse`, the request, and a line
@@ -249,6 +249,14 @@ ssize_t writev(int descriptor, const struct iovec *pieces, int count)
         if (pieces[i].iov_len)
             return write(descriptor, pieces[i].iov_base, pieces[i].iov_len);
     return 0;
+}
+
+int fdatasync(int descriptor)
+{
+    struct file *file = file_of(descriptor);
+    if (list >= 0 && file && ask("sync", file->name))
+        return -1;
+    return syscall(SYS_fdatasync, descriptor);
 }
 
 /* other names of the same calls */

@@ -9,6 +9,7 @@
 set -u
 cd "$(dirname "$0")/../.."
 build=$(realpath "${V7_BUILD:-build}")
+top=$PWD
 v7=$build/v7
 for program in v7 v7-explain v7-object v7-from-gnu v7-lesson; do
     [ -x "$build/$program" ] || { echo "$build/$program is missing: make builds it"; exit 2; }
@@ -77,6 +78,12 @@ else
     (ulimit -n 1 && exec "$v7" nm main.o) <&- >answers 2>fault; status=$?
     expect 'no folder to hold a stream' 2 'v7: /: cannot open'
     same answers /dev/null
+    # the stack that TRUST names is enough
+    stack=$(sed -n 's/.* \([0-9]*\) kB of stack.*/\1/p' "$top/docs/TRUST.md")
+    for words in 'ld -o out main.o twice.o count.o' 'nm main.o' 'size main.o' 'strip out' 'session'; do
+        printf 'add twice.o\nexternals\nlink out\n' | tried "$words, $stack kB of stack" 0 '' sh -c "ulimit -s $stack && exec env -i '$v7' $words" >answers
+    done
+    rm out
 fi
 
 # a device that is full
@@ -119,11 +126,11 @@ for letter in '' -d -l -s -x -m; do
     tried "v7-explain $letter, output closed" 2 'v7-explain: write error' v7-explain $letter main.o >&-
 done
 tried 'v7-explain -c, output closed' 1 'v7-explain: reported: a program; relocation removed, so ld cannot link it again' v7-explain -c reported >&-
-v7-lesson main.o >&- 2>answers; ended 'v7-lesson, output closed' 2
+tried 'v7-lesson, output closed' 2 'v7-lesson: write error' v7-lesson main.o >&-
 if [ -c /dev/full ]; then
     tried 'v7-explain, device full' 2 'v7-explain: write error' v7-explain main.o >/dev/full
     tried 'v7-explain -o, device full' 2 'v7-explain: /dev/full: write error' v7-explain -o /dev/full main.o >answers
-    v7-lesson main.o >/dev/full 2>answers; ended 'v7-lesson, device full' 2
+    tried 'v7-lesson, device full' 2 'v7-lesson: write error' v7-lesson main.o >/dev/full
 fi
 
 # an output that is the input is refused, whatever its path is: the input stays as it was
@@ -180,10 +187,24 @@ v7-object main.o out >answers 2>&-; ended 'v7-object, error closed' 1
 v7-from-gnu main.o out >answers 2>&-; ended 'v7-from-gnu, error closed' 1
 [ ! -e out ] || fail 'a file that was refused is stored'
 
-# a file that is larger than the memory that there is can be read, but there is no memory for it
+# a file that is larger than the memory that there is can be read, but there is no memory for it; one without an end is too long
 dd if=/dev/null of=large bs=1 seek=300000000 2>answers
 if (ulimit -v 200000 && exec v7-explain main.o) >answers 2>fault; then
-    for words in 'v7-explain large' 'v7-explain -c large' 'v7-explain -o out large' 'v7-explain -m large' 'v7-object large out' 'v7-from-gnu large out'; do
+    limited() {
+        (ulimit -v 200000 && exec "$@")
+    }
+    ln -s /dev/zero zero
+    for words in 'v7-lesson zero' 'v7-lesson large' "v7-lesson -p $top/page -q zero main.o"; do
+        file=${words% main.o}
+        tried "$words" 2 "v7-lesson: ${file##* }: file too long" limited $words >answers
+    done
+    for words in v7-explain 'v7-explain -c' 'v7-explain -o out' 'v7-explain -m'; do
+        tried "$words zero" 2 'v7-explain: zero: cannot open' limited $words zero >answers
+        tried "$words large" 2 'v7-explain: large: file too long' limited $words large >answers
+        tr '\0' x <zero | tried "$words, a pipe" 2 'v7-explain: /dev/stdin: file too long' limited $words /dev/stdin >answers
+    done
+    limited v7-explain -l zero | grep -q '^device .* zero$' || fail 'v7-explain -l zero'
+    for words in 'v7-object large out' 'v7-from-gnu large out'; do
         (ulimit -v 200000 && exec $words) >answers 2>fault; status=$?
         expect "$words, with little memory" 2 "${words%% *}: no memory"
         same answers /dev/null
@@ -194,7 +215,7 @@ if (ulimit -v 200000 && exec v7-explain main.o) >answers 2>fault; then
     grep -q '^other .* large$' answers || fail "v7-explain -l large: $(cat answers)"
 fi
 [ ! -e out ] || fail 'with little memory a file is stored'
-rm large
+rm large zero
 
 # standard error closed, and all three
 "$v7" ld -o out main.o count.o >answers 2>&-; ended 'ld, error closed' 1

@@ -25,6 +25,7 @@ RANDOM_LINES = 400
 # arguments that are refused, and the lines that follow `v7: usage` at a terminal
 REASONS = [
     (["xx"], "there is no command xx"),
+    (["help", "all"], "there is no command all"),
     (["-o"], "there is no command -o"),
     ([""], "there is no command "),
     (["ld"], "ld: it needs a file"),
@@ -92,7 +93,7 @@ SAME = [
     ("v7-lesson -c -n 2 main.o twice.o", "v7-lesson main.o twice.o -cn 2"),
 ]
 # arguments that ask for help
-HELP = [([], None), (["help"], None), (["help", "all"], None), (["--help"], None), (["ld", "-r", "--help"], "ld")]
+HELP = [([], None), (["help"], None), (["help", "help"], None), (["--help"], None), (["ld", "-r", "--help"], "ld")]
 HELP += [(words, tool) for tool in TOOLS for words in ([tool, "--help"], ["help", tool])]
 
 COMMANDS = """add PATH, withdraw, externals, undefined and link PATH are the commands;

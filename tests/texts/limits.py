@@ -54,10 +54,18 @@ LIMITS = [
         "man/v7-session.1": "The script goes on after {} lines.",
     }),
     ("aout_core/src/block.rt", "BLOCK_SIZE", {
-        "docs/LINK.md": "| what is read or written at once | {} bytes |",
+        "docs/LINK.md": "| what is read or listed at once; what is written to a file | {} bytes;",
+    }),
+    ("surroundings/src/pieces.rt", "PIECE_SIZE", {
+        "docs/LINK.md": "what is written to a file | 512 bytes; {} |",
+    }),
+    ("v7_explain/src/explaining.rt", "MOST_BYTES", {
+        "docs/LINK.md": "| a file for `v7-explain`, the largest core file; a file for `v7-lesson` | {} bytes;",
+        "man/v7-explain.1": "The file has more than {} bytes,",
     }),
     ("v7_lesson/src/page.rt", "PAGE_LIMIT", {
         "docs/LINK.md": "if it has every order of them | {} bytes;",
+        "man/v7-lesson.1": "The file has more than {} bytes,",
     }),
     ("v7_lesson/src/walk.rt", "ALL_ORDERS", {
         "docs/LINK.md": "bytes; {} | there is no page",

@@ -1,3 +1,4 @@
 pub mod EventLemmas
+pub mod ReadingLemmas
 pub mod ShownLemmas
 pub mod PieceLemmas

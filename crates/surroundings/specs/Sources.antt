@@ -1,6 +1,6 @@
 -- A file that is read whole, and why one is not; and what is reported of a file that is not stored. (own choice)
-use Rattle.std.specs.Prelude.{◌≡◌, ℕ, List, [], ◌∷◌, take, Option, Some, None, IfSome, codes}
-use Rattle.surroundings.specs.{Answers.HasAnswer, Answers.failed_at, Events.History, Events.Extends, Events.opened}
+use Rattle.std.specs.Prelude.{◌≡◌, ◌⊎◌, ℕ, List, [], ◌∷◌, take, Option, Some, None, IfSome, codes}
+use Rattle.surroundings.specs.{Answer.Answer, Answers.HasAnswer, Answers.failed_at, Events.History, Events.Extends, Events.opened}
 use Rattle.surroundings.specs.{declared.answer.Fault.Fault, declared.office.Stored.Stored}
 use Rattle.surroundings.specs.declared.office.Stored.TheVariants as office
 
@@ -13,16 +13,21 @@ abbrev pub ReadsFront : ℕ → History → History → List ℕ → List ℕ �
 ReadsFront most old new path bytes =
     (known : Option (List ℕ)) × Extends old new (opened path (Some known) ∷ []) × IfSome known (λ all. bytes ≡ take most all)
 
--- the line of a file that was not opened (`None`), or opened and not read
-abbrev pub unread_text : Option (Option (List ℕ)) → List ℕ
-unread_text None = codes "cannot open"
-unread_text (Some known) = codes "read error"
+-- the answer of status 2 for a file that was not opened (`None`), or was opened, and not read or too long
+abbrev pub IsUnread : List ℕ → List ℕ → Option (Option (List ℕ)) → Answer → Type 0
+IsUnread program path None answer = answer ≡ failed_at program path (codes "cannot open")
+IsUnread program path (Some known) answer =
+    (answer ≡ failed_at program path (codes "read error")) ⊎ (answer ≡ failed_at program path (codes "file too long"))
 
--- the file at a path was not opened, or not read, which is the fault; or memory ran out
+-- the file at a path was not read, which the answer reports
+abbrev pub ReadsNone : List ℕ → History → History → List ℕ → Answer → Type 0
+ReadsNone program old new path answer =
+    (found : Option (Option (List ℕ))) × Extends old new (opened path found ∷ []) × IsUnread program path found answer
+
+-- the file at a path was not read, which is the fault; or memory ran out
 abbrev pub EndsReading : List ℕ → History → History → List ℕ → Fault → Type 0
 EndsReading program old new path fault =
-    (found : Option (Option (List ℕ))) × Extends old new (opened path found ∷ [])
-    × HasAnswer fault (failed_at program path (unread_text found))
+    (answer : Answer) × ReadsNone program old new path answer × HasAnswer fault answer
 
 -- what is reported of the path of a file that was to be stored
 abbrev pub stored_text : Stored → Option (List ℕ)

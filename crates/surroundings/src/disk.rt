@@ -10,9 +10,9 @@ use crate::nodes::Node;
 use crate::office::{Office, Stored};
 use crate::pieces::PieceWriter;
 use aout_core::{BufferedWrite, File, Wire, write_file};
-use std::fs::{self, FileType};
+use std::fs::{self, FileType, OpenFile};
 use std::io::Write;
-use std::os::unix::fs::MetadataExt;
+use std::os::unix::fs::{FileTypeExt, MetadataExt};
 use std::rt::{Files, Runtime};
 
 /// Stores a file on a device, which is flushed: nothing of it waits, if it is kept. On a fault a prefix of it went out. (own choice)
@@ -42,19 +42,24 @@ pub fn store_text_on<W: Write>(text: &[u8], out: &mut Wire<W>) -> Stored
     }
 }
 
-/// Stores a file on a device in large pieces, and hands the device back: if the file is kept, the device itself has all its bytes.
-fn store_in_pieces<F: Write>(file: &File, device: F) -> (Stored, F)
+/// Stores a file on a device in large pieces, and hands the device back: if the file is kept, the device itself has all its bytes,
+/// and has reached the disk if it replaces another one.
+fn store_in_pieces<F: Write + OpenFile>(file: &File, device: F, replaces: bool) -> (Stored, F)
     ensures { result.0 ≡ Kept → Appends (F.contents device) (F.contents result.1) (encoding file.now) }
 {
-    let mut out = Wire::new(PieceWriter::new(device));
+    let mut out = Wire::new(PieceWriter::new(device, replaces));
     let stored = store_on(file, &mut out);
     (stored, out.into_inner().into_file())
 }
 
-/// The type of what is at a path, if this is itself a device, a FIFO or a socket. A link to one has none. (own choice)
+/// The type of what is at a path, if this is a device, or itself a FIFO or a socket. A link to one of these two has none. (own choice)
 pub fn special_at<H: Files>(rt: &H, path: &str) -> Option<FileType> {
     let kind = fs::symlink_metadata(rt, path).ok()?.file_type();
-    if kind.is_file() || kind.is_dir() || kind.is_symlink() {
+    if kind.is_symlink() {
+        let target = fs::metadata(rt, path).ok()?.file_type();
+        return (target.is_char_device() || target.is_block_device()).then_some(target);
+    }
+    if kind.is_file() || kind.is_dir() {
         return None;
     }
     Some(kind)
@@ -105,15 +110,17 @@ impl<H: Runtime> Office for Disk<'_, H> {
     }
 
     fn store(&mut self, path: &str, file: &File) -> Stored {
+        let replaces = self.node(path).is_some();
         match fs::create(self.rt, path) {
-            Ok(device) => store_in_pieces(file, device).0,
+            Ok(device) => store_in_pieces(file, device, replaces).0,
             Err(_) => Stored::NotCreated,
         }
     }
 
     fn store_text(&mut self, path: &str, text: &[u8]) -> Stored {
+        let replaces = self.node(path).is_some();
         match fs::create(self.rt, path) {
-            Ok(device) => store_text_on(text, &mut Wire::new(device)),
+            Ok(device) => store_text_on(text, &mut Wire::new(PieceWriter::new(device, replaces))),
             Err(_) => Stored::NotCreated,
         }
     }

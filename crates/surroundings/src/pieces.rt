@@ -3,17 +3,20 @@ ghost use Rattle.std.specs.Prelude.{◌≡◌, ◌≤◌, slice_range};
 ghost use Rattle.surroundings.specs.declared.pieces.TheConstants.{PIECE_SIZE};
 
 use aout_core::BufferedWrite;
+use std::fs::OpenFile;
 use std::io;
 use std::io::{ErrorKind, Write};
 use std::marker::Model;
 
 /// How many bytes a piece has room for.
-const PIECE_SIZE: usize = 4096;
+const PIECE_SIZE: usize = 4_096;
 
 /// A file, and the bytes that were taken for it and not written yet. It takes no memory.
 #[derive(Drop)]
 pub(crate) struct PieceWriter<F> {
     file: F,
+    /// Whether the file took the place of another one, which may have been the only copy: then a flush waits for the disk.
+    replaces: bool,
     bytes: [u8; PIECE_SIZE],
     start: usize,
     end: usize,
@@ -44,11 +47,12 @@ impl<F> PieceWriter<F> {
     ghost use Rattle.std.specs.Prelude.{◌≡◌, []};
 
     /// A writer to the file, of which nothing is held.
-    pub(crate) fn new(file: F) -> PieceWriter<F>
+    pub(crate) fn new(file: F, replaces: bool) -> PieceWriter<F>
         ensures { result ≡ record { file = file; held = []; space = PIECE_SIZE } }
     {
         PieceWriter {
             file,
+            replaces,
             bytes: [0; PIECE_SIZE],
             start: 0,
             end: 0,
@@ -115,7 +119,7 @@ impl<F: Write> PieceWriter<F> {
     }
 }
 
-impl<F: Write> Write for PieceWriter<F> {
+impl<F: Write + OpenFile> Write for PieceWriter<F> {
     ghost use Rattle.std.specs.Prelude.{◌≡◌, ◌<◌, [], min, length, Ok, OnOk};
     ghost use Rattle.std.specs.Io.{WritesAtMost};
     ghost use Rattle.std.specs.Io.KnownBytes.{Keeps, WriteAppends};
@@ -140,11 +144,15 @@ impl<F: Write> Write for PieceWriter<F> {
         ensures empty { OnOk result (self.new.held ≡ []) }
     {
         self.send_all()?;
-        self.file.flush()
+        self.file.flush()?;
+        if self.replaces {
+            self.file.sync_data()?;
+        }
+        Ok(())
     }
 }
 
-impl<F: Write> BufferedWrite for PieceWriter<F> {
+impl<F: Write + OpenFile> BufferedWrite for PieceWriter<F> {
     ghost waiting = { λ p. p.held };
 
     fn pass_on(&mut self) -> io::Result<()> {

@@ -1,7 +1,7 @@
 //! Files that are read whole, or from the beginning.
-ghost use Rattle.std.specs.Prelude.{IfErr, IfOk};
+ghost use Rattle.std.specs.Prelude.{◌≤◌, length, IfErr, IfOk};
 ghost use Rattle.surroundings.specs.Sources.{EndsReading, ReadsAt, ReadsFront};
-ghost use Rattle.surroundings.specs.internal.Readings.{ReadsNot, ReadsUpTo};
+ghost use Rattle.surroundings.specs.internal.Readings.{ReadsNot};
 
 use crate::answer::{Fault, fault_at};
 use crate::office::Office;
@@ -9,64 +9,27 @@ use aout_core::{FileFault, read_bytes};
 use std::alloc::Global;
 use std::io::Read;
 
-/// The bytes of the file at a path, at most so many if there is a limit.
+/// The bytes of the file at a path, at most so many.
 fn bytes_at<O: Office>(
     alloc: Global,
     office: &mut O,
     path: &str,
-    most: Option<u64>,
+    most: u64,
 ) -> Result<Vec<u8>, FileFault>
     ensures ok { IfOk result (λ bytes.
-        ReadsUpTo most (O.history office.old) (O.history office.new) path.now bytes.items) }
+        ReadsFront most (O.history office.old) (O.history office.new) path.now bytes.items) }
     ensures err { IfErr result (λ fault.
         ReadsNot (O.history office.old) (O.history office.new) path.now fault) }
 {
-    let Some(mut source) = office.open(path) else {
-        return Err(FileFault::NotOpened);
-    };
-    match most {
-        None => read_bytes(alloc, &mut source),
-        Some(most) => read_bytes(alloc, &mut source.take(most)),
+    match office.open(path) {
+        Some(mut source) => read_bytes(alloc, &mut source.take(most)),
+        None => Err(FileFault::NotOpened),
     }
 }
 
-/// The same, for a program of this name; or the line that the file can't be opened or read.
-fn read_up_to<O: Office>(
-    alloc: Global,
-    office: &mut O,
-    program: &str,
-    path: &str,
-    most: Option<u64>,
-) -> Result<Vec<u8>, Fault>
-    ensures ok { IfOk result (λ bytes.
-        ReadsUpTo most (O.history office.old) (O.history office.new) path.now bytes.items) }
-    ensures err { IfErr result (λ fault.
-        EndsReading program.now (O.history office.old) (O.history office.new) path.now fault) }
-{
-    match bytes_at(alloc, office, path, most) {
-        Ok(bytes) => Ok(bytes),
-        Err(FileFault::NotOpened) => Err(fault_at(alloc, program, path, "cannot open")),
-        Err(FileFault::Failed) => Err(fault_at(alloc, program, path, "read error")),
-        Err(FileFault::Memory(refused)) => Err(Fault::Memory(refused)),
-    }
-}
-
-/// All bytes of the file at a path, for a program of this name; or the line that it can't be opened or read. (own choice)
-pub fn read_whole<O: Office>(
-    alloc: Global,
-    office: &mut O,
-    program: &str,
-    path: &str,
-) -> Result<Vec<u8>, Fault>
-    ensures ok { IfOk result (λ bytes.
-        ReadsAt (O.history office.old) (O.history office.new) path.now bytes.items) }
-    ensures err { IfErr result (λ fault.
-        EndsReading program.now (O.history office.old) (O.history office.new) path.now fault) }
-{
-    read_up_to(alloc, office, program, path, None)
-}
-
-/// The first bytes of the file at a path, at most so many, or the line as of `read_whole`. (own choice)
+/// The first bytes of the file at a path, at most so many, for a program of this name; or the line that it can't be opened or read.
+/// (own choice)
+#[tactic(auto, using(crate::proofs::ReadingLemmas::reads_not))]
 pub fn read_front<O: Office>(
     alloc: Global,
     office: &mut O,
@@ -79,5 +42,33 @@ pub fn read_front<O: Office>(
     ensures err { IfErr result (λ fault.
         EndsReading program.now (O.history office.old) (O.history office.new) path.now fault) }
 {
-    read_up_to(alloc, office, program, path, Some(most))
+    match bytes_at(alloc, office, path, most) {
+        Ok(bytes) => Ok(bytes),
+        Err(FileFault::NotOpened) => Err(fault_at(alloc, program, path, "cannot open")),
+        Err(FileFault::Failed) => Err(fault_at(alloc, program, path, "read error")),
+        Err(FileFault::Memory(refused)) => Err(Fault::Memory(refused)),
+    }
+}
+
+/// All bytes of the file at a path, for a program of this name and files of at most so many bytes; or the line that it can't be opened
+/// or read, or is too long. No more than one byte after so many is read. (own choice)
+#[tactic(auto, using(crate::proofs::ReadingLemmas::reads_whole, crate::proofs::ReadingLemmas::reads_too_much))]
+pub fn read_whole<O: Office>(
+    alloc: Global,
+    office: &mut O,
+    program: &str,
+    path: &str,
+    most: u32,
+) -> Result<Vec<u8>, Fault>
+    ensures ok { IfOk result (λ bytes.
+        ReadsAt (O.history office.old) (O.history office.new) path.now bytes.items) }
+    ensures within { IfOk result (λ bytes. length bytes.items ≤ most) }
+    ensures err { IfErr result (λ fault.
+        EndsReading program.now (O.history office.old) (O.history office.new) path.now fault) }
+{
+    let bytes = read_front(alloc, office, program, path, u64::from(most) + 1)?;
+    if bytes.len() > most as usize {
+        return Err(fault_at(alloc, program, path, "file too long"));
+    }
+    Ok(bytes)
 }

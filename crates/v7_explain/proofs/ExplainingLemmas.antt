@@ -28,7 +28,7 @@ module _ (mode : Mode) (old new : History) (path : List ℕ) where
 
   -- it is not read, and there is no memory for its line
   pub explains_unread : (fault : Fault) → EndsReading program old new path fault → Explains mode old new path (Err (faults.Memory refused))
-  explains_unread fault (found, grows, answered) = inr (found, grows, inr refl)
+  explains_unread fault (answer, none, answered) = inr (answer, none, inr refl)
 
 -- ---- what is not read, and what is
 

@@ -4,8 +4,8 @@ use Rattle.std.specs.Prelude.{IsOk, Result, Ok, Err, OnOk}
 use Rattle.aout_core.specs.{Contents.Contents, Decoding.decode, Refusals.refused}
 use Rattle.link_out.specs.Inputs.{object_in}
 use Rattle.link_session.specs.Labelled.{Labelled}
-use Rattle.surroundings.specs.Sources.{EndsReading, ReadsAt, unread_text}
-use Rattle.surroundings.specs.{Answer.Answer, Answers.Faults, Answers.failed_at, Events.History, declared.answer.Fault.Fault}
+use Rattle.surroundings.specs.Sources.{EndsReading, ReadsAt}
+use Rattle.surroundings.specs.{Answer.Answer, Answers.Faults, Events.History, declared.answer.Fault.Fault}
 use Rattle.v7_explain.specs.Maps.{HaveObjects, IsTaking, Taken, TakesAt, if_object, input_in, nothing_taken, with_found}
 use Rattle.v7_explain.specs.internal.Takes.{AddsOrSays, Holds, TakesAll, TakesNext, TakesOne}
 use Rattle.v7_explain.specs.{Files.program, Joined.joined, Joined.nothing_said}
@@ -58,10 +58,10 @@ ended fault = Err fault
 -- it is not read
 pub takes_unread : (old new : History) (path : List ℕ) (objects : List Labelled) (fault : Fault) (result : Result (Unit {0}) Fault) →
     EndsReading program old new path fault → result ≡ Err fault → TakesOne old new path objects objects result
-takes_unread old new path objects fault result (why, grows, inl answered) is =
-    (Err (failed_at program path (unread_text why)), inr (why, grows, refl), inl (is ∙ ap ended answered, refl))
-takes_unread old new path objects fault result (why, grows, inr memory) is =
-    (Err (failed_at program path (unread_text why)), inr (why, grows, refl), inr (is ∙ ap ended memory))
+takes_unread old new path objects fault result (answer, none, inl answered) is =
+    (Err answer, inr (answer, none, refl), inl (is ∙ ap ended answered, refl))
+takes_unread old new path objects fault result (answer, none, inr memory) is =
+    (Err answer, inr (answer, none, refl), inr (is ∙ ap ended memory))
 
 takes_none_by : (old new : History) (path : List ℕ) (objects : List Labelled) (fault : Fault) (result : Result (Unit {0}) Fault)
     (found : Result (List ℕ) Answer) → TakesAt old new path found → Faults found fault → result ≡ Err fault →

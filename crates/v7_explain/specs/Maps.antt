@@ -12,8 +12,8 @@ use Rattle.link_out.specs.Inputs.{Cause, Refusal, bad_file, bad_object, linked, 
 use Rattle.link_out.specs.{function.Link.Outcome, function.Reports.status_of}
 use Rattle.link_session.specs.Labelled.{Labelled}
 use Rattle.map_texts.specs.Asked.{has_absent}
-use Rattle.surroundings.specs.{Answer.Answer, Answers.AnswersOr, Answers.failed_at, Answers.only_errors, Answers.says_reason, Events.History}
-use Rattle.surroundings.specs.{Events.Extends, Events.opened, Sources.ReadsAt, Sources.unread_text, declared.answer.Fault.Fault}
+use Rattle.surroundings.specs.{Answer.Answer, Answers.AnswersOr, Answers.only_errors, Answers.says_reason, Events.History}
+use Rattle.surroundings.specs.{Sources.ReadsAt, Sources.ReadsNone, declared.answer.Fault.Fault}
 use Rattle.surroundings.specs.{declared.reasons.Reason.Reason, declared.reasons.Reason.TheVariants.NotOfLd}
 use Rattle.tool_options.specs.Choices.{Choices}
 use Rattle.v7_explain.specs.{Files.line_of, Files.program, Joined.either, Joined.joined, Joined.nothing_said, Help.usage}
@@ -39,11 +39,11 @@ if_object path bytes (Err cause) = Err (refused_for path (cause_text cause))
 abbrev pub input_in : List ℕ → List ℕ → Result (List ℕ) Answer
 input_in path bytes = if_object path bytes (object_in (decode bytes))
 
--- the file at a path is read, or it is not opened or not read
+-- the file at a path is read, or why it is not
 abbrev pub TakesAt : History → History → List ℕ → Result (List ℕ) Answer → Type 0
 TakesAt old new path found =
     ((bytes : List ℕ) × ReadsAt old new path bytes × (found ≡ input_in path bytes))
-    ⊎ ((why : Option (Option (List ℕ))) × Extends old new (opened path why ∷ []) × (found ≡ Err (failed_at program path (unread_text why))))
+    ⊎ ((answer : Answer) × ReadsNone program old new path answer × (found ≡ Err answer))
 
 -- the inputs so far, and what was said of files that are not objects
 pub record Taken : Type 0 where

@@ -5,10 +5,10 @@
 use Rattle.std.specs.Prelude.{◌≡◌, ◌⊎◌, ℕ, true, false, eqb, List, [], ◌∷◌, map, Option, Some, None, Result, Ok, Err}
 use Rattle.aout_core.specs.Refusals.{refused}
 use Rattle.explanations.specs.declared.file_kind.FileKind.{FileKind}
-use Rattle.surroundings.specs.Answers.{AnswersOr, IsPerformed, failed_at, only_errors}
-use Rattle.surroundings.specs.Events.{History, Extends, Surroundings, opened, written}
+use Rattle.surroundings.specs.Answers.{AnswersOr, IsPerformed, only_errors}
+use Rattle.surroundings.specs.Events.{History, Surroundings, written}
 use Rattle.surroundings.specs.Programs.{AnswersGiven, CallsOr, Reads, Step, Stores, Then}
-use Rattle.surroundings.specs.Sources.{ReadsAt, ReadsFront, unread_text}
+use Rattle.surroundings.specs.Sources.{ReadsAt, ReadsFront, ReadsNone}
 use Rattle.surroundings.specs.{Answer.Answer, Nodes.ChecksOutput, declared.answer.Fault.Fault}
 use Rattle.v7_explain.specs.Calls.{Call, asked_in, explain, map_link, mapping, store, walk}
 use Rattle.v7_explain.specs.Files.{IsChecked, IsListed, IsRow, IsUnnamed, IsViewed, program}
@@ -38,12 +38,11 @@ abbrev pub ReadsFor : Mode → History → History → List ℕ → List ℕ →
 ReadsFor Inventory old new path bytes = ReadsFront 8389505 old new path bytes
 ReadsFor _ old new path bytes = ReadsAt old new path bytes
 
--- the file at a path is read and explained, or it is not opened or not read, and a line reports that
+-- the file at a path is read and explained, or a line reports why it is not read
 abbrev pub Explains : Mode → History → History → List ℕ → Result Answer Fault → Type 0
 Explains mode old new path result =
     ((bytes : List ℕ) × ReadsFor mode old new path bytes × GivesOr (IsSaid mode bytes) result)
-    ⊎ ((found : Option (Option (List ℕ))) × Extends old new (opened path found ∷ [])
-    × AnswersOr result (failed_at program path (unread_text found)))
+    ⊎ ((answer : Answer) × ReadsNone program old new path answer × AnswersOr result answer)
 
 -- an inventory does not read what has a kind of its own, as a device
 abbrev pub IsKind : Option Folders → Mode → List ℕ → Option FileKind → Type 0

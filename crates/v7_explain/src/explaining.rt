@@ -64,8 +64,8 @@ fn explain(alloc: Global, mode: Mode, source: Source<'_>) -> Result<Answer, Allo
     }
 }
 
-/// How many bytes of a file an inventory reads: one more than the largest core file has, which is larger than any a.out file.
-const MOST_BYTES: u64 = 1024 + 64 * 2 * 65_535 + 1;
+/// How many bytes the largest core file has, which is larger than any a.out file: 1,024 bytes and 131,070 blocks of 64.
+pub(crate) const MOST_BYTES: u32 = 8_389_504;
 
 /// The bytes of a file by which it is explained.
 fn bytes_for<O: Office>(
@@ -80,8 +80,8 @@ fn bytes_for<O: Office>(
         EndsReading program (O.history office.old) (O.history office.new) path.now fault) }
 {
     match mode {
-        Mode::Inventory => read_front(alloc, office, NAME, path, MOST_BYTES),
-        _ => read_whole(alloc, office, NAME, path),
+        Mode::Inventory => read_front(alloc, office, NAME, path, u64::from(MOST_BYTES) + 1),
+        _ => read_whole(alloc, office, NAME, path, MOST_BYTES),
     }
 }
 

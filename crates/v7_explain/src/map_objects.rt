@@ -12,7 +12,7 @@ ghost use Rattle.v7_explain.specs.Files.{line_of};
 ghost use Rattle.v7_explain.specs.Maps.{input_in, refused_for};
 ghost use Rattle.v7_explain.specs.internal.Takes.{KeepsSplit, TakesAll, TakesNext, TakesOne};
 
-use crate::explaining::{join, nothing_said};
+use crate::explaining::{MOST_BYTES, join, nothing_said};
 use crate::program::NAME;
 use crate::source::{put_front, put_text_line};
 use aout_core::{Object, ObjectFault, ReadFault, decode_file};
@@ -76,7 +76,7 @@ fn take_at<O: Office>(
     ensures forced { objects.new.session.forced ≡ objects.old.session.forced }
     ensures split { result ≢ Err (Memory refused) → KeepsSplit objects.old → KeepsSplit objects.new }
 {
-    let bytes = read_whole(alloc, office, NAME, path)?;
+    let bytes = read_whole(alloc, office, NAME, path, MOST_BYTES)?;
     let object = object_in(alloc, path, &bytes)?;
     let label = String::from_str(alloc, path)?;
     objects.take(alloc, label, object)?;

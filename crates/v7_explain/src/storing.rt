@@ -1,6 +1,7 @@
 //! The listing of a file, stored in place of being written to standard output.
 ghost use Rattle.v7_explain.specs.Runs.{IsStoring, StoresListing};
 
+use crate::explaining::MOST_BYTES;
 use crate::listing::list;
 use crate::program::NAME;
 use crate::source::Source;
@@ -39,7 +40,7 @@ pub(crate) fn store_listing<O: Office>(
     ensures { StoresListing to.now path.now (O.history office.old) (O.history office.new) result }
 {
     check_output(alloc, office, NAME, path, to)?;
-    let bytes = read_whole(alloc, office, NAME, path)?;
+    let bytes = read_whole(alloc, office, NAME, path, MOST_BYTES)?;
     let source = Source {
         path,
         bytes: &bytes,

@@ -1,9 +1,9 @@
 -- Files that are read one after another, from what comes of those that are left.
 use Rattle.std.proofs.Common.{◌≡◌, ℕ, List, [], ◌∷◌, ◌++◌, Some, refl, sym, subst, inl, inr}
-use Rattle.std.specs.Prelude.{Result, Err}
+use Rattle.std.specs.Prelude.{Result, Err, codes}
 use Rattle.aout_core.specs.Refusals.{refused}
 use Rattle.surroundings.specs.Sources.{EndsReading, ReadsAt}
-use Rattle.surroundings.specs.{Events.History, declared.answer.Fault.Fault, declared.answer.Fault.TheVariants.Memory}
+use Rattle.surroundings.specs.{Answer.Answer, Answers.failed_at, Events.History, declared.answer.Fault.Fault, declared.answer.Fault.TheVariants.Memory}
 use Rattle.v7_from_gnu.specs.{Jobs.Job, Jobs.Source, Lines.program, Readings.IsReading, Readings.source_of}
 
 -- what comes of the files that are left comes of all
@@ -23,7 +23,8 @@ reading_ends old mid new read all left later job fault inv e h =
 pub reading_stops : (old mid new : History) (read : List Source) (all left later : List Job) (job : Job) (bytes : List ℕ) →
     GoesOn old mid read left all → left ≡ job ∷ later → ReadsAt mid new job.from bytes → IsReading old new [] all (Err (Memory refused))
 reading_stops old mid new read all left later job bytes inv e h =
-    reading_ends old mid new read all left later job (Memory refused) inv e (Some h.0, h.1, inr refl)
+    let no_answer : Answer = failed_at program job.from (codes "read error") in
+    reading_ends old mid new read all left later job (Memory refused) inv e (no_answer, (Some h.0, h.1, inl refl), inr refl)
 
 -- one more is read
 pub reading_more : (old mid next : History) (read more : List Source) (all left later : List Job) (job : Job)

@@ -38,7 +38,7 @@ pub(crate) fn read_all<O: Office>(
     let mut sources = Vec::new(alloc);
     for job in jobs {
         let Job { from, to } = job;
-        let bytes = match read_whole(alloc, office, NAME, from.as_str()) {
+        let bytes = match read_whole(alloc, office, NAME, from.as_str(), u32::MAX) {
             Ok(bytes) => bytes,
             Err(fault) => return Err(fault),
         };

@@ -1,7 +1,10 @@
-//! Files and objects by their paths.
+//! Files and objects by their paths, and standard output.
+use crate::page::PAGE_LIMIT;
 use anyhow::{Result, anyhow};
-use aout_core::{Object, Wire, read_all, read_object};
+use aout_core::{FileFault, Object, Wire, read_bytes, read_object};
 use std::alloc::Global;
+use std::fs;
+use std::io::{self, Read, Write};
 
 /// The object in the bytes of the file at a path.
 pub(crate) fn object_in(alloc: Global, path: &str, bytes: &[u8]) -> Result<Object> {
@@ -11,9 +14,13 @@ pub(crate) fn object_in(alloc: Global, path: &str, bytes: &[u8]) -> Result<Objec
     }
 }
 
-/// All bytes of the file at a path.
+/// All bytes of the file at a path, which has no more than a page has.
 pub(crate) fn bytes_at(rt: &HostRuntime, path: &str) -> Result<Vec<u8>> {
-    match read_all(rt, path) {
+    let Ok(file) = fs::open(rt, path) else {
+        return Err(anyhow!("{path}: {}", FileFault::NotOpened));
+    };
+    match read_bytes(rt.alloc(), &mut file.take(PAGE_LIMIT as u64 + 1)) {
+        Ok(bytes) if PAGE_LIMIT < bytes.len() => Err(anyhow!("{path}: file too long")),
         Ok(bytes) => Ok(bytes),
         Err(fault) => Err(anyhow!("{path}: {fault}")),
     }
@@ -24,5 +31,13 @@ pub(crate) fn text_at(rt: &HostRuntime, path: &str) -> Result<String> {
     match String::from_utf8(bytes_at(rt, path)?) {
         Ok(text) => Ok(text),
         Err(_) => Err(anyhow!("{path}: not a text")),
+    }
+}
+
+/// Writes to standard output.
+pub(crate) fn put_out(rt: &HostRuntime, bytes: &[u8]) -> Result<()> {
+    match io::writer(rt).write_all(bytes) {
+        Ok(()) => Ok(()),
+        Err(_) => Err(anyhow!("write error")),
     }
 }

@@ -3,18 +3,17 @@ ghost use Rattle.std.specs.List.{flat_map};
 ghost use Rattle.texts.specs.Texts.{Puts};
 ghost use Rattle.v7_lesson.specs.Scripts.{script_byte};
 
-use crate::files::text_at;
+use crate::files::{put_out, text_at};
 use crate::given::{Given, given_at, put_given};
 use crate::questions::put_questions;
 use crate::states::put_states;
 use anyhow::{Result, anyhow};
 use link_session::Session;
 use session_states::JsonWriter;
-use std::io::{self, Write};
 use texts::Text;
 
 /// How many bytes a page has at most.
-const PAGE_LIMIT: usize = 5_000_000;
+pub(crate) const PAGE_LIMIT: usize = 5_000_000;
 
 /// The scripts of the page, in the order in which they run.
 static SCRIPTS: [&str; 12] = [
@@ -130,8 +129,7 @@ pub(crate) fn write_page(
     if PAGE_LIMIT < out.len() {
         return Err(anyhow!("the page would have more than {PAGE_LIMIT} bytes"));
     }
-    io::writer(rt).write_all(&out)?;
-    Ok(())
+    put_out(rt, &out)
 }
 
 /// Adds the page.

@@ -1,9 +1,8 @@
 //! Steps of a session as text: each object is added, and then each is withdrawn, the last one first.
-use crate::files::{bytes_at, object_in};
+use crate::files::{bytes_at, object_in, put_out};
 use crate::stage::{ROW_KINDS, RowKind, Stage, put_marks};
 use anyhow::{Result, anyhow};
 use std::alloc::{AllocError, Global};
-use std::io::{self, Write};
 use texts::Text;
 
 /// Which steps are shown: all, or the one of this number, from 1; and whether of a step only its changes are.
@@ -102,7 +101,7 @@ fn write_step(
 ) -> Result<()> {
     if shown.only.is_none_or(|only| only == step) {
         let text = step_text(rt.alloc(), edit, label, shown.only_changes, stages)?;
-        io::writer(rt).write_all(&text)?;
+        put_out(rt, &text)?;
     }
     Ok(())
 }

@@ -90,7 +90,7 @@ pub(crate) fn make_file<O: Office>(
         (O.history office.old) (O.history office.new) result }
 {
     check_output(alloc, office, NAME, listing, to)?;
-    let text = read_whole(alloc, office, NAME, listing)?;
+    let text = read_whole(alloc, office, NAME, listing, u32::MAX)?;
     let file = file_in(alloc, addresses, listing, &text)?;
     store(alloc, office, to, &file)
 }

@@ -4,12 +4,6 @@ use Rattle.aout_core.specs.declared.whole.FileFault.{FileFault}
 use Rattle.aout_core.specs.declared.whole.FileFault.TheVariants.{NotOpened, Failed, Memory}
 use Rattle.surroundings.specs.{Arguments.Given, declared.reasons.Reason.Reason}
 use Rattle.surroundings.specs.Events.{History, Extends, opened}
-use Rattle.surroundings.specs.Sources.{ReadsAt, ReadsFront}
-
--- a file is read whole, or up to so many bytes
-abbrev pub ReadsUpTo : Option ℕ → History → History → List ℕ → List ℕ → Type 0
-ReadsUpTo None old new path bytes = ReadsAt old new path bytes
-ReadsUpTo (Some most) old new path bytes = ReadsFront most old new path bytes
 
 -- the file at a path was opened
 abbrev pub Opens : History → History → List ℕ → Type 0

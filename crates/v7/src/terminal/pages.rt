@@ -124,8 +124,8 @@ pub(crate) fn page_asked(words: &[String]) -> &'static str {
     }
 }
 
-/// What arguments that are refused ask to be shown: no arguments, `help`, `--help` or `--version` in place of a tool's name, or
-/// `--help` after one.
+/// What arguments that are refused ask to be shown: no arguments, `help`, `--help` or `--version` in place of a tool's name, a tool
+/// after `help`, or `--help` after one.
 pub(crate) fn asked_shown(words: &[String], reason: Option<Reason>) -> Option<Shown> {
     if words.is_empty() {
         return Some(Shown::Help);
@@ -134,6 +134,7 @@ pub(crate) fn asked_shown(words: &[String], reason: Option<Reason>) -> Option<Sh
     match (reason.cause, words.get(reason.at)?.as_str()) {
         (Cause::NoTool, "help" | "--help") => Some(Shown::Help),
         (Cause::NoTool, "--version") => Some(Shown::Version),
+        (Cause::NoTool, named) if Tool::named(named).is_some() => Some(Shown::Help),
         (Cause::NoLongOption, "--help") => Some(Shown::Help),
         _ => None,
     }

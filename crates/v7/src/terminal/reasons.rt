@@ -220,7 +220,7 @@ impl Progress {
 pub(crate) fn first_reason(words: &[String]) -> Option<Reason> {
     let Some(tool) = Tool::named(words.first().map_or("", |name| name.as_str())) else {
         return Some(Reason {
-            at: 0,
+            at: usize::from(matches!(words, [help, _, ..] if help.as_str() == "help")),
             cause: Cause::NoTool,
         });
     };
