@@ -228,7 +228,8 @@ _TEXTS = {
     60: "no room; a column is missing; not an octal number; over 177777; bad byte in a name; the address does not follow; the number does "
     "not follow; more than 32767 words; more than 5461 symbols; text, data or symbols is missing; unknown word; text, data and symbols "
     "are not in this order; magic and flag come before text, data and symbols; only symbols can follow symbols; no such magic number; "
-    "odd size of bss; more than 8 bytes in a name; one number too many",
+    "odd size of bss; more than 8 bytes in a name; one number too many; a control character; only comments can follow end; the line end is "
+    "missing: the listing was cut",
     81: "the strings have a length under 4; a symbol belongs to an overlay; a symbol has its name at no place of the strings; a symbol is "
     "for a debugger; a symbol has a description, and is not for a debugger; a linked program; two names are equal in eight bytes; a "
     "word refers to a symbol for a debugger; a word refers to a local that is dropped",
@@ -475,6 +476,7 @@ def listing(data: bytes) -> str:
     bss 0
     symbols
     0     _f         42  000000  T
+    end
     """
     return _given("v7_list", *_slice(data)).decode("latin-1")
 
