@@ -99,6 +99,9 @@ enum v7_fault {
     V7_ODD_BSS = 75,           /* the size of bss is odd */
     V7_LONG_SYMBOL = 76,       /* a name has more than 8 bytes */
     V7_EXTRA_NUMBER = 77,      /* a remark on a word begins with a number */
+    V7_STRAY_BYTE = 78,        /* a byte below 040, other than a tab, a newline, and a carriage return before one */
+    V7_AFTER_END = 79,         /* after `end` comes another line than a comment */
+    V7_NO_END = 80,            /* the listing has the head that v7-explain writes, and not the line `end`: it was cut */
     /* an object in GNU's form: `place` is the byte of the file, and `word` a number, as said here */
     V7_BAD_STRINGS = 81,       /* the strings have a length under 4 */
     V7_OVERLAY = 82,           /* the symbol of number `word` belongs to an overlay */
@@ -207,6 +210,12 @@ static inline const char *v7_strerror(uint32_t fault)
         return "more than 8 bytes in a name";
     case V7_EXTRA_NUMBER:
         return "one number too many";
+    case V7_STRAY_BYTE:
+        return "a control character";
+    case V7_AFTER_END:
+        return "only comments can follow end";
+    case V7_NO_END:
+        return "the line end is missing: the listing was cut";
     case V7_BAD_STRINGS:
         return "the strings have a length under 4";
     case V7_OVERLAY:
@@ -233,11 +242,11 @@ static inline const char *v7_strerror(uint32_t fault)
 struct v7_answer {
     uint32_t fault;     /* of enum v7_fault */
     uint32_t word;      /* V7_BAD_RELOCATION, V7_BAD_SYMBOL_NUMBER: the index of the word, text before data, from 0. V7_TOO_LONG:
-                         * the first part that is too long, of enum v7_part. 61 to 77: the column, or 0xffffffff if it is larger.
+                         * the first part that is too long, of enum v7_part. 61 to 80: the column, or 0xffffffff if it is larger.
                          * v7_from_gnu: with V7_BAD_MAGIC the word that is there, with V7_ODD_SIZE the part, with
                          * V7_TOO_MANY_SYMBOLS how many symbols stay, and with 82 to 89 as described there. Otherwise 0 */
     size_t place;       /* a number, counted from 0. For the faults 11 to 34 of a link it is that of the object, and for
-                         * V7_MANY_NAMES that of the name. For 61 to 77 it is the line, counted from 1. For v7_from_gnu it is the
+                         * V7_MANY_NAMES that of the name. For 61 to 80 it is the line, counted from 1. For v7_from_gnu it is the
                          * byte of the file. For V7_NO_MEMORY it is that of an object which the call reached, or 0. Otherwise 0 */
     size_t size;        /* the size of the result; 0 for v7_take_apart and v7_read */
     size_t report_size; /* for v7_remarks the number of remarks; otherwise 0 */
@@ -291,7 +300,7 @@ uint32_t v7_disassemble_words(uint16_t address, const uint16_t *words, size_t wo
 uint32_t v7_list(const unsigned char *bytes, size_t size, unsigned char *room, size_t room_size, struct v7_answer *answer);
 
 /* Writes the file that a listing describes, as `v7-object` does: v7-object(1) has the form. TEXT may have notes and remarks, which are
- * not read. Faults: 61 to 77 for the first mistake, V7_NO_ROOM. V7_NO_MEMORY comes once all lines before a word, a symbol or a second
+ * not read. Faults: 61 to 80 for the first mistake, V7_NO_ROOM. V7_NO_MEMORY comes once all lines before a word, a symbol or a second
  * mistake are read. */
 uint32_t v7_from_listing(const unsigned char *text, size_t size, unsigned char *room, size_t room_size, struct v7_answer *answer);
 

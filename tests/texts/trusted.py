@@ -45,9 +45,10 @@ FIRST = ["aout_core/specs/Contents", "link_session/specs/Mentions", "link_laws/s
 FIRST_LINES = re.compile(r"files of `specs/`, \d+ lines")
 # folders of what loops and private functions do
 INTERNAL = ["internal"]
-# definitions name no constants of the code, but for the ids by which `command_words` knows its options, and the rows of
-# `instructions`, in the laws that compare them with the definitions' tables
-IDS = [("command_words", "words"), ("command_words", "link_words"), ("instructions", "table"), ("instructions", "call_table")]
+# definitions name no constants of the code, but for the ids by which `command_words` knows its options, the rows of `instructions`, in the
+# laws that compare them with the definitions' tables, and the help of a program, of which no definition says what it says
+IDS = [("command_words", "words"), ("command_words", "link_words"), ("instructions", "table"), ("instructions", "call_table"),
+       ("v7_object", "help"), ("v7_from_gnu", "help")]
 # crates whose definitions nobody has to trust: examples, tests and the lesson
 OTHERS = ["v7", "conformance", "v7_lesson", "library_uses", "device_tests"]
 LIBRARIES = [crate for crates in sections().values() for crate in crates if crate not in OTHERS]

@@ -78,6 +78,7 @@ bss 0
 symbols
 0     _f         40  000000  U
 1     L1          2  000000  t
+end
 ";
 
 /// The number of the fault of a listing, its line and its column.

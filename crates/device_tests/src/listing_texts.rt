@@ -10,15 +10,15 @@ static BY_HAND: &[u8] =
 /// The same file, as it is written.
 static WRITTEN: &[u8] =
     b"text\n000000  016700     0\n000002  177774    51\n000004  000207     0\ndata\nbss 2\nsymbols\n\
-    0     _main      42  000000\n1     _twice     40  000000\n2     a\\040\\134b   40  000002\n";
+    0     _main      42  000000\n1     _twice     40  000000\n2     a\\040\\134b   40  000002\nend\n";
 
 /// A linked file in spaces of its own for text and data, without relocation.
 static LINKED: &[u8] =
-    b"magic 000411\nflag 000001\ntext\n000000  000207\ndata\n000000  000001\nbss 0\nentry 000002\nsymbols\n";
+    b"magic 000411\nflag 000001\ntext\n000000  000207\ndata\n000000  000001\nbss 0\nentry 000002\nsymbols\nend\n";
 
 /// Pure text, so data begins at 020000.
 static PURE: &[u8] =
-    b"magic 000410\nflag 000001\ntext\n000000  000207\ndata\n020000  000001\nbss 0\nsymbols\n";
+    b"magic 000410\nflag 000001\ntext\n000000  000207\ndata\n020000  000001\nbss 0\nsymbols\nend\n";
 
 fn is_main(file: &File) -> bool {
     file.text_words() == [0o16700, 0o177774, 0o207].as_slice()

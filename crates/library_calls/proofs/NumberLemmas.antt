@@ -111,6 +111,9 @@ not_memory_reason reasons.NoMagic = other 74 refl
 not_memory_reason reasons.OddSize = other 75 refl
 not_memory_reason reasons.LongName = other 76 refl
 not_memory_reason reasons.ExtraNumber = other 77 refl
+not_memory_reason reasons.StrayByte = other 78 refl
+not_memory_reason reasons.AfterEnd = other 79 refl
+not_memory_reason reasons.NoEnd = other 80 refl
 
 not_memory_mistake : (r : Result Contents Mistakes) → IsNotMemory (refused_as first_mistake r)
 not_memory_mistake (Ok c) = tt

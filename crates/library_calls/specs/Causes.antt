@@ -65,6 +65,9 @@ reason_number reasons.NoMagic = 74
 reason_number reasons.OddSize = 75
 reason_number reasons.LongName = 76
 reason_number reasons.ExtraNumber = 77
+reason_number reasons.StrayByte = 78
+reason_number reasons.AfterEnd = 79
+reason_number reasons.NoEnd = 80
 
 -- what an object in GNU's form has in common with a file has the number of that
 abbrev pub gnu_number : gnu.Refusal → ℕ

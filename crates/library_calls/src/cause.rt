@@ -57,7 +57,7 @@ pub enum Cause {
     NothingKept,
     /// 41 to 43: the objects can't be linked.
     NotLinked(LinkFault),
-    /// 61 to 77: a listing has this mistake.
+    /// 61 to 80: a listing has this mistake.
     BadListing(Fault),
     /// 11 to 14, 21 to 24, 42 and 81 to 89: an object in GNU's form is refused.
     NotConverted(gnu_objects::Refusal),
@@ -210,6 +210,9 @@ fn reason_number(reason: Reason) -> u32
         Reason::OddSize => 75,
         Reason::LongName => 76,
         Reason::ExtraNumber => 77,
+        Reason::StrayByte => 78,
+        Reason::AfterEnd => 79,
+        Reason::NoEnd => 80,
     }
 }
 

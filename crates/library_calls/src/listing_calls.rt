@@ -68,7 +68,7 @@ fn file_described(alloc: Global, text: &[u8]) -> Result<File, Refusal>
 
 /// The bytes of the file that a listing describes. (own choice)
 ///
-/// Errors: `BadListing`, 61 to 77, for the first mistake, with its line as the place; `Memory`, 50, if memory runs out for a word, a
+/// Errors: `BadListing`, 61 to 80, for the first mistake, with its line as the place; `Memory`, 50, if memory runs out for a word, a
 /// symbol, a mistake after the first, or the file.
 pub fn from_listing(alloc: Global, text: &[u8]) -> Result<Vec<u8>, Refusal>
     ensures ok { IfOk result (λ written. described_in text.now ≡ Ok written.items) }

@@ -12,7 +12,7 @@ use Rattle.listings.specs.Reading.{State, line_by, line_read}
 use Rattle.listings.specs.declared.draft.Addresses.{Addresses}
 use Rattle.listings.specs.declared.fault.Reason.TheVariants.{WrongAddress, TooManyWords}
 use Rattle.listings.specs.internal.Whole.{IsWhole, Begins, IsDraft}
-use Rattle.listings.specs.declared.fault.Section.TheVariants.{InHeader, InText, InData, InSymbols}
+use Rattle.listings.specs.declared.fault.Section.TheVariants.{InHeader, InText, InData, InSymbols, Ended}
 use Rattle.listings.specs.{declared.fault.Section.Section, declared.fault.Word.Word, Columns.Row, Columns.row_of, Octal.number}
 
 -- what holds of a value that may be missing
@@ -80,6 +80,7 @@ entry_keeps d r InText is h = text_keeps d (word_entry d.addresses d.next d.flag
 entry_keeps d r InData is h = data_keeps d (word_entry d.addresses d.next d.flag d.data_part r) is
     (word_whole d.addresses d.next d.flag d.data_part r h.data_part) h
 entry_keeps d r InSymbols is h = grind (arith, common_steps, both_hold, symbol_few)
+entry_keeps d r Ended is h = tt
 
 flag_keeps : (d : Draft) (n : Result ℕ Mistake) (s : Section) → d.section ≡ s → IsDraft d →
     Holds IsDraft (only_first s (n >>= (λ x. Ok (record d { flag = x }))))
@@ -88,8 +89,8 @@ flag_keeps d n s is h = search rules
 first_holds : (s : Section) (found : Result Draft Mistake) → Holds IsDraft found → Holds IsDraft (only_first s found)
 first_holds s found h = search rules
 
-last_holds : (s : Section) (found : Result Draft Mistake) → Holds IsDraft found → Holds IsDraft (not_last s found)
-last_holds s found h = search rules
+last_holds : (s : Section) (w : Word) (found : Result Draft Mistake) → Holds IsDraft found → Holds IsDraft (not_last s w found)
+last_holds s w found h = search rules
 
 in_section : (d : Draft) (s : Section) (n : ℕ) → IsDraft d → Begins s d.text_part d.data_part → IsDraft (record d { section = s; next = n })
 in_section d s n h begins = search rules

@@ -1,23 +1,23 @@
 -- The listing of a file says that file.
 use Rattle.std.proofs.Common.{◌≡◌, ℕ, ◌+◌, ◌*◌, ◌%◌, ◌<◌, Bool, true, false, cond, eqb, eqb-true, List, [], ◌∷◌, ◌++◌, length, refl, sym}
-use Rattle.std.proofs.Common.{◌∙◌, ap, subst, arith, rules}
+use Rattle.std.proofs.Common.{◌∙◌, ap, subst, arith, rules, append_assoc, ne_eqb, le-ltb}
 use Rattle.std.proofs.{lemmas.List.append-nil}
 use Rattle.std.specs.Prelude.{codes, map, ◌-◌, if◌then◌else◌, IsTrue, drop, Option, Some, None, Result, Ok, Err}
 use Rattle.std.specs.{List.AllByRecursion}
 use Rattle.aout_core.specs.Contents.{Contents, is_magic, has_whole_sizes, IsWord, IsSound}
 use Rattle.aout_core.specs.{declared.reloc.Reloc.Reloc, declared.symbol.Symbol.Symbol, declared.header.Header.Header, Addresses.data_start}
 use Rattle.aout_core.specs.{declared.part.Part.Part}
-use Rattle.listings.specs.declared.fault.Section.TheVariants.{InText, InData}
-use Rattle.listings.specs.Columns.{Row, row_of, column, from_third, from_fourth}
+use Rattle.listings.specs.declared.fault.Section.TheVariants.{InText, InData, Ended}
+use Rattle.listings.specs.Columns.{Row, row_of, column, from_third, from_fourth, stray_from}
 use Rattle.listings.specs.Drafts.{Segment, Draft, empty_segment, empty_draft, finished}
 use Rattle.listings.specs.Listing.{Remarks, gap, wide, remarked, word_line, word_lines, symbol_lines, named_line, unusual, note_lines}
-use Rattle.listings.specs.Listing.{head_lines, text_lines, data_lines, bss_lines, table_lines, listing_lines, listing}
-use Rattle.listings.specs.Reading.{◌>>=◌, in_column, named, is_label, row_read, lines_read, at_first_line, file_of, read}
+use Rattle.listings.specs.Listing.{head_lines, text_lines, data_lines, bss_lines, table_lines, lines_before_end, listing_lines, listing}
+use Rattle.listings.specs.Reading.{◌>>=◌, in_column, named, is_label, row_read, lines_read, at_first_line, has_head, unless_stray, file_of, read}
 use Rattle.listings.specs.declared.draft.Addresses.{Addresses}
 use Rattle.listings.specs.Laws.{IsLine, IsLabel, AreRemarks}
-use Rattle.listings.specs.{declared.fault.Reason.Reason, declared.fault.Reason.TheVariants.NoMagic}
+use Rattle.listings.specs.{declared.fault.Fault.Fault, declared.fault.Reason.Reason, declared.fault.Reason.TheVariants.NoMagic}
 use Rattle.listings.specs.{declared.fault.Reason.TheVariants.OddSize, Octal.number}
-use Rattle.texts.specs.{Numbers.six_digits, Numbers.octal, Lines.lines_in, Names.printable_name}
+use Rattle.texts.specs.{Numbers.six_digits, Numbers.octal, Lines.lines_in, Lines.text_of, Names.printable_name}
 use Rattle.listings.proofs.OctalLemmas.{IsNumber, octal_again, short_again, octal_digits, short_digits}
 use Rattle.listings.proofs.ColumnLemmas.{IsColumn, ink, number_column, row_two, line_of_column, line_gap, line_last, lines_again}
 use Rattle.listings.proofs.NameLemmas.{name_column}
@@ -103,8 +103,11 @@ notes_are : (ns : List (List ℕ)) → AreLines ns → AreLines (map (λ (note :
 notes_are [] h = tt
 notes_are (n ∷ ns) h = ((omega arith, h.0), notes_are ns h.1)
 
-listing_lines_are : (x : Remarks) (c : Contents) → AreRemarks x → AreLines (listing_lines x c)
-listing_lines_are x c are =
+end_column : IsColumn (codes "end")
+end_column = (omega arith, (omega arith, (omega arith, tt)))
+
+before_end_are : (x : Remarks) (c : Contents) → AreRemarks x → AreLines (lines_before_end x c)
+before_end_are x c are =
     lines_append (note_lines x.notes) (head_lines c.header
     ++ (text_lines x c ++ (data_lines x c ++ (bss_lines c.header ++ (table_lines x c ++ note_lines x.findings)))))
     (notes_are x.notes are.notes)
@@ -128,6 +131,20 @@ listing_lines_are x c are =
       line_of_column (codes "symbols") symbols_column,
       symbol_lines_are x 0 c.symbols are,
     ) (notes_are x.findings are.findings))))))
+
+listing_lines_are : (x : Remarks) (c : Contents) → AreRemarks x → AreLines (listing_lines x c)
+listing_lines_are x c are =
+    lines_append (lines_before_end x c) (codes "end" ∷ []) (before_end_are x c are) (line_of_column (codes "end") end_column, tt)
+
+-- no line has a byte that no listing has
+stray_line : (n k : ℕ) (l rest : List ℕ) → IsLine l → stray_from n k (l ++ 10 ∷ rest) ≡ stray_from (n + 1) 1 rest
+stray_line n k [] rest h = refl
+stray_line n k (b ∷ bs) rest h = let low = h.0 in rw (ne_eqb b 10 (λ is. absurd (omega arith)), le-ltb b 32 low) (stray_line n (k + 1) bs rest h.1)
+
+none_stray : (n : ℕ) (ls : List (List ℕ)) → AreLines ls → stray_from n 1 (text_of ls) ≡ None
+none_stray n [] h = refl
+none_stray n (l ∷ ls) h =
+    ap (stray_from n 1) (append_assoc l (10 ∷ []) (text_of ls)) ∙ stray_line n 1 l (text_of ls) h.0 ∙ none_stray (n + 1) ls h.1
 
 unlabelled : (d : Draft) (f g k m : List ℕ) → IsNumber g →
     let r : Row = record { first = f; second = g; third = k; fourth = m } in
@@ -317,18 +334,30 @@ body_reads a x c are sound =
     (reads_more (header_draft a c) table_first (in_table a c) (codes "symbols") (symbol_lines x 0 c.symbols) refl table)
     (notes_read (in_table a c) x.findings))))
 
-finished_is : (a : Addresses) (c : Contents) → IsSound c → finished (in_table a c) ≡ c
+-- after the last line
+abbrev at_end : Addresses → Contents → Draft
+at_end a c = let d : Draft = in_table a c in record d { section = Ended; next = 0 }
+
+finished_is : (a : Addresses) (c : Contents) → IsSound c → finished (at_end a c) ≡ c
 finished_is a c sound = search rules
 
 pub listing_read : (a : Addresses) (x : Remarks) (c : Contents) → AreRemarks x → IsSound c → read a (listing x c) ≡ Ok c
 listing_read a x c are sound =
-    let last = in_table a c in
+    let table = in_table a c in
+    let last = at_end a c in
     let none = empty_draft a in
+    let ls = listing_lines x c in
+    let head = has_head (lines_in (listing x c)) in
     let body = text_lines x c ++ (data_lines x c ++ (bss_lines c.header ++ (table_lines x c ++ note_lines x.findings))) in
-    let all = reads_both none none last (note_lines x.notes) (head_lines c.header ++ body) (notes_read none x.notes)
-    (reads_both none (head_draft a c) last (head_lines c.header) body (head_reads a c sound) (body_reads a x c are sound)) 1 [] in
+    let before : Reads none (lines_before_end x c) table =
+    reads_both none none table (note_lines x.notes) (head_lines c.header ++ body) (notes_read none x.notes)
+    (reads_both none (head_draft a c) table (head_lines c.header) body (head_reads a c sound) (body_reads a x c are sound)) in
+    let all = reads_both none table last (lines_before_end x c) (codes "end" ∷ []) before (reads_one table last (codes "end") refl) 1 [] in
     let said : lines_read (at_first_line a) (lines_in (listing x c)) ≡ at_line all.0 last =
-    ap (lines_read (at_first_line a)) (lines_again (listing_lines x c) (listing_lines_are x c are))
-    ∙ ap (lines_read (at_first_line a)) (sym (append-nil (listing_lines x c)))
+    ap (lines_read (at_first_line a)) (lines_again ls (listing_lines_are x c are))
+    ∙ ap (lines_read (at_first_line a)) (sym (append-nil ls))
     ∙ all.1 in
-    ap file_of said ∙ ap Ok (finished_is a c sound)
+    ap (λ (stray : Option Fault). unless_stray stray (file_of head (lines_read (at_first_line a) (lines_in (listing x c)))))
+    (none_stray 1 ls (listing_lines_are x c are))
+    ∙ ap (file_of head) said
+    ∙ ap Ok (finished_is a c sound)

@@ -1,12 +1,13 @@
 -- Steps of the loops of the reader.
-use Rattle.std.proofs.Common.{◌≡◌, ℕ, ◌<◌, Bool, eqb, List, [], ◌∷◌, length, inl, inr, refl, sym, subst, ap, arith}
+use Rattle.std.proofs.Common.{◌≡◌, ℕ, ◌<◌, Bool, true, false, eqb, List, [], ◌∷◌, length, inl, inr, refl, sym, ◌∙◌, subst, ap, arith}
 use Rattle.std.proofs.Common.{rules}
-use Rattle.std.specs.Prelude.{◌⊎◌, Result, Ok, Err}
+use Rattle.std.specs.Prelude.{◌⊎◌, ◌||◌, Result, Ok, Err}
+use Rattle.std.specs.List.{list_any}
 use Rattle.aout_core.specs.Contents.{Contents, IsSound}
-use Rattle.listings.specs.Reading.{Mistakes, State, line_read, lines_read, read}
+use Rattle.listings.specs.Reading.{Mistakes, State, is_head, has_head, line_read, lines_read, read}
 use Rattle.listings.specs.MemoryWanted.{IsEntry, IsLater, MayRunOutInLines}
 use Rattle.listings.specs.declared.draft.Addresses.{Addresses}
-use Rattle.listings.specs.Columns.{row_of, first_line, other_lines}
+use Rattle.listings.specs.Columns.{row_of, first_line, other_lines, is_said, says_something}
 use Rattle.listings.specs.declared.fault.ListingFault.{ListingFault}
 use Rattle.listings.specs.{Listing.Remarks, Listing.listing, Laws.AreRemarks, Said.Says, Said.Gives}
 use Rattle.listings.proofs.ListingLemmas.{listing_read}
@@ -62,3 +63,27 @@ pub runs_out_on : (s next : State) (text line others : List ℕ) → 0 < length 
     next ≡ line_read s line → MayRunOutInLines next (lines_in others) → MayRunOutInLines s (lines_in text)
 runs_out_on s next [] line others more is rest found later = absurd (omega arith)
 runs_out_on s next (b ∷ bs) line others more is rest found later = search (rules, lines_cut)
+
+-- whether a test holds of the first line of a text, or of another one
+any_first : (f : List ℕ → Bool) (text line : List ℕ) (t : Bool) → 0 < length text → line ≡ first_line text → f line ≡ t →
+    list_any f (lines_in text) ≡ (t || list_any f (lines_in (other_lines text)))
+any_first f [] line t more is holds = absurd (omega arith)
+any_first f (b ∷ bs) line t more is holds =
+    ap (list_any f) (lines_cut b bs)
+    ∙ ap (λ (u : Bool). u || list_any f (lines_in (other_lines (b ∷ bs)))) (ap f (sym is) ∙ holds)
+
+pub head_here : (text line : List ℕ) → 0 < length text → line ≡ first_line text → is_head (row_of line) ≡ true → has_head (lines_in text) ≡ true
+head_here text line more is holds = any_first (λ (l : List ℕ). is_head (row_of l)) text line true more is holds
+
+pub head_on : (text line others : List ℕ) → 0 < length text → line ≡ first_line text → others ≡ other_lines text →
+    is_head (row_of line) ≡ false → has_head (lines_in others) ≡ has_head (lines_in text)
+head_on text line others more is rest fails =
+    ap (λ (o : List ℕ). has_head (lines_in o)) rest ∙ sym (any_first (λ (l : List ℕ). is_head (row_of l)) text line false more is fails)
+
+pub said_here : (text line : List ℕ) → 0 < length text → line ≡ first_line text → is_said (row_of line).first ≡ true → says_something text ≡ true
+said_here text line more is holds = any_first (λ (l : List ℕ). is_said (row_of l).first) text line true more is holds
+
+pub said_on : (text line others : List ℕ) → 0 < length text → line ≡ first_line text → others ≡ other_lines text →
+    is_said (row_of line).first ≡ false → says_something others ≡ says_something text
+said_on text line others more is rest fails =
+    ap says_something rest ∙ sym (any_first (λ (l : List ℕ). is_said (row_of l).first) text line false more is fails)

@@ -3,12 +3,12 @@ use Rattle.std.proofs.lemmas.Grind.{common_steps}
 use Rattle.std.proofs.Common.{◌≡◌, ℕ, zero, suc, ◌+◌, ◌*◌, ◌%◌, ◌<◌, List, [], ◌∷◌, ◌++◌, drop, length, get_or, refl, sym, ◌∙◌, ap, arith}
 use Rattle.std.proofs.Common.{append_assoc, drop-drop}
 use Rattle.std.proofs.{lemmas.List.drop_more, lemmas.List.take_all, Math.Seq.drop-length}
-use Rattle.std.specs.Prelude.{◌-◌, take, Option, slice_get}
+use Rattle.std.specs.Prelude.{◌-◌, codes, take, Option, slice_get}
 use Rattle.aout_core.specs.Contents.{Contents}
 use Rattle.aout_core.specs.{declared.reloc.Reloc.Reloc, declared.part.Part.Part}
 use Rattle.texts.specs.Lines.{text_of}
 use Rattle.texts.proofs.LineLemmas.{two_texts}
-use Rattle.listings.specs.Listing.{Remarks, with_relocs, word_line, word_lines}
+use Rattle.listings.specs.Listing.{Remarks, cut_listing, lines_before_end, listing, with_relocs, word_line, word_lines}
 
 get_dropped : (i : ℕ) (rs : List Reloc) → slice_get (drop i rs) 0 ≡ slice_get rs i
 get_dropped zero rs = refl
@@ -71,3 +71,12 @@ all_relocs c = λ i. record {
   data_reloc = second_all (length c.data_reloc) (length c.text_reloc) c.data_reloc refl i;
   symbols = c.symbols;
 }
+
+-- the last line
+pub with_end : (x : Remarks) (c d : Contents) (t0 t1 t2 : List ℕ) → d ≡ c → t1 ≡ t0 ++ cut_listing x d → t2 ≡ t1 ++ codes "end\n" →
+    t2 ≡ t0 ++ listing x c
+with_end x c d t0 t1 t2 same e1 e2 =
+    e2
+    ∙ ap (λ (t : List ℕ). t ++ codes "end\n") (e1 ∙ ap (λ (f : Contents). t0 ++ cut_listing x f) same)
+    ∙ append_assoc t0 (cut_listing x c) (codes "end\n")
+    ∙ ap (λ (t : List ℕ). t0 ++ t) (sym (two_texts (lines_before_end x c) (codes "end" ∷ [])))

@@ -4,7 +4,6 @@ pub mod Names
 pub mod Drafts
 pub mod Listing
 pub mod Reading
-pub mod ReasonTexts
 pub mod Said
 pub mod MemoryWanted
 pub mod Laws

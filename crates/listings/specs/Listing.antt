@@ -2,7 +2,8 @@
 --
 -- A listing begins and ends with notes, and each note is a line that begins with a slash. A line gives the magic number unless it is
 -- 0407, and another the flag unless it is 0. The words of text and of data follow, the size of bss, the entry point and the unused word
--- unless they are 0, and the table. A line may end with a remark, and labels may precede the line of a word or follow the last one.
+-- unless they are 0, and the table. A line may end with a remark, and labels may precede the line of a word or follow the last one. The
+-- last line is `end`, so a listing that was cut is known.
 use Rattle.std.specs.Prelude.{ℕ, ◌+◌, ◌-◌, ◌%◌, eqb, if◌then◌else◌, List, [], ◌∷◌, ◌++◌, drop, map, replicate, take, length, Option, Some, None}
 use Rattle.std.specs.Prelude.{slice_get, codes}
 use Rattle.aout_core.specs.{declared.header.Header.Header, declared.reloc.Reloc.Reloc, declared.symbol.Symbol.Symbol, Contents.Contents}
@@ -82,13 +83,21 @@ bss_lines h = gap 0 (codes "bss") (octal h.bss_size) ∷ (unusual 0 (codes "entr
 abbrev pub table_lines : Remarks → Contents → List (List ℕ)
 table_lines x c = codes "symbols" ∷ symbol_lines x 0 c.symbols
 
-abbrev pub listing_lines : Remarks → Contents → List (List ℕ)
-listing_lines x c =
+-- all lines but the last
+abbrev pub lines_before_end : Remarks → Contents → List (List ℕ)
+lines_before_end x c =
     note_lines x.notes ++ (head_lines c.header
     ++ (text_lines x c ++ (data_lines x c ++ (bss_lines c.header ++ (table_lines x c ++ note_lines x.findings)))))
 
+abbrev pub listing_lines : Remarks → Contents → List (List ℕ)
+listing_lines x c = lines_before_end x c ++ codes "end" ∷ []
+
 abbrev pub listing : Remarks → Contents → List ℕ
 listing x c = text_of (listing_lines x c)
+
+-- the same of a file that ends early, which has no end
+abbrev pub cut_listing : Remarks → Contents → List ℕ
+cut_listing x c = text_of (lines_before_end x c)
 
 -- a file with its first relocation words alone, so that the lines of other words have none
 abbrev pub with_relocs : ℕ → Contents → Contents

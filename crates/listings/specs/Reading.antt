@@ -2,21 +2,24 @@
 --
 -- A row that begins with a digit belongs to the section that was opened last. Any other row begins with a word. A row without columns,
 -- one that begins with a slash and a label are skipped. Columns after those that a row needs are a remark, and are not read; the first
--- one of a remark on a word does not consist of digits alone.
+-- one of a remark on a word does not consist of digits alone. After `end` there are only such lines as are skipped.
+--
+-- A listing that was cut is refused: with the head that v7-explain writes it has to have `end` too.
 --
 -- After a mistake reading goes on. The row with the mistake adds nothing to the file, but the next address follows its own.
 use Rattle.std.specs.Prelude.{ℕ, ◌+◌, ◌%◌, Bool, true, false, ◌&&◌, ◌||◌, nat_le, nat_lt, nat_eq, eqb, if◌then◌else◌, List, [], ◌∷◌, ◌++◌, length}
 use Rattle.std.specs.Prelude.{Result, Ok, Err, Option, Some, None, codes}
-use Rattle.std.specs.{Cmp.Lexicographic.pointwise, List.list_all, List.starts_with, List.ends_with}
+use Rattle.std.specs.{Cmp.Lexicographic.pointwise, List.list_all, List.list_any, List.starts_with, List.ends_with}
 use Rattle.aout_core.specs.{declared.reloc.Reloc.Reloc, declared.symbol.Symbol.Symbol, Contents.Contents, Contents.is_magic}
 use Rattle.aout_core.specs.Addresses.{data_start}
 use Rattle.listings.specs.declared.draft.Addresses.{Addresses}
 use Rattle.listings.specs.declared.draft.Addresses.TheVariants.{Compared, Computed}
 use Rattle.listings.specs.declared.fault.Reason.TheVariants.{WrongAddress, WrongNumber, TooManyWords, TooManySymbols, NoSection}
 use Rattle.listings.specs.declared.fault.Reason.TheVariants.{UnknownWord, OutOfOrder, TooLate, AfterTable, NoMagic, OddSize, ExtraNumber}
-use Rattle.listings.specs.declared.fault.Section.TheVariants.{InHeader, InText, InData, InSymbols}
-use Rattle.listings.specs.declared.fault.Word.TheVariants.{Text, Data, Symbols, Bss, Entry, Unused, Magic, Flag, Unknown}
-use Rattle.listings.specs.Columns.{Row, row_of, skip, column, column_place}
+use Rattle.listings.specs.declared.fault.Reason.TheVariants.{AfterEnd, NoEnd}
+use Rattle.listings.specs.declared.fault.Section.TheVariants.{InHeader, InText, InData, InSymbols, Ended}
+use Rattle.listings.specs.declared.fault.Word.TheVariants.{Text, Data, Symbols, Bss, Entry, Unused, Magic, Flag, End, Unknown}
+use Rattle.listings.specs.Columns.{Row, row_of, skip, column, column_place, first_stray}
 use Rattle.listings.specs.Drafts.{Segment, Draft, empty_draft, finished}
 use Rattle.listings.specs.{declared.fault.Reason.Reason, declared.fault.Section.Section, declared.fault.Word.Word}
 use Rattle.listings.specs.{declared.fault.Fault.Fault, Octal.number, Names.name_of}
@@ -97,6 +100,7 @@ entry_in InText d r =
 entry_in InData d r =
     word_entry d.addresses d.next d.flag d.data_part r >>= λ s. Ok (record d { data_part = s; next = (d.next + 2) % 65536 })
 entry_in InSymbols d r = symbol_entry d.next d.symbols r >>= λ ss. Ok (record d { symbols = ss; next = (d.next + 1) % 65536 })
+entry_in Ended d r = Err (0, AfterEnd)
 
 abbrev pub is_word : List ℕ → List ℕ → Bool
 is_word a b = pointwise nat_eq a b
@@ -111,7 +115,8 @@ word_in first =
     else (if is_word first (codes "unused") then Unused
     else (if is_word first (codes "magic") then Magic
     else (if is_word first (codes "flag") then Flag
-    else Unknown)))))))
+    else (if is_word first (codes "end") then End
+    else Unknown))))))))
 
 -- the order of the sections
 abbrev pub rank : Section → ℕ
@@ -119,6 +124,7 @@ rank InHeader = 0
 rank InText = 1
 rank InData = 2
 rank InSymbols = 3
+rank Ended = 4
 
 -- the first address or number of a section: data follow the text
 abbrev pub first_in : Section → Draft → ℕ
@@ -133,10 +139,12 @@ abbrev pub only_first : Section → Result Draft Mistake → Result Draft Mistak
 only_first InHeader found = found
 only_first _ found = Err (0, TooLate)
 
--- before the symbols
-abbrev pub not_last : Section → Result Draft Mistake → Result Draft Mistake
-not_last InSymbols found = Err (0, AfterTable)
-not_last _ found = found
+-- before the symbols, and after them only the end
+abbrev pub not_last : Section → Word → Result Draft Mistake → Result Draft Mistake
+not_last InSymbols End found = found
+not_last InSymbols _ found = Err (0, AfterTable)
+not_last Ended _ found = Err (0, AfterEnd)
+not_last _ _ found = found
 
 abbrev pub named_by : Word → Draft → Result ℕ Mistake → Result Draft Mistake
 named_by Text d n = opened InText d
@@ -147,11 +155,12 @@ named_by Entry d n = n >>= (λ x. Ok (record d { entry = x }))
 named_by Unused d n = n >>= (λ x. Ok (record d { unused = x }))
 named_by Magic d n = only_first d.section (n >>= (λ x. if is_magic x then Ok (record d { magic = x }) else Err (1, NoMagic)))
 named_by Flag d n = only_first d.section (n >>= (λ x. Ok (record d { flag = x })))
+named_by End d n = opened Ended d
 named_by Unknown d n = Err (0, UnknownWord)
 
 -- a row that begins with a word
 abbrev pub named : Draft → Row → Result Draft Mistake
-named d r = not_last d.section (named_by (word_in r.first) d (in_column 1 (number r.second)))
+named d r = not_last d.section (word_in r.first) (named_by (word_in r.first) d (in_column 1 (number r.second)))
 
 -- `NAME:` alone, or `NAME = .+K`
 abbrev pub is_label : Row → Bool
@@ -175,6 +184,7 @@ own next (Err reason) = next
 
 abbrev pub next_after : Section → ℕ → ℕ → ℕ
 next_after InHeader next n = next
+next_after Ended next n = next
 next_after InSymbols next n = (n + 1) % 65536
 next_after _ next n = (n + 2) % 65536
 
@@ -225,13 +235,34 @@ lines_read s (l ∷ ls) = lines_read (line_read s l) ls
 abbrev pub at_first_line : Addresses → State
 at_first_line a = record { number = 1; draft = empty_draft a; noted = record { first = None; others = [] } }
 
-abbrev pub file_by : Draft → Option Fault → List Fault → Result Contents Mistakes
-file_by d None others = Ok (finished d)
-file_by d (Some f) others = Err (record { first = f; others = others })
+-- a note on the magic number, `/ 000  000407  magic: ..`, as the head has it that v7-explain writes
+abbrev pub is_head : Row → Bool
+is_head r = is_word r.first (codes "/") && (is_word r.second (codes "000") && is_word r.fourth (codes "magic:"))
 
-abbrev pub file_of : State → Result Contents Mistakes
-file_of s = file_by s.draft s.noted.first s.noted.others
+abbrev pub has_head : List (List ℕ) → Bool
+has_head ls = list_any (λ (l : List ℕ). is_head (row_of l)) ls
+
+-- what ended in a section does not lack its end
+abbrev pub lacks_end : Bool → Section → Bool
+lacks_end needs_end Ended = false
+lacks_end needs_end _ = needs_end
+
+abbrev pub one_mistake : Fault → Mistakes
+one_mistake f = record { first = f; others = [] }
+
+abbrev pub file_by : Bool → State → Option Fault → Result Contents Mistakes
+file_by is_cut s (Some f) = Err (record { first = f; others = s.noted.others })
+file_by is_cut s None =
+    if is_cut then Err (one_mistake (record { line = s.number; column = 1; reason = NoEnd })) else Ok (finished s.draft)
+
+-- the file, if the listing need not have an end or has one
+abbrev pub file_of : Bool → State → Result Contents Mistakes
+file_of needs_end s = file_by (lacks_end needs_end s.draft.section) s s.noted.first
+
+abbrev pub unless_stray : Option Fault → Result Contents Mistakes → Result Contents Mistakes
+unless_stray None found = found
+unless_stray (Some f) found = Err (one_mistake f)
 
 -- the file that a listing describes, or its first ten mistakes
 abbrev pub read : Addresses → List ℕ → Result Contents Mistakes
-read a text = file_of (lines_read (at_first_line a) (lines_in text))
+read a text = unless_stray (first_stray text) (file_of (has_head (lines_in text)) (lines_read (at_first_line a) (lines_in text)))

@@ -2,6 +2,48 @@
 ghost use Rattle.std.specs.Prelude.{◌≡◌, ◌<◌, ◌≤◌, [], length};
 ghost use Rattle.listings.specs.internal.Rows.{row_in};
 ghost use Rattle.listings.specs.Columns.{row_of, first_line, other_lines, skip, column, after_column, from_column, column_place};
+ghost use Rattle.listings.specs.Columns.{begins_with_newline, is_stray, first_stray, is_said, says_something};
+
+use crate::fault::{Fault, Reason};
+
+fn begins_with_newline(text: &[u8]) -> bool
+    ensures { result ≡ begins_with_newline text.now }
+{
+    match text.first() {
+        Some(byte) => *byte == b'\n',
+        None => false,
+    }
+}
+
+/// Whether no listing has a byte with these after it.
+fn is_stray(byte: u8, rest: &[u8]) -> bool
+    ensures { result ≡ is_stray byte rest.now }
+{
+    byte < b' ' && byte != b'\t' && !(byte == b'\r' && begins_with_newline(rest))
+}
+
+/// The first byte of a text that no listing has.
+pub(crate) fn first_stray(text: &[u8]) -> Option<Fault>
+    ensures { result ≡ first_stray text.now }
+{
+    let mut line = 1usize;
+    let mut column = 1usize;
+    for (index, byte) in text.iter().enumerate() {
+        if *byte == b'\n' {
+            line += 1;
+            column = 1;
+        } else if is_stray(*byte, &text[index + 1..]) {
+            return Some(Fault {
+                line,
+                column,
+                reason: Reason::StrayByte,
+            });
+        } else {
+            column += 1;
+        }
+    }
+    None
+}
 
 /// The first line of a text without its newline, and the other lines.
 pub(crate) fn cut_line(text: &[u8]) -> (&[u8], &[u8])
@@ -95,4 +137,30 @@ pub(crate) fn columns_of(line: &[u8]) -> Columns<'_>
         third,
         fourth,
     }
+}
+
+/// Whether a line with this first column is neither blank nor a comment.
+fn is_said(first: &[u8]) -> bool
+    ensures { result ≡ is_said first.now }
+{
+    match first.first() {
+        Some(byte) => *byte != b'/',
+        None => false,
+    }
+}
+
+/// Whether a listing has a line that is neither blank nor a comment. (own choice)
+#[tactic(auto, using(crate::proofs::ReadLemmas::said_here))]
+pub fn says_something(text: &[u8]) -> bool
+    ensures { result ≡ says_something text.now }
+{
+    let mut rest = text;
+    while !rest.is_empty() {
+        let (line, others) = cut_line(rest);
+        if is_said(columns_of(line).first) {
+            return true;
+        }
+        rest = others;
+    }
+    false
 }

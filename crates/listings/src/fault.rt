@@ -1,14 +1,11 @@
 //! Why a listing was not read, and where.
 ghost use Rattle.std.specs.Prelude.{◌≡◌};
 ghost use Rattle.aout_core.specs.Refusals.{refused};
-ghost use Rattle.texts.specs.Texts.{Puts};
-ghost use Rattle.texts.specs.Numbers.{six_digits};
-ghost use Rattle.listings.specs.ReasonTexts.{next_text};
 ghost use Rattle.listings.specs.declared.fault.RowFault.TheVariants.{Memory};
 
 use aout_core::Refused;
 use std::alloc::{AllocError, AllocFailed};
-use texts::{OctalBuffer, Text, six_digits};
+use thiserror::Error;
 
 /// The part of a listing that a line belongs to.
 #[derive(Clone, Copy, Debug, PartialEq, Eq)]
@@ -17,6 +14,7 @@ pub(crate) enum Section {
     InText,
     InData,
     InSymbols,
+    Ended,
 }
 
 /// A word that a line begins with.
@@ -30,98 +28,73 @@ pub(crate) enum Word {
     Unused,
     Magic,
     Flag,
+    End,
     Unknown,
 }
 
 /// Why a line of a listing is wrong. (own choice)
-#[derive(Clone, Copy, Debug, PartialEq, Eq)]
+#[derive(Clone, Copy, Debug, PartialEq, Eq, Error)]
 pub enum Reason {
     /// The line has no such column.
+    #[error("a column is missing")]
     Missing,
     /// A byte of the number is not an octal digit.
+    #[error("not an octal number")]
     NotOctal,
     /// The number is over 177777.
+    #[error("over 177777")]
     TooLarge,
     /// A byte of the name does not print, a backslash is not followed by three octal digits up to 377, or a byte follows a NUL.
+    #[error("bad byte in a name")]
     BadName,
     /// The address is not that of the next word of the section, which is this one.
+    #[error("the address does not follow: {0:06o} is next")]
     WrongAddress(u16),
     /// The number is not that of the next symbol, which is this one.
+    #[error("the number does not follow: {0:o} is next")]
     WrongNumber(u16),
     /// The section has 32,767 words already.
+    #[error("more than 32767 words")]
     TooManyWords,
     /// The table has 5,461 symbols already.
+    #[error("more than 5461 symbols")]
     TooManySymbols,
     /// A number comes before the first section.
+    #[error("text, data or symbols is missing")]
     NoSection,
     /// No line begins with this word.
+    #[error("unknown word")]
     UnknownWord,
     /// Text comes before data and data before symbols, and each comes once.
+    #[error("text, data and symbols are not in this order")]
     OutOfOrder,
     /// The magic number or the flag comes after the first section.
+    #[error("magic and flag come before text, data and symbols")]
     TooLate,
     /// A word comes after the symbols.
+    #[error("only symbols can follow symbols")]
     AfterTable,
     /// No file has this magic number.
+    #[error("bad magic number")]
     NoMagic,
     /// The size of bss is odd.
+    #[error("odd size")]
     OddSize,
     /// The name has more than 8 bytes.
+    #[error("more than 8 bytes in a name")]
     LongName,
     /// A number is where a remark on a word begins.
+    #[error("one number too many")]
     ExtraNumber,
-}
-
-/// Puts which address or number is next.
-fn put_next(line: &mut Text, front: &str, digits: &[u8])
-    ensures { Puts line.old line.new (next_text front.now digits.now) }
-{
-    line.put(front);
-    line.put_bytes(digits);
-    line.put(" is next");
-}
-
-/// Puts which address is next.
-fn put_next_address(line: &mut Text, front: &str, next: u16)
-    ensures { Puts line.old line.new (next_text front.now (six_digits next)) }
-{
-    put_next(line, front, &six_digits(u32::from(next)));
-}
-
-impl Reason {
-    ghost use Rattle.texts.specs.Texts.{Puts};
-    ghost use Rattle.listings.specs.ReasonTexts.{reason_text};
-
-    /// Appends what is said of the line. (own choice)
-    pub fn put(self, line: &mut Text)
-        ensures { Puts line.old line.new (reason_text self) }
-    {
-        match self {
-            Reason::Missing => line.put("a column is missing"),
-            Reason::NotOctal => line.put("not an octal number"),
-            Reason::TooLarge => line.put("over 177777"),
-            Reason::BadName => line.put("bad byte in a name"),
-            Reason::WrongAddress(next) => {
-                put_next_address(line, "the address does not follow: ", next);
-            }
-            Reason::WrongNumber(next) => {
-                let mut buffer = OctalBuffer::new();
-                let digits = buffer.format(u64::from(next));
-                put_next(line, "the number does not follow: ", digits);
-            }
-            Reason::TooManyWords => line.put("more than 32767 words"),
-            Reason::TooManySymbols => line.put("more than 5461 symbols"),
-            Reason::NoSection => line.put("text, data or symbols is missing"),
-            Reason::UnknownWord => line.put("unknown word"),
-            Reason::OutOfOrder => line.put("text, data and symbols are not in this order"),
-            Reason::TooLate => line.put("magic and flag come before text, data and symbols"),
-            Reason::AfterTable => line.put("only symbols can follow symbols"),
-            Reason::NoMagic => line.put("bad magic number"),
-            Reason::OddSize => line.put("odd size"),
-            Reason::LongName => line.put("more than 8 bytes in a name"),
-            Reason::ExtraNumber => line.put("one number too many"),
-        }
-    }
+    /// A byte below 040, other than a tab, a newline, and a carriage return before one.
+    #[error("a control character")]
+    StrayByte,
+    /// After `end` there is another line than a comment.
+    #[error("only comments can follow end")]
+    AfterEnd,
+    /// The listing has the head that `v7-explain` writes, and not its last line.
+    #[error("the line end is missing: the listing was cut")]
+    NoEnd,
 }
 
 /// A mistake of a listing. Lines are counted from 1, and so are columns, in bytes. (own choice)

@@ -18,6 +18,7 @@
 //! - `write_listing`: the listing of a file, with remarks
 //! - `write_cut_listing`: the same with its first relocation words alone
 //! - `read_listing`: the file of a listing
+//! - `says_something`: whether a listing has a line that is neither blank nor a comment
 //! - `is_numbered`: whether a remark begins with a number, as none on a word does
 //!
 //! Modules:
@@ -33,8 +34,9 @@
 //!     bss 0
 //!     symbols
 //!     0     _main      42  000000
+//!     end
 //!
-//! docs/OBJECTS.md has the whole form.
+//! docs/OBJECTS.md has the whole form. Only tested: what is said of a mistake.
 #![tactic(auto)]
 
 mod columns;
@@ -47,6 +49,7 @@ mod remark;
 mod rows;
 mod write;
 
+pub use columns::says_something;
 pub use draft::Addresses;
 pub use fault::{Fault, ListingFault, Mistakes, Reason};
 pub use read::read_listing;

@@ -1,5 +1,5 @@
 //! Reads the listing of a file.
-ghost use Rattle.std.specs.Prelude.{◌≡◌, ◌⊎◌, ◌+◌, IfOk, IfErr, IsSome};
+ghost use Rattle.std.specs.Prelude.{◌≡◌, ◌≢◌, ◌⊎◌, ◌+◌, IfOk, IfErr, IsSome};
 ghost use Rattle.aout_core.specs.Contents.{Contents, IsSound};
 ghost use Rattle.aout_core.specs.Refusals.{refused};
 ghost use Rattle.listings.specs.declared.fault.ListingFault.TheVariants.{Memory};
@@ -8,17 +8,17 @@ ghost use Rattle.texts.specs.Lines.{lines_in};
 ghost use Rattle.listings.specs.Drafts.{finished};
 ghost use Rattle.listings.specs.Listing.{Remarks, listing};
 ghost use Rattle.listings.specs.Laws.{AreRemarks};
-ghost use Rattle.listings.specs.Reading.{noted_by, line_read, lines_read, read};
+ghost use Rattle.listings.specs.Reading.{file_of, noted_by, line_read, lines_read, read};
 ghost use Rattle.listings.specs.MemoryWanted.{IsEntry, IsLater, ListingMayRunOut, MayRunOutInLines};
 ghost use Rattle.listings.specs.Said.{Gives, Says};
 ghost use Rattle.listings.specs.internal.DraftParts.{draft_of};
 ghost use Rattle.listings.specs.internal.Lines.{noted_of, state_of};
 ghost use Rattle.listings.specs.internal.Whole.{IsDraft};
 
-use crate::columns::{column_place, cut_line};
+use crate::columns::{column_place, cut_line, first_stray};
 use crate::draft::{Addresses, FileDraft};
-use crate::fault::{Fault, ListingFault, Mistakes, RowFault};
-use crate::rows::{pass, read_row};
+use crate::fault::{Fault, ListingFault, Mistakes, Reason, RowFault, Section};
+use crate::rows::{has_head, pass, read_row};
 use aout_core::{File, Header, Parts, Refused};
 use std::alloc::Global;
 
@@ -76,18 +76,16 @@ fn read_line(
     }
 }
 
-/// Reads all lines.
+/// Reads all lines, and returns the number of the line after the last.
 fn read_lines(
     alloc: Global,
     draft: &mut FileDraft,
     noting: &mut Noting,
     text: &[u8],
-) -> Result<(), Refused>
+) -> Result<usize, Refused>
     requires { IsDraft (draft_of draft.old) }
-    ensures draft { IfOk result (λ u. draft_of draft.new
-        ≡ (lines_read (state_of 1 draft.old noting.old) (lines_in text.now)).draft) }
-    ensures noted { IfOk result (λ u. noted_of noting.new
-        ≡ (lines_read (state_of 1 draft.old noting.old) (lines_in text.now)).noted) }
+    ensures read { IfOk result (λ number. state_of number draft.new noting.new
+        ≡ lines_read (state_of 1 draft.old noting.old) (lines_in text.now)) }
     ensures whole { IfOk result (λ u. IsDraft (draft_of draft.new)) }
     ensures memory { IfErr result (λ r.
         MayRunOutInLines (state_of 1 draft.old noting.old) (lines_in text.now)) }
@@ -100,7 +98,7 @@ fn read_lines(
         number += 1;
         rest = others;
     }
-    Ok(())
+    Ok(number)
 }
 
 /// The file of a draft.
@@ -140,25 +138,56 @@ fn finish(draft: FileDraft) -> File
     })
 }
 
+/// The file of what was read of a listing, up to the line of this number.
+fn file_of(
+    alloc: Global,
+    needs_end: bool,
+    number: usize,
+    draft: FileDraft,
+    noting: Noting,
+) -> Result<File, ListingFault>
+    requires { IsDraft (draft_of draft) }
+    ensures says { Says result (file_of needs_end (state_of number draft noting)) }
+    ensures no_memory { IfErr result (λ fault. fault ≢ Memory refused) }
+{
+    if let Some(first) = noting.first {
+        return Err(ListingFault::Wrong(Mistakes {
+            first,
+            others: noting.others,
+        }));
+    }
+    if needs_end && draft.section != Section::Ended {
+        return Err(ListingFault::Wrong(Mistakes {
+            first: Fault {
+                line: number,
+                column: 1,
+                reason: Reason::NoEnd,
+            },
+            others: Vec::new(alloc),
+        }));
+    }
+    Ok(finish(draft))
+}
+
 fn read_all(alloc: Global, addresses: Addresses, text: &[u8]) -> Result<File, ListingFault>
     ensures says { Says result (read addresses text.now) }
     ensures memory { IfErr result (λ fault.
         fault ≡ Memory refused → ListingMayRunOut addresses text.now) }
 {
+    if let Some(stray) = first_stray(text) {
+        return Err(ListingFault::Wrong(Mistakes {
+            first: stray,
+            others: Vec::new(alloc),
+        }));
+    }
     let mut draft = FileDraft::new(alloc, addresses);
     let mut noting = Noting {
         first: None,
         others: Vec::new(alloc),
     };
-    if let Err(refused) = read_lines(alloc, &mut draft, &mut noting, text) {
-        return Err(ListingFault::Memory(refused));
-    }
-    match noting.first {
-        Some(first) => Err(ListingFault::Wrong(Mistakes {
-            first,
-            others: noting.others,
-        })),
-        None => Ok(finish(draft)),
+    match read_lines(alloc, &mut draft, &mut noting, text) {
+        Ok(number) => file_of(alloc, has_head(text), number, draft, noting),
+        Err(refused) => Err(ListingFault::Memory(refused)),
     }
 }
 

@@ -8,13 +8,14 @@ ghost use Rattle.listings.specs.declared.fault.Section.TheVariants.{InHeader, In
 ghost use Rattle.listings.specs.declared.fault.Word.TheVariants.{Bss, Magic, Flag};
 ghost use Rattle.listings.specs.Octal.{number};
 ghost use Rattle.aout_core.specs.Refusals.{refused};
-ghost use Rattle.listings.specs.Reading.{in_column, is_decimal, is_digits, is_numbered, relocs_of, unnumbered, with_word, is_right, word_entry, symbol_entry, entry_in, is_word, word_in, rank, first_in, opened, named_by, named, is_label, begins_with_digit, row_read};
+ghost use Rattle.listings.specs.Reading.{in_column, is_decimal, is_digits, is_numbered, relocs_of, unnumbered, with_word, is_right, word_entry, symbol_entry, entry_in, is_word, word_in, rank, first_in, opened, named_by, named, is_head, has_head, is_label, begins_with_digit, row_read};
 ghost use Rattle.listings.specs.Reading.{own, next_after, passed};
 ghost use Rattle.listings.specs.MemoryWanted.{IsEntry};
 ghost use Rattle.listings.specs.internal.DraftParts.{segment_of, draft_of};
 ghost use Rattle.listings.specs.internal.Answers.{Found, Leaves};
+ghost use Rattle.texts.specs.Lines.{lines_in};
 
-use crate::columns::{Columns, columns_of, cut_column, skip};
+use crate::columns::{Columns, columns_of, cut_column, cut_line, skip};
 use crate::draft::{Addresses, FileDraft, SegmentDraft};
 use crate::fault::{Reason, RowFault, Section, Word};
 use crate::numbers::{name_at, number_at};
@@ -202,6 +203,7 @@ fn entry_in(alloc: Global, draft: &mut FileDraft, columns: Columns) -> Result<()
         Section::InText => text_entry(draft, columns),
         Section::InData => data_entry(draft, columns),
         Section::InSymbols => table_entry(alloc, draft, columns),
+        Section::Ended => Err(RowFault::Wrong(0, Reason::AfterEnd)),
     }
 }
 
@@ -239,6 +241,9 @@ fn word_of(columns: Columns) -> Word
     if is_word(first, b"flag") {
         return Word::Flag;
     }
+    if is_word(first, b"end") {
+        return Word::End;
+    }
     Word::Unknown
 }
 
@@ -251,6 +256,7 @@ fn rank(section: Section) -> u8
         Section::InText => 1,
         Section::InData => 2,
         Section::InSymbols => 3,
+        Section::Ended => 4,
     }
 }
 
@@ -260,7 +266,7 @@ fn first_in(section: Section, draft: &FileDraft) -> u16
 {
     match section {
         Section::InData => (data_start(draft.magic, usize::from(draft.next)) % 65536) as u16,
-        Section::InHeader | Section::InText | Section::InSymbols => 0,
+        Section::InHeader | Section::InText | Section::InSymbols | Section::Ended => 0,
     }
 }
 
@@ -342,6 +348,7 @@ fn take_word(draft: &mut FileDraft, word: Word, second: &[u8]) -> Result<(), Row
         }
         Word::Magic => take_magic(draft, second),
         Word::Flag => take_flag(draft, second),
+        Word::End => open(draft, Section::Ended),
         Word::Unknown => Err(RowFault::Wrong(0, Reason::UnknownWord)),
     }
 }
@@ -352,10 +359,39 @@ fn named(draft: &mut FileDraft, columns: Columns) -> Result<(), RowFault>
         (named (draft_of draft.old) (row_in columns.entry)) }
     ensures no_memory { IfErr result (λ fault. fault ≢ Memory refused) }
 {
-    if draft.section == Section::InSymbols {
+    let word = word_of(columns);
+    if draft.section == Section::Ended {
+        return Err(RowFault::Wrong(0, Reason::AfterEnd));
+    }
+    if draft.section == Section::InSymbols && word != Word::End {
         return Err(RowFault::Wrong(0, Reason::AfterTable));
     }
-    take_word(draft, word_of(columns), columns.second)
+    take_word(draft, word, columns.second)
+}
+
+/// Whether a row is a note on the magic number, as the head has it that `v7-explain` writes.
+fn is_head(columns: Columns) -> bool
+    ensures { result ≡ is_head (row_in columns.entry) }
+{
+    is_word(columns.first, b"/")
+        && is_word(columns.second, b"000")
+        && is_word(columns.fourth, b"magic:")
+}
+
+/// Whether a listing has such a note.
+#[tactic(auto, using(crate::proofs::ReadLemmas::head_here))]
+pub(crate) fn has_head(text: &[u8]) -> bool
+    ensures { result ≡ has_head (lines_in text.now) }
+{
+    let mut rest = text;
+    while !rest.is_empty() {
+        let (line, others) = cut_line(rest);
+        if is_head(columns_of(line)) {
+            return true;
+        }
+        rest = others;
+    }
+    false
 }
 
 /// Whether a row is a label: `NAME:` alone, or `NAME = .+K`.
@@ -414,7 +450,7 @@ fn next_after(section: Section, next: u16, number: u16) -> u16
     ensures { result ≡ next_after section next number }
 {
     match section {
-        Section::InHeader => next,
+        Section::InHeader | Section::Ended => next,
         Section::InText | Section::InData => number.wrapping_add(2),
         Section::InSymbols => number.wrapping_add(1),
     }

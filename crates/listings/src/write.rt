@@ -5,7 +5,7 @@ ghost use Rattle.texts.specs.Names.{printable_name};
 ghost use Rattle.texts.specs.Lines.{text_of};
 ghost use Rattle.texts.specs.Texts.{Puts};
 ghost use Rattle.listings.specs.Listing.{gap, wide, word_columns, word_line, word_lines, symbol_numbers, symbol_line, symbol_lines};
-ghost use Rattle.listings.specs.Listing.{named_line, unusual, head_lines, text_lines, data_lines, bss_lines, table_lines, listing, with_relocs};
+ghost use Rattle.listings.specs.Listing.{named_line, unusual, head_lines, text_lines, data_lines, bss_lines, table_lines, cut_listing, listing, with_relocs};
 ghost use Rattle.listings.specs.Reading.{read};
 ghost use Rattle.listings.specs.declared.draft.Addresses.TheVariants.{Compared};
 
@@ -270,9 +270,10 @@ fn put_table<R: Remark>(remarks: &R, text: &mut Text, file: &File)
     put_symbols(remarks, text, file.symbols());
 }
 
-/// Appends the listing of a file, with remarks and so many relocation words.
-fn put_listing<R: Remark>(remarks: &R, text: &mut Text, file: &File, relocs: usize)
-    ensures { Puts text.old text.new (listing (R.said remarks.now) (with_relocs relocs file.now)) }
+/// Appends the listing of a file but for its last line, with remarks and so many relocation words.
+fn put_before_end<R: Remark>(remarks: &R, text: &mut Text, file: &File, relocs: usize)
+    ensures { Puts text.old text.new
+        (cut_listing (R.said remarks.now) (with_relocs relocs file.now)) }
 {
     remarks.put_notes(text);
     put_head(text, file);
@@ -283,7 +284,8 @@ fn put_listing<R: Remark>(remarks: &R, text: &mut Text, file: &File, relocs: usi
     remarks.put_findings(text);
 }
 
-/// The listing of a file with its first relocation words alone, as they are in a file that ends early. (own choice)
+/// The listing of a file with its first relocation words alone, as they are in a file that ends early. It lacks the last line, so it is
+/// not read as a file. (own choice)
 ///
 /// Errors: `AllocError` if memory runs out for the text.
 pub fn write_cut_listing<R: Remark>(
@@ -293,10 +295,10 @@ pub fn write_cut_listing<R: Remark>(
     remarks: &R,
 ) -> Result<Vec<u8>, AllocError>
     ensures { IfOk result (λ v.
-        v.items ≡ listing (R.said remarks.now) (with_relocs relocs file.now)) }
+        v.items ≡ cut_listing (R.said remarks.now) (with_relocs relocs file.now)) }
 {
     let mut text = Text::new(alloc);
-    put_listing(remarks, &mut text, file, relocs);
+    put_before_end(remarks, &mut text, file, relocs);
     text.finish()
 }
 
@@ -305,6 +307,22 @@ fn reloc_count(file: &File) -> usize
     ensures { result ≡ length file.now.text_reloc + length file.now.data_reloc }
 {
     file.text_reloc().len() + file.data_reloc().len()
+}
+
+/// Appends the listing of a file, with remarks.
+fn put_listing<R: Remark>(remarks: &R, text: &mut Text, file: &File)
+    ensures { Puts text.old text.new (listing (R.said remarks.now) file.now) }
+{
+    put_before_end(remarks, text, file, reloc_count(file));
+    text.put("end\n");
+}
+
+fn listing_of<R: Remark>(alloc: Global, file: &File, remarks: &R) -> Result<Vec<u8>, AllocError>
+    ensures { IfOk result (λ v. v.items ≡ listing (R.said remarks.now) file.now) }
+{
+    let mut text = Text::new(alloc);
+    put_listing(remarks, &mut text, file);
+    text.finish()
 }
 
 /// Writes a file as a listing, with remarks. Whatever is remarked, reading the listing gives the file. (own choice)
@@ -319,5 +337,5 @@ pub fn write_listing<R: Remark>(
     ensures again { IfOk result (λ v. read Compared v.items ≡ Ok file.now) }
 {
     sound_law(file);
-    write_cut_listing(alloc, file, reloc_count(file), remarks)
+    listing_of(alloc, file, remarks)
 }

@@ -2,18 +2,22 @@
 --
 -- The system is asked whether the output is the listing before a file is opened, and a file is stored only if the listing has no
 -- mistake. If memory runs out, that is the answer; it does so after a file was to be stored only if it was not stored.
-use Rattle.std.specs.Prelude.{ℕ, false, codes, if◌then◌else◌, List, [], ◌∷◌, Option, Result, Ok, Err}
+use Rattle.std.specs.Prelude.{◌≡◌, ℕ, Bool, codes, if◌then◌else◌, List, [], ◌∷◌, Option, Some, None, Result, Ok, Err}
 use Rattle.std.specs.Borrow.{Bor}
 use Rattle.aout_core.specs.{Contents.Contents, Words.letter_of}
-use Rattle.listings.specs.{Reading.read, Reading.Mistakes, declared.draft.Addresses.Addresses}
+use Rattle.listings.specs.{Columns.says_something, Reading.read, Reading.Mistakes, declared.draft.Addresses.Addresses}
 use Rattle.listings.specs.declared.draft.Addresses.TheVariants.{Compared, Computed}
-use Rattle.surroundings.specs.Answers.{IsPerformed, fault_line, only_errors}
+use Rattle.surroundings.specs.Answers.{IsPerformed, only_errors}
 use Rattle.surroundings.specs.Programs.{AnswersGiven, Finds, Reads, Step, Stores, Then}
 use Rattle.surroundings.specs.{Answer.Answer, Arguments.Given, Arguments.has_letter, Arguments.if_given, Arguments.given_in}
-use Rattle.surroundings.specs.{Events.Surroundings, Events.stored, Nodes.ChecksOutput}
+use Rattle.surroundings.specs.{Events.Surroundings, Events.stored, Nodes.ChecksOutput, declared.answer.Fault.Fault}
+use Rattle.surroundings.specs.declared.answer.Fault.TheVariants.{Answered, Memory}
 use Rattle.surroundings.specs.declared.reasons.Reason.{Reason}
 use Rattle.surroundings.specs.declared.reasons.Reason.TheVariants.{NotTwoFiles}
-use Rattle.v7_object.specs.Lines.{help, mistake_lines, nothing_said, program, says_something, usage}
+use Rattle.v7_object.specs.declared.help.TheConstants.{HELP, USAGE}
+
+abbrev pub program : List ℕ
+program = codes "v7-object"
 
 -- what the arguments ask for: to make the file of a listing at a path
 pub record Call : Type 0 where
@@ -41,15 +45,29 @@ result_in (Err reason) = Err reason
 abbrev pub making_asked : List (List ℕ) → Result Call Reason
 making_asked words = if_given (given_in (codes "n") [] words) making_in
 
--- the file that a listing is read as, or its mistakes, with the status 1
-abbrev pub file_of : List ℕ → Result Contents Mistakes → Result Contents Answer
-file_of path (Ok file) = Ok file
-file_of path (Err mistakes) = Err (only_errors (mistake_lines path mistakes) 1)
+-- ---- the file of a listing
 
--- one that has no line but remarks is refused
-abbrev pub file_in : Addresses → List ℕ → List ℕ → Result Contents Answer
-file_in addresses path text =
-    if says_something false text then file_of path (read addresses text) else Err (only_errors (fault_line program path nothing_said) 1)
+-- one that has no line but comments has none
+abbrev pub file_if : Bool → Result Contents Mistakes → Option Contents
+file_if says (Ok file) = if says then Some file else None
+file_if says (Err mistakes) = None
+
+abbrev pub file_in : Addresses → List ℕ → Option Contents
+file_in addresses text = file_if (says_something text) (read addresses text)
+
+-- a listing is refused; in which words, no definition says
+pub record IsRefusal (a : Answer) : Type 0 where
+  pub no_output : a.output ≡ []
+  pub has_status : a.status ≡ 1
+
+abbrev pub IsRefused : Option Contents → Fault → Type 0
+IsRefused found (Answered answer) = (found ≡ None) × IsRefusal answer
+IsRefused found (Memory _) = Unit {0}
+
+-- the file of a listing is found, or the listing is refused, or memory runs out
+abbrev pub FindsFile : Option Contents → Step Contents
+FindsFile found old new (Ok file) = (new ≡ old) × (found ≡ Some file)
+FindsFile found old new (Err fault) = (new ≡ old) × IsRefused found fault
 
 -- a file is stored, once there is memory for the answer
 abbrev pub IsStoring : List ℕ → Contents → Step Answer
@@ -60,11 +78,11 @@ abbrev pub IsMaking : Call → Step Answer
 IsMaking call =
     Then (ChecksOutput program call.listing call.to) (λ _.
     Then (Reads program call.listing) (λ bytes.
-    Then (Finds (file_in call.addresses call.listing bytes)) (λ file.
+    Then (FindsFile (file_in call.addresses bytes)) (λ file.
     IsStoring call.to file)))
 
 -- what the arguments ask for is done, and its answer is written
 abbrev pub PerformsObject : {W E : Type 0} → (W → Option (List ℕ)) → (E → Option (List ℕ)) → List (List ℕ) →
     Surroundings W E → Surroundings W E → ℕ → Type 0
 PerformsObject contents error_contents words before after status =
-    IsPerformed contents error_contents program (AnswersGiven program help usage IsMaking making_asked words) before after status
+    IsPerformed contents error_contents program (AnswersGiven program HELP.now USAGE.now IsMaking making_asked words) before after status

@@ -1,11 +1,9 @@
-//! The program `v7-object`: makes an a.out file of a listing.
+//! The program `v7-object`: makes an a.out file of a listing. Only tested: what is said of mistakes.
 #![tactic(auto)]
 
 mod help;
-mod lines;
 mod making;
 mod program;
-mod remarks;
 
 use aout_core::Wire;
 use help::USAGE;

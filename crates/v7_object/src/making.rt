@@ -1,65 +1,59 @@
 //! The file of a listing. It is written only if the listing has no mistake.
-ghost use Rattle.std.specs.Prelude.{◌≡◌, [], IfErr, IfOk, Ok};
-ghost use Rattle.listings.specs.Reading.{read};
-ghost use Rattle.listings.specs.Said.{mistakes_in};
-ghost use Rattle.surroundings.specs.Answers.{Faults, fault_line, only_errors};
-ghost use Rattle.v7_object.specs.Lines.{mistake_lines, nothing_said, program};
-ghost use Rattle.v7_object.specs.Runs.{IsMaking, IsStoring, file_in, file_of};
+ghost use Rattle.std.specs.Prelude.{◌≡◌, [], IfErr, IfOk, Some};
+ghost use Rattle.surroundings.specs.Answers.{only_errors};
+ghost use Rattle.v7_object.specs.Runs.{IsMaking, IsRefusal, IsRefused, IsStoring, file_in};
 
-use crate::lines::put_mistakes;
 use crate::program::NAME;
-use crate::remarks::says_something;
 use aout_core::File;
-use listings::{Addresses, ListingFault, Mistakes, read_listing};
+use listings::{Addresses, ListingFault, Mistakes, read_listing, says_something};
 use std::alloc::{AllocError, Global};
-use surroundings::{
-    Answer, Fault, Office, answer_stored, check_output, error_answer, put_fault_line, read_whole,
-};
+use surroundings::{Answer, Fault, Office, answer_stored, check_output, error_answer, read_whole};
 use texts::Text;
+
+/// Puts the line of a mistake of a listing.
+fn put_mistake(lines: &mut Text, path: &str, mistake: listings::Fault) {
+    let listings::Fault {
+        line,
+        column,
+        reason,
+    } = mistake;
+    lines.say(format_args!("{NAME}: {path}: line {line}, column {column}: {reason}\n"));
+}
 
 /// The answer with the mistakes of a listing.
 fn mistaken(alloc: Global, path: &str, mistakes: &Mistakes) -> Result<Answer, AllocError>
-    ensures { IfOk result (λ a.
-        a ≡ only_errors (mistake_lines path.now (mistakes_in mistakes.now)) 1) }
+    ensures { IfOk result IsRefusal }
 {
     let mut lines = Text::new(alloc);
-    put_mistakes(&mut lines, path, mistakes);
+    put_mistake(&mut lines, path, mistakes.first);
+    for mistake in &mistakes.others {
+        put_mistake(&mut lines, path, *mistake);
+    }
     error_answer(alloc, lines, 1)
 }
 
 /// The answer to a listing that has no line but remarks.
 fn silent_listing(alloc: Global, path: &str) -> Result<Answer, AllocError>
-    ensures { IfOk result (λ a. a ≡ only_errors (fault_line program path.now nothing_said) 1) }
+    ensures { IfOk result IsRefusal }
 {
     let mut line = Text::new(alloc);
-    put_fault_line(&mut line, NAME, path, "no line but remarks");
+    line.say(format_args!("{NAME}: {path}: no line but remarks\n"));
     error_answer(alloc, line, 1)
 }
 
-/// The file of a listing that says something.
-fn file_of(alloc: Global, addresses: Addresses, path: &str, text: &[u8]) -> Result<File, Fault>
-    ensures ok { IfOk result (λ file. file_of path.now (read addresses text.now) ≡ Ok file) }
-    ensures err { IfErr result (λ fault.
-        Faults (file_of path.now (read addresses text.now)) fault) }
+/// The file of a listing.
+fn file_in(alloc: Global, addresses: Addresses, path: &str, text: &[u8]) -> Result<File, Fault>
+    ensures ok { IfOk result (λ file. file_in addresses text.now ≡ Some file) }
+    ensures err { IfErr result (IsRefused (file_in addresses text.now)) }
 {
     match read_listing(alloc, addresses, text) {
-        Ok(file) => Ok(file),
+        Ok(file) if says_something(text) => Ok(file),
+        Ok(_) => Err(Fault::Answered(silent_listing(alloc, path)?)),
         Err(ListingFault::Wrong(mistakes)) => {
             Err(Fault::Answered(mistaken(alloc, path, &mistakes)?))
         }
         Err(ListingFault::Memory(refused)) => Err(Fault::Memory(refused)),
     }
-}
-
-/// The file of a listing.
-fn file_in(alloc: Global, addresses: Addresses, path: &str, text: &[u8]) -> Result<File, Fault>
-    ensures ok { IfOk result (λ file. file_in addresses path.now text.now ≡ Ok file) }
-    ensures err { IfErr result (λ fault. Faults (file_in addresses path.now text.now) fault) }
-{
-    if says_something(text) {
-        return file_of(alloc, addresses, path, text);
-    }
-    Err(Fault::Answered(silent_listing(alloc, path)?))
 }
 
 /// The answer if nothing is to be said.

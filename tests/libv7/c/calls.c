@@ -340,7 +340,8 @@ static const char listing[] = "text\n"
                               "bss 4\n"
                               "symbols\n"
                               "0     _f         40  000000  U\n"
-                              "1     L1          2  000000  t\n";
+                              "1     L1          2  000000  t\n"
+                              "end\n";
 /* its strings begin with their length, 10, the high word first; L1 is at 4, and _f at 7 */
 const unsigned char gnu_object[58] = {W(0407), W(6), W(2), W(4), W(16), W(0), W(0), W(0), CONTENTS, W(0), W(011), W(0), W(0),
                                       W(0), W(7), W(040), W(0), W(0), W(4), W(2), W(0), W(0), W(10), 'L', '1', 0, '_', 'f', 0};

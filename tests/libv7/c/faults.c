@@ -345,6 +345,9 @@ static const struct mistake {
     {V7_ODD_BSS, 7, 3, 0, "/ a note\n\n  bss 1\n"},
     {V7_LONG_SYMBOL, 3, 2, 1, "symbols\n0 _ninebyte 42 0\n"},
     {V7_EXTRA_NUMBER, 7, 3, 1, "flag 1\ntext\n0 207 0\n"},
+    {V7_STRAY_BYTE, 2, 2, 0, "text\n0\033 207 0\n"},
+    {V7_AFTER_END, 1, 2, 0, "end\ntext\n"},
+    {V7_NO_END, 1, 3, 0, "/ 000  000407  magic: normal\ntext\n"},
 };
 
 static void check_mistake(const struct mistake *m)

@@ -1,7 +1,7 @@
 -- What holds of a draft after each line: its lists fit a file.
 use Rattle.std.specs.Prelude.{◌≡◌, ℕ, ◌%◌, ◌<◌, eqb, if◌then◌else◌, length, IsTrue}
 use Rattle.aout_core.specs.Contents.{is_magic}
-use Rattle.listings.specs.declared.fault.Section.TheVariants.{InHeader, InText, InData, InSymbols}
+use Rattle.listings.specs.declared.fault.Section.TheVariants.{InHeader, InText, InData, InSymbols, Ended}
 use Rattle.listings.specs.{declared.fault.Section.Section, Drafts.Segment, Drafts.Draft}
 
 -- a relocation word for each word, or none
@@ -19,6 +19,7 @@ Begins InHeader s t = IsEmpty s × IsEmpty t
 Begins InText s t = Unit {0}
 Begins InData s t = Unit {0}
 Begins InSymbols s t = Unit {0}
+Begins Ended s t = Unit {0}
 
 pub record IsDraft (d : Draft) : Type 0 where
   pub magic : IsTrue (is_magic d.magic)

@@ -1,14 +1,12 @@
-use Rattle.std.proofs.Common.{rules, ◌≡◌, refl, subst, inl, inr}
-use Rattle.std.specs.Prelude.{Ok}
-use Rattle.surroundings.specs.Answers.{Faults}
-use Rattle.v7_object.specs.Runs.{file_in}
+use Rattle.std.proofs.Common.{rules, ◌≡◌, Some, refl, subst, inl, inr}
+use Rattle.v7_object.specs.Runs.{IsRefused, file_in}
 use Rattle.v7_object.proofs.making.make_file.Goals as goal
 
 pub returns : goal.returns
 returns g c =
     let same : c.deref.result.now ≡ c.in_ok-text.text.items = search rules in
     let between = g.O.Office.history c.read_whole.new.office in
-    let found = subst (λ text. file_in c.args.addresses c.args.listing.now text ≡ Ok c.in_ok-file.file) same c.in_ok-file.ensures.ok in
+    let found = subst (λ text. file_in c.args.addresses text ≡ Some c.in_ok-file.file) same c.in_ok-file.ensures.ok in
     inr (
       tt,
       g.O.Office.history c.check_output.new.office,
@@ -24,7 +22,7 @@ returns-in_err-file g c =
     let same : c.deref.result.now ≡ c.in_ok-text.text.items = search rules in
     let between = g.O.Office.history c.read_whole.new.office in
     let fault = c.in_err-file.field-0.0 in
-    let found = subst (λ text. Faults (file_in c.args.addresses c.args.listing.now text) fault) same c.in_err-file.ensures.err in
+    let found = subst (λ text. IsRefused (file_in c.args.addresses text) fault) same c.in_err-file.ensures.err in
     inr (
       tt,
       g.O.Office.history c.check_output.new.office,
