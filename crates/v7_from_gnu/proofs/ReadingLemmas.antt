@@ -4,7 +4,7 @@ use Rattle.std.specs.Prelude.{Result, Err, codes}
 use Rattle.aout_core.specs.Refusals.{refused}
 use Rattle.surroundings.specs.Sources.{EndsReading, ReadsAt}
 use Rattle.surroundings.specs.{Answer.Answer, Answers.failed_at, Events.History, declared.answer.Fault.Fault, declared.answer.Fault.TheVariants.Memory}
-use Rattle.v7_from_gnu.specs.{Jobs.Job, Jobs.Source, Lines.program, Readings.IsReading, Readings.source_of}
+use Rattle.v7_from_gnu.specs.{Jobs.Job, Jobs.Source, Answers.program, Readings.IsReading, Readings.source_of}
 
 -- what comes of the files that are left comes of all
 abbrev pub GoesOn : History → History → List Source → List Job → List Job → Type 0

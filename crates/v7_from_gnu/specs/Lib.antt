@@ -1,8 +1,7 @@
 pub mod Jobs
 pub mod Calls
-pub mod Lines
+pub mod Answers
 pub mod Readings
-pub mod Plans
 pub mod Checks
 pub mod Converting
 pub mod Runs

@@ -1,10 +1,7 @@
 //! What is checked before a file is opened, and before one is written.
-ghost use Rattle.std.specs.Prelude.{◌≡◌, ◌++◌, ◌∷◌, [], position, slice_get, string_bytes, IfOk, Ok};
-ghost use Rattle.gnu_objects.specs.Clashes.{clash_among};
-ghost use Rattle.surroundings.specs.Answers.{Checks, only_errors};
-ghost use Rattle.surroundings.specs.declared.answer.Fault.TheVariants.{Answered};
-ghost use Rattle.v7_from_gnu.specs.Checks.{ChecksInputs, Judges, Looks, bytes_of, clash_found, clash_from, goes_to, job_answer, path_answer, replaces, replacing};
-ghost use Rattle.v7_from_gnu.specs.Lines.{clash_line};
+ghost use Rattle.std.specs.Prelude.{◌≡◌, ◌++◌, ◌∷◌, [], position, string_bytes, true, IfOk, Ok};
+ghost use Rattle.v7_from_gnu.specs.Answers.{Ends, Refuses, Stops};
+ghost use Rattle.v7_from_gnu.specs.Checks.{ChecksInputs, Judges, Looks, bytes_of, clash_from, clash_with, goes_to, has_path_twice, replaces};
 ghost use Rattle.v7_from_gnu.specs.internal.Lists.{listed};
 
 use crate::arguments::Job;
@@ -13,8 +10,16 @@ use crate::lines::put_clash;
 use crate::program::NAME;
 use gnu_objects::{Clash, Refusal, Together};
 use std::alloc::{AllocError, Global};
-use surroundings::{Fault, Nodes, Office, error_answer, fault_at, is_input, nodes_at};
+use surroundings::{Answer, Fault, Nodes, Office, error_answer, fault_at, is_input, nodes_at};
 use texts::Text;
+
+/// The fault that a text is said of a path.
+#[tactic(auto, using(crate::proofs::AnswerLemmas::failed_stops))]
+fn refused_at(alloc: Global, path: &str, text: &str) -> Fault
+    ensures { Stops true 2 result }
+{
+    fault_at(alloc, NAME, path, text)
+}
 
 /// Whether one of these objects goes to a path.
 fn goes_to(jobs: &[Job], path: &String) -> bool
@@ -25,17 +30,18 @@ fn goes_to(jobs: &[Job], path: &String) -> bool
 
 /// Checks the path of one object, with the objects before it.
 fn check_path(alloc: Global, before: &[Job], job: &Job) -> Result<(), Fault>
-    ensures { Checks (job_answer before.now job.now) result }
+    ensures { Refuses 2 (goes_to before.now job.now.to) result }
 {
     if goes_to(before, &job.to) {
-        return Err(fault_at(alloc, NAME, job.from.as_str(), "a second file of this name"));
+        return Err(refused_at(alloc, job.from.as_str(), "a second file of this name"));
     }
     Ok(())
 }
 
 /// Checks the paths of objects: no two are one.
+#[tactic(auto, using(crate::proofs::AnswerLemmas::stops_or))]
 pub(crate) fn check_paths(alloc: Global, jobs: &[Job]) -> Result<(), Fault>
-    ensures { Checks (path_answer jobs.now) result }
+    ensures { Refuses 2 (has_path_twice jobs.now) result }
 {
     for (index, job) in jobs.iter().enumerate() {
         check_path(alloc, &jobs[..index], job)?;
@@ -64,25 +70,23 @@ fn first_replacing(found: &[Nodes]) -> Option<usize>
     found.iter().position(|nodes| is_input(found, nodes.output))
 }
 
-/// Refuses the object of the job at a place, if there is one.
-fn refuse(alloc: Global, jobs: &[Job], place: usize) -> Result<(), Fault>
-    ensures { Checks (replacing (slice_get jobs.now place)) result }
-{
+/// The path of the object of the job at a place.
+fn path_to(jobs: &[Job], place: usize) -> &str {
     match jobs.get(place) {
-        Some(job) => {
-            let text = "the output is one of the inputs";
-            Err(fault_at(alloc, NAME, job.to.as_str(), text))
-        }
-        None => Ok(()),
+        Some(job) => job.to.as_str(),
+        None => "",
     }
 }
 
 /// Checks that no object would replace one of the files that were found.
 fn judge(alloc: Global, jobs: &[Job], found: &[Nodes]) -> Result<(), Fault>
-    ensures { Judges jobs.now (Ok found.now) result }
+    ensures { Judges (Ok found.now) result }
 {
     match first_replacing(found) {
-        Some(place) => refuse(alloc, jobs, place),
+        Some(place) => {
+            let text = "the output is one of the inputs";
+            Err(refused_at(alloc, path_to(jobs, place), text))
+        }
         None => Ok(()),
     }
 }
@@ -99,19 +103,18 @@ pub(crate) fn check_inputs<O: Office>(
     judge(alloc, jobs, &found)
 }
 
-/// The fault that an external of a file would become one with an external of an earlier file.
+/// The answer that an external of a file would become one with an external of an earlier file.
 fn clashing(
     alloc: Global,
     first: &Target,
     second: &Target,
     clash: Clash,
-) -> Result<Fault, AllocError>
-    ensures { IfOk result (λ fault.
-        fault ≡ Answered (only_errors (clash_line first.now.source second.now.source clash) 1)) }
+) -> Result<Answer, AllocError>
+    ensures { IfOk result (Ends 1) }
 {
     let mut line = Text::new(alloc);
     put_clash(&mut line, &first.source, &second.source, clash);
-    Ok(Fault::Answered(error_answer(alloc, line, 1)?))
+    error_answer(alloc, line, 1)
 }
 
 /// Puts a file beside those before it, if no external of it would become one with one of theirs.
@@ -122,8 +125,7 @@ fn put_beside<'a>(
     target: &'a Target,
 ) -> Result<(), Fault>
     requires { together.old ≡ bytes_of before.now }
-    ensures checks { Checks (clash_found before.now target.now
-        (clash_among (bytes_of before.now) target.now.source.bytes)) result }
+    ensures checks { Refuses 1 (clash_with before.now target.now) result }
     ensures added { IfOk result (λ _. together.new ≡ together.old ++ target.now.source.bytes ∷ []) }
 {
     let found = match together.add(alloc, target.bytes()) {
@@ -135,14 +137,15 @@ fn put_beside<'a>(
         return Ok(());
     };
     match before.get(number) {
-        Some(first) => Err(clashing(alloc, first, target, clash)?),
+        Some(first) => Err(Fault::Answered(clashing(alloc, first, target, clash)?)),
         None => unreachable!(),
     }
 }
 
 /// Checks the names of files that are converted together: no two externals of two of them would become one.
+#[tactic(auto, using(crate::proofs::AnswerLemmas::stops_or))]
 pub(crate) fn check_names(alloc: Global, targets: &[Target]) -> Result<(), Fault>
-    ensures { Checks (clash_from [] targets.now) result }
+    ensures { Refuses 1 (clash_from [] targets.now) result }
 {
     let mut together = Together::new(alloc);
     for (index, target) in targets.iter().enumerate() {

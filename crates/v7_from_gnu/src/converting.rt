@@ -1,12 +1,9 @@
 //! Conversions of files that were read. Nothing is written before all are converted.
-ghost use Rattle.std.specs.Prelude.{◌≡◌, [], IfErr, IfOk, None, Ok, OnOk};
-ghost use Rattle.std.specs.List.{flat_map};
+ghost use Rattle.std.specs.Prelude.{◌≡◌, [], IfErr, IfOk, None, Ok, OnOk, Some};
 ghost use Rattle.gnu_objects.specs.Converted.{converted};
 ghost use Rattle.gnu_objects.specs.GnuRefusals.{sizes_refusal};
-ghost use Rattle.surroundings.specs.Answers.{Faults};
-ghost use Rattle.texts.specs.Texts.{Puts};
-ghost use Rattle.v7_from_gnu.specs.Converting.{all_remarks, converted_from, outcome, refusal_answer, remark_lines, remarks_of, target_of, with_names};
-ghost use Rattle.v7_from_gnu.specs.Lines.{remark_line};
+ghost use Rattle.v7_from_gnu.specs.Answers.{Ends, FindsOr, Stops, is_none};
+ghost use Rattle.v7_from_gnu.specs.Converting.{converted_from, outcome, target_of, with_names};
 ghost use Rattle.v7_from_gnu.specs.Runs.{IsConversion, IsConverting};
 ghost use Rattle.v7_from_gnu.specs.internal.Lists.{RefusedAs};
 
@@ -62,16 +59,17 @@ pub(crate) struct Plan {
 }
 
 impl Model for Plan {
-    ghost use Rattle.v7_from_gnu.specs.Plans as spec;
+    ghost use Rattle.std.specs.Prelude.{List};
+    ghost use Rattle.v7_from_gnu.specs.Jobs as spec;
 
-    ghost Value = { spec.Plan };
+    ghost Value = { List spec.Target };
 
-    ghost view = { λ p. record { remarks = p.remarks.items; targets = p.targets.items } };
+    ghost view = { λ p. p.targets.items };
 }
 
 /// The answer that a file is refused.
 fn refusal_answer(alloc: Global, source: &Source, refusal: Refusal) -> Result<Answer, AllocError>
-    ensures { IfOk result (λ a. a ≡ refusal_answer source.now refusal) }
+    ensures { IfOk result (Ends 1) }
 {
     let mut line = Text::new(alloc);
     put_refusal(&mut line, source, refusal);
@@ -80,7 +78,7 @@ fn refusal_answer(alloc: Global, source: &Source, refusal: Refusal) -> Result<An
 
 /// The fault that a file is refused, or that memory ran out.
 fn refused(alloc: Global, source: &Source, refusal: Refusal) -> Fault
-    ensures { RefusedAs source.now refusal result }
+    ensures { RefusedAs refusal result }
 {
     if let Refusal::Memory(refused) = refusal {
         return Fault::Memory(refused);
@@ -94,7 +92,7 @@ fn refused(alloc: Global, source: &Source, refusal: Refusal) -> Fault
 /// The object that a file becomes.
 fn object_of(alloc: Global, options: Options, source: &Source) -> Result<Object, Fault>
     ensures ok { IfOk result (λ object. converted options source.now.bytes ≡ Ok object) }
-    ensures err { IfErr result (λ fault. Faults (target_of options source.now) fault) }
+    ensures err { IfErr result (λ fault. Stops (is_none (target_of options source.now)) 1 fault) }
     ensures sizes { OnOk result (sizes_refusal source.now.bytes ≡ None) }
 {
     match convert(alloc, &source.bytes, options) {
@@ -105,8 +103,7 @@ fn object_of(alloc: Global, options: Options, source: &Source) -> Result<Object,
 
 /// Converts a file.
 fn convert_one(alloc: Global, options: Options, source: Source) -> Result<Target, Fault>
-    ensures ok { IfOk result (λ t. target_of options source ≡ Ok t) }
-    ensures err { IfErr result (λ fault. Faults (target_of options source) fault) }
+    ensures { FindsOr (target_of options source) result }
 {
     match object_of(alloc, options, &source) {
         Ok(object) => Ok(Target { source, object }),
@@ -117,8 +114,9 @@ fn convert_one(alloc: Global, options: Options, source: Source) -> Result<Target
 /// Converts each file, up to the first that is refused.
 fn convert_each(alloc: Global, options: Options, sources: Vec<Source>) -> Result<Vec<Target>, Fault>
     ensures ok { IfOk result (λ targets.
-        converted_from options [] sources.items ≡ Ok targets.items) }
-    ensures err { IfErr result (λ fault. Faults (converted_from options [] sources.items) fault) }
+        converted_from options [] sources.items ≡ Some targets.items) }
+    ensures err { IfErr result (λ fault.
+        Stops (is_none (converted_from options [] sources.items)) 1 fault) }
 {
     let mut targets = Vec::new(alloc);
     for source in sources {
@@ -131,31 +129,18 @@ fn convert_each(alloc: Global, options: Options, sources: Vec<Source>) -> Result
 }
 
 /// Puts the lines of what there is to say of the names of a file.
-fn put_list(text: &mut Text, source: &Source, list: &[Remark])
-    ensures { Puts text.old text.new (flat_map (remark_line source.now) list.now) }
-{
+fn put_list(text: &mut Text, source: &Source, list: &[Remark]) {
     for remark in list {
         put_remark(text, source, *remark);
     }
 }
 
 /// Puts what becomes of the names of a file.
-fn put_remarks(text: &mut Text, locals: Locals, target: &Target)
-    ensures { Puts text.old text.new (remark_lines locals target.now.source) }
-{
+fn put_remarks(text: &mut Text, locals: Locals, target: &Target) {
     match remarks(text.allocator(), target.bytes(), locals) {
         Ok(list) => put_list(text, &target.source, &list),
         Err(Refusal::Memory(refused)) => text.cut(AllocError::from(refused)),
         Err(_) => unreachable!(),
-    }
-}
-
-/// Puts what becomes of the names of all files.
-fn put_all_remarks(text: &mut Text, locals: Locals, targets: &[Target])
-    ensures { Puts text.old text.new (remarks_of locals targets.now) }
-{
-    for target in targets {
-        put_remarks(text, locals, target);
     }
 }
 
@@ -165,25 +150,25 @@ fn all_remarks(
     is_quiet: bool,
     locals: Locals,
     targets: &[Target],
-) -> Result<Vec<u8>, AllocError>
-    ensures { IfOk result (λ lines. lines.items ≡ all_remarks is_quiet locals targets.now) }
-{
+) -> Result<Vec<u8>, AllocError> {
     let mut text = Text::new(alloc);
     if !is_quiet {
-        put_all_remarks(&mut text, locals, targets);
+        for target in targets {
+            put_remarks(&mut text, locals, target);
+        }
     }
     text.finish()
 }
 
 /// What is done with files that are converted.
+#[tactic(auto, using(crate::proofs::ConvertingLemmas::names_fail))]
 fn with_names(
     alloc: Global,
     options: Options,
     is_quiet: bool,
     targets: Vec<Target>,
 ) -> Result<Plan, Fault>
-    ensures ok { IfOk result (λ plan. with_names options is_quiet targets.items ≡ Ok plan) }
-    ensures err { IfErr result (λ fault. Faults (with_names options is_quiet targets.items) fault) }
+    ensures { FindsOr (with_names targets.items) result }
 {
     match check_names(alloc, &targets) {
         Ok(()) => match all_remarks(alloc, is_quiet, options.locals, &targets) {
@@ -201,8 +186,7 @@ fn make_plan(
     is_quiet: bool,
     sources: Vec<Source>,
 ) -> Result<Plan, Fault>
-    ensures ok { IfOk result (λ plan. outcome options is_quiet sources.items ≡ Ok plan) }
-    ensures err { IfErr result (λ fault. Faults (outcome options is_quiet sources.items) fault) }
+    ensures { FindsOr (outcome options sources.items) result }
 {
     match convert_each(alloc, options, sources) {
         Ok(targets) => with_names(alloc, options, is_quiet, targets),

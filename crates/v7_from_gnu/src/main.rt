@@ -1,4 +1,5 @@
-//! The program `v7-from-gnu`: makes objects of the Seventh Edition of those in the form of GNU's assembler.
+//! The program `v7-from-gnu`: makes objects of the Seventh Edition of those in the form of GNU's assembler. Only tested: what is said of
+//! files and names.
 #![tactic(auto)]
 
 mod arguments;

@@ -1,44 +1,31 @@
 //! Objects that are stored.
-ghost use Rattle.std.specs.Prelude.{◌≡◌, ◌++◌, IfOk};
-ghost use Rattle.surroundings.specs.Answers.{fault_line, only_errors};
-ghost use Rattle.texts.specs.Texts.{Puts, nothing_written};
-ghost use Rattle.v7_from_gnu.specs.Lines.{program};
-ghost use Rattle.surroundings.specs.Answers.{AnswersOr};
-ghost use Rattle.v7_from_gnu.specs.Runs.{IsStoring, StoresAll, not_stored};
+ghost use Rattle.std.specs.Prelude.{IfOk};
+ghost use Rattle.v7_from_gnu.specs.Answers.{Ends, Gives};
+ghost use Rattle.v7_from_gnu.specs.Runs.{IsStoring, StoresAll};
 
 use crate::converting::{Plan, Target};
 use crate::program::NAME;
 use std::alloc::{AllocError, Global};
-use surroundings::{Answer, Fault, Office, error_answer, put_fault_line, stored_text};
+use surroundings::{Answer, Fault, Office, error_answer, stored_text};
 use texts::Text;
 
 /// The answer with what is reported of names.
 fn said(alloc: Global, remarks: &[u8]) -> Result<Answer, AllocError>
-    ensures { IfOk result (λ a. a ≡ only_errors remarks.now 0) }
+    ensures { IfOk result (Ends 0) }
 {
     let mut text = Text::new(alloc);
     text.put_bytes(remarks);
     error_answer(alloc, text, 0)
 }
 
-/// What is reported of names, and the line of an object that is not stored.
-fn not_stored_lines(alloc: Global, remarks: &[u8], path: &str, why: &str) -> Text
-    ensures { Puts nothing_written result (remarks.now ++ fault_line program path.now why.now) }
+/// The answer with what is reported of names, and the line of an object that is not stored.
+fn not_stored(alloc: Global, remarks: &[u8], path: &str, why: &str) -> Result<Answer, Fault>
+    ensures { Gives 2 result }
 {
     let mut text = Text::new(alloc);
     text.put_bytes(remarks);
-    put_fault_line(&mut text, NAME, path, why);
-    text
-}
-
-/// The answer with what is reported of names, and the line of an object that is not stored.
-fn not_stored(alloc: Global, remarks: &[u8], path: &str, why: &str) -> Result<Answer, Fault>
-    ensures { AnswersOr result (not_stored remarks.now path.now why.now) }
-{
-    match error_answer(alloc, not_stored_lines(alloc, remarks, path, why), 2) {
-        Ok(answer) => Ok(answer),
-        Err(error) => Err(Fault::from(error)),
-    }
+    text.say(format_args!("{NAME}: {path}: {why}\n"));
+    Ok(error_answer(alloc, text, 2)?)
 }
 
 /// Stores the objects in order, up to the first that can't be stored. Without such one the answer is `done`.
@@ -49,9 +36,8 @@ fn store_each<O: Office>(
     targets: &[Target],
     done: Answer,
 ) -> Result<Answer, Fault>
-    requires { done ≡ only_errors remarks.now 0 }
-    ensures { IsStoring remarks.now targets.now
-        (O.history office.old) (O.history office.new) result }
+    requires { Ends 0 done }
+    ensures { IsStoring targets.now (O.history office.old) (O.history office.new) result }
 {
     for target in targets {
         let path = target.source.to.as_str();

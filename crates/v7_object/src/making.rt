@@ -5,7 +5,7 @@ ghost use Rattle.v7_object.specs.Runs.{IsMaking, IsRefusal, IsRefused, IsStoring
 
 use crate::program::NAME;
 use aout_core::File;
-use listings::{Addresses, ListingFault, Mistakes, read_listing, says_something};
+use listings::{Addresses, ListingFault, Mistakes, Reason, read_listing, says_something};
 use std::alloc::{AllocError, Global};
 use surroundings::{Answer, Fault, Office, answer_stored, check_output, error_answer, read_whole};
 use texts::Text;
@@ -20,18 +20,6 @@ fn put_mistake(lines: &mut Text, path: &str, mistake: listings::Fault) {
     lines.say(format_args!("{NAME}: {path}: line {line}, column {column}: {reason}\n"));
 }
 
-/// The answer with the mistakes of a listing.
-fn mistaken(alloc: Global, path: &str, mistakes: &Mistakes) -> Result<Answer, AllocError>
-    ensures { IfOk result IsRefusal }
-{
-    let mut lines = Text::new(alloc);
-    put_mistake(&mut lines, path, mistakes.first);
-    for mistake in &mistakes.others {
-        put_mistake(&mut lines, path, *mistake);
-    }
-    error_answer(alloc, lines, 1)
-}
-
 /// The answer to a listing that has no line but remarks.
 fn silent_listing(alloc: Global, path: &str) -> Result<Answer, AllocError>
     ensures { IfOk result IsRefusal }
@@ -39,6 +27,26 @@ fn silent_listing(alloc: Global, path: &str) -> Result<Answer, AllocError>
     let mut line = Text::new(alloc);
     line.say(format_args!("{NAME}: {path}: no line but remarks\n"));
     error_answer(alloc, line, 1)
+}
+
+/// The answer with the mistakes of a listing. One that has only a head is not said to be cut.
+fn mistaken(
+    alloc: Global,
+    path: &str,
+    text: &[u8],
+    mistakes: &Mistakes,
+) -> Result<Answer, AllocError>
+    ensures { IfOk result IsRefusal }
+{
+    if mistakes.first.reason == Reason::NoEnd && !says_something(text) {
+        return silent_listing(alloc, path);
+    }
+    let mut lines = Text::new(alloc);
+    put_mistake(&mut lines, path, mistakes.first);
+    for mistake in &mistakes.others {
+        put_mistake(&mut lines, path, *mistake);
+    }
+    error_answer(alloc, lines, 1)
 }
 
 /// The file of a listing.
@@ -50,7 +58,7 @@ fn file_in(alloc: Global, addresses: Addresses, path: &str, text: &[u8]) -> Resu
         Ok(file) if says_something(text) => Ok(file),
         Ok(_) => Err(Fault::Answered(silent_listing(alloc, path)?)),
         Err(ListingFault::Wrong(mistakes)) => {
-            Err(Fault::Answered(mistaken(alloc, path, &mistakes)?))
+            Err(Fault::Answered(mistaken(alloc, path, text, &mistakes)?))
         }
         Err(ListingFault::Memory(refused)) => Err(Fault::Memory(refused)),
     }

@@ -8,7 +8,7 @@ returns g c =
       c.in_ok-sources.sources.items,
       between,
       c.in_ok-sources.ensures,
-      inr (c.in_ok-plan.plan, between, (refl, c.in_ok-plan.ensures.ok), c.store_all.ensures),
+      inr (c.in_ok-plan.plan, between, (refl, c.in_ok-plan.ensures), c.store_all.ensures),
     )
 
 pub returns-in_err-sources : goal.returns-in_err-sources
@@ -21,5 +21,5 @@ returns-in_err-plan g c =
       c.in_ok-sources.sources.items,
       between,
       c.in_ok-sources.ensures,
-      inl (c.in_err-plan.field-0.0, (refl, c.in_err-plan.ensures.err), search rules),
+      inl (c.in_err-plan.field-0.0, (refl, c.in_err-plan.ensures), search rules),
     )

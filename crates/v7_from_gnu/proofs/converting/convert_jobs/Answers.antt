@@ -1,14 +1,13 @@
-use Rattle.std.proofs.Common.{rules, ◌≡◌, None, refl, inl, inr}
+use Rattle.std.proofs.Common.{rules, ◌≡◌, false, refl, inl, inr}
 use Rattle.std.specs.Prelude.{Ok, Err}
-use Rattle.surroundings.specs.Answers.{Checks}
-use Rattle.v7_from_gnu.specs.Checks.{ChecksInputs, path_answer}
+use Rattle.v7_from_gnu.specs.{Answers.Refuses, Checks.ChecksInputs, Checks.has_path_twice}
 use Rattle.v7_from_gnu.proofs.converting.convert_jobs.Goals as goal
 
 pub returns : goal.returns
 returns g c =
     let looked = g.O.Office.history c.check_inputs.new.office in
     let inputs : ChecksInputs c.args.jobs.items (g.O.Office.history c.args.office.now) looked (Ok tt) = search rules in
-    let paths : path_answer c.args.jobs.items ≡ None = search rules in
+    let paths : has_path_twice c.args.jobs.items ≡ false = search rules in
     inr (tt, looked, inputs, inr (tt, looked, (refl, paths), c.convert_checked.ensures))
 
 pub returns-in_err-check_inputs : goal.returns-in_err-check_inputs
@@ -23,5 +22,5 @@ returns-in_err-check_paths g c =
     let looked = g.O.Office.history c.check_inputs.new.office in
     let fault = c.in_err-check_paths.field-0.0 in
     let inputs : ChecksInputs c.args.jobs.items (g.O.Office.history c.args.office.now) looked (Ok tt) = search rules in
-    let paths : Checks (path_answer c.args.jobs.items) (Err fault) = search rules in
+    let paths : Refuses 2 (has_path_twice c.args.jobs.items) (Err fault) = search rules in
     inr (tt, looked, inputs, inl (fault, (refl, paths), search rules))

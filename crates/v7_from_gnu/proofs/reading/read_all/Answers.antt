@@ -2,7 +2,7 @@ use Rattle.std.proofs.Common.{rules, ◌≡◌, [], ◌∷◌, ◌++◌, subst, 
 use Rattle.std.specs.Prelude.{Err}
 use Rattle.aout_core.specs.Refusals.{refused}
 use Rattle.surroundings.specs.{Sources.EndsReading, Sources.ReadsAt, declared.answer.Fault.TheVariants.Memory}
-use Rattle.v7_from_gnu.specs.{Lines.program, Readings.IsReading, Readings.source_of, internal.Lists.listed}
+use Rattle.v7_from_gnu.specs.{Answers.program, Readings.IsReading, Readings.source_of, internal.Lists.listed}
 use Rattle.v7_from_gnu.proofs.ReadingLemmas.{reading_ends, reading_more, reading_stops}
 use Rattle.v7_from_gnu.proofs.reading.read_all.Goals as goal
 

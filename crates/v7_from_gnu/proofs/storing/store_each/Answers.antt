@@ -1,6 +1,5 @@
-use Rattle.std.proofs.Common.{rules, ◌≡◌, Some, subst}
-use Rattle.surroundings.specs.{Sources.stored_text, Answers.AnswersOr}
-use Rattle.v7_from_gnu.specs.Runs.{not_stored}
+use Rattle.std.proofs.Common.{rules, ◌≡◌, Some}
+use Rattle.surroundings.specs.Sources.{stored_text}
 use Rattle.v7_from_gnu.proofs.StoringLemmas.{stops_storing}
 use Rattle.v7_from_gnu.proofs.storing.store_each.Goals as goal
 
@@ -10,9 +9,8 @@ returns-in-Some g c =
     let path : c.as_str-path.result.now ≡ c.target-item.result.source.to = search rules in
     let file : c.file.result.now ≡ c.target-item.result.object = search rules in
     let said : stored_text c.store-stored.result ≡ Some c.in-Some.why.now = search rules in
-    stops_storing c.args.remarks.now (g.O.Office.history c.args.office.now) (g.O.Office.history c.loop-target.office)
+    stops_storing (g.O.Office.history c.args.office.now) (g.O.Office.history c.loop-target.office)
     (g.O.Office.history c.store-stored.new.self)
     c.args.targets.now c.loop-target.target-index t c.as_str-path.result.now c.file.result.now c.store-stored.result
     c.in-Some.why.now c.not_stored.result
-    c.loop-target.invariant c.loop-target-test.true c.target-item.is c.store-stored.ensures path file said
-    (subst (λ at. AnswersOr c.not_stored.result (not_stored c.args.remarks.now at c.in-Some.why.now)) path c.not_stored.ensures)
+    c.loop-target.invariant c.loop-target-test.true c.target-item.is c.store-stored.ensures path file said c.not_stored.ensures

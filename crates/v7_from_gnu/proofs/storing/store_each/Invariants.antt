@@ -7,5 +7,5 @@ use Rattle.v7_from_gnu.proofs.storing.store_each.Given as goal
 abbrev pub invariant-loop-target : goal.invariant-loop-target
 invariant-loop-target g l =
     (new : History) → (result : Result Answer Fault) →
-    IsStoring l.fn.remarks (drop l.target-index l.targets) (g.O.Office.history l.office) new result
-    → IsStoring l.fn.remarks l.targets (g.O.Office.history l.initial.office) new result
+    IsStoring (drop l.target-index l.targets) (g.O.Office.history l.office) new result
+    → IsStoring l.targets (g.O.Office.history l.initial.office) new result
