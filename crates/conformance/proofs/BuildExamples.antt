@@ -1,7 +1,7 @@
 -- The law of builds at a sample, and without one of its premises: `ld -r -o m a b` and `ld -o q m`, against `ld -o q a b`.
 use Rattle.std.specs.Prelude.{String, Vec, bytes_eq, codes, cond}
 use Rattle.std.specs.{declared.alloc.Global.Global, List.AllByRecursion}
-use Rattle.std.proofs.Common.{◌≡◌, ◌≤◌, ℕ, false, List, [], ◌∷◌, map, Some, None, Ok, refl, arith, inl, inr, subst}
+use Rattle.std.proofs.Common.{◌≡◌, ◌≤◌, ℕ, List, [], ◌∷◌, map, Some, None, Ok, refl, arith, inl, inr, subst}
 use Rattle.clap.proofs.OnLiterals.{clap_on_literals}
 use Rattle.aout_core.specs.{Contents.Contents, Words.AreBytes, Encoding.encoding}
 use Rattle.command_words.specs.declared.words.Call.TheVariants.{Ld}

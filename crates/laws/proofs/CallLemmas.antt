@@ -11,7 +11,7 @@ use Rattle.aout_core.specs.{Refusals.refused, Wires.Latched}
 use Rattle.surroundings.specs.Events.{History, Extends}
 use Rattle.v7tools.specs.CommandRuns.{AsksFor, IsCallRun, RefusesWords, RunsCall}
 use Rattle.v7tools.specs.{Calls.fault_of_words, LinkRuns.IsLinkRun, LinkRuns.Refuses, SessionRuns.IsSessionRun, declared.fault.CliFault.CliFault}
-use Rattle.laws.specs.{Disks.Run, Calls.AsksToLink, Calls.LinkCallLaw, Calls.SessionCallLaw}
+use Rattle.laws.specs.{Calls.LinkCallLaw, Calls.SessionCallLaw}
 use Rattle.v7tools.specs.declared.fault.CliFault.TheVariants as faults
 
 -- the ids by which the options are known

@@ -48,7 +48,7 @@ fn refuse<H: Runtime + AllocGlobal>(rt: &H, words: &[String]) -> u8
 
 /// Writes the line of a fault, and a hint after it; a page, if the arguments ask for that. It returns the status.
 fn report<H: Runtime + AllocGlobal>(rt: &H, fault: &CliFault) -> u8
-    ensures { result ≤ 2 }
+    ensures small { result ≤ 2 }
     ensures two { (fault.now ≡ Usage) ⊎ (result ≡ 2) }
 {
     if matches!(fault, CliFault::Usage)
@@ -70,7 +70,7 @@ fn attempt_at_terminal<H: Runtime + AllocGlobal, O: Office, W: BufferedWrite>(
     output: &mut Wire<W>,
     words: Vec<String>,
 ) -> u8
-    ensures { result ≤ 2 }
+    ensures small { result ≤ 2 }
     // as `attempt`; the status is 2 for a fault, unless the arguments ask for no call: it may be for a page
     ensures run { (script : Option (List ℕ)) × (done : Result ℕ CliFault)
         × RunsWords W.contents (map string_bytes words.items) script (O.history office.old) (O.history office.new) done output.old output.new
