@@ -60,8 +60,14 @@ LIMITS = [
         "docs/LINK.md": "what is written to a file | 512 bytes; {} |",
     }),
     ("v7_explain/src/explaining.rt", "MOST_BYTES", {
-        "docs/LINK.md": "| a file for `v7-explain`, the largest core file; a file for `v7-lesson` | {} bytes;",
+        "docs/LINK.md": "| a file for `v7-explain`, the largest core file; a file for `v7-lesson`; a listing or an object in GNU's form | {} bytes;",
         "man/v7-explain.1": "The file has more than {} bytes,",
+    }),
+    ("v7_object/src/making.rt", "MOST_BYTES", {
+        "man/v7-object.1": "The listing has more than {} bytes.",
+    }),
+    ("v7_from_gnu/src/reading.rt", "MOST_BYTES", {
+        "man/v7-from-gnu.1": "The file has more than {} bytes.",
     }),
     ("v7_lesson/src/page.rt", "PAGE_LIMIT", {
         "docs/LINK.md": "if it has every order of them | {} bytes;",

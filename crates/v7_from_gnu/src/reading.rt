@@ -9,6 +9,9 @@ use std::alloc::Global;
 use std::marker::Model;
 use surroundings::{Fault, Office, read_whole};
 
+/// The most bytes of an object that is read. The strings may be of any length; the rest is 327,690 bytes at most. (own choice)
+const MOST_BYTES: u32 = 16_777_216;
+
 /// A file that was read, and the path where its object is to go.
 #[derive(Drop)]
 pub(crate) struct Source {
@@ -38,7 +41,7 @@ pub(crate) fn read_all<O: Office>(
     let mut sources = Vec::new(alloc);
     for job in jobs {
         let Job { from, to } = job;
-        let bytes = match read_whole(alloc, office, NAME, from.as_str(), u32::MAX) {
+        let bytes = match read_whole(alloc, office, NAME, from.as_str(), MOST_BYTES) {
             Ok(bytes) => bytes,
             Err(fault) => return Err(fault),
         };

@@ -10,6 +10,9 @@ use std::alloc::{AllocError, Global};
 use surroundings::{Answer, Fault, Office, answer_stored, check_output, error_answer, read_whole};
 use texts::Text;
 
+/// The most bytes of a listing that is read: 250 for each word of the largest file. (own choice)
+const MOST_BYTES: u32 = 16_777_216;
+
 /// Puts the line of a mistake of a listing.
 fn put_mistake(lines: &mut Text, path: &str, mistake: listings::Fault) {
     let listings::Fault {
@@ -92,7 +95,7 @@ pub(crate) fn make_file<O: Office>(
         (O.history office.old) (O.history office.new) result }
 {
     check_output(alloc, office, NAME, listing, to)?;
-    let text = read_whole(alloc, office, NAME, listing, u32::MAX)?;
+    let text = read_whole(alloc, office, NAME, listing, MOST_BYTES)?;
     let file = file_in(alloc, addresses, listing, &text)?;
     store(alloc, office, to, &file)
 }
