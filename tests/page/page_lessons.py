@@ -99,15 +99,15 @@ say PDP-11, r0 and "15" are no numbers; {text 2 = 177774} {after text 2 = 4} {be
 add twice.o
 say It was {was text 6 = 177770}, and is {at text 6 = 6} {text 6 = 2} {_twice = 12} {-n text 2 = 17774}.
 """
-# the numbers of its texts, in their order, but for sizes: these are texts
-NUMBERS = [0o177774, 4, 0, 0o51, 0, 0o12, 0o20000, 0o177770, 6, 2, 0o12, 0o17774]
+# the numbers of its texts, in their order, but for sizes and relocation words: these are texts
+NUMBERS = [0o177774, 4, 0, 0o12, 0o20000, 0o177770, 6, 2, 0o12, 0o17774]
 
 
 def questions_of_all_kinds(tools, files, same):
     """A withdrawn object can come again, a lesson begins with no object, and a text is data, whatever it has."""
     data, _ = states_in(tools.page_of(files, "accepted.html", write(f"{tools.room}/accepted.txt", ACCEPTED)))
     same("a text that could end the script", [line[1] for line in data["lessons"] if "script" in str(line)], ["</script><b>", "<!-- </script> -->"])
-    same("sizes in texts", [part for line in data["lessons"] for part in line if "(" in str(part)], ["012 (10.)", "02 (2.)"])
+    same("relocation words and sizes in texts", [part for line in data["lessons"] for part in line if str(part)[0] == "0" and isinstance(part, str)], ["051", "0", "012 (10.)", "02 (2.)"])
     same("the numbers of texts", [part for line in data["lessons"] if line[0] == "say" for part in line if isinstance(part, int)], NUMBERS)
 
 

@@ -104,20 +104,24 @@ enum Number {
     Word(u16),
     /// A size in bytes, which the page shows in both bases.
     Size(u16),
+    /// A relocation word, which the page shows in octal, as on a card.
+    Reloc(u16),
 }
 
 impl Number {
     fn value(self) -> u16 {
         match self {
-            Number::Word(number) | Number::Size(number) => number,
+            Number::Word(number) | Number::Size(number) | Number::Reloc(number) => number,
         }
     }
 
-    /// Adds it: a size as a text.
+    /// Adds it: a size and a relocation word as a text.
     fn put(self, alloc: Global, out: &mut JsonWriter) -> Result<()> {
         match self {
             Number::Word(word) => out.put_number(u64::from(word)),
             Number::Size(size) => out.put_text(format!(in alloc; "{}", Size(size))?.as_str()),
+            Number::Reloc(0) => out.put_text("0"),
+            Number::Reloc(word) => out.put_text(format!(in alloc; "0{word:o}")?.as_str()),
         }
         Ok(())
     }
@@ -159,8 +163,8 @@ fn relocation_word(session: &Session, word: WordPlace) -> Option<u16> {
     None
 }
 
-/// What is asked of a word of the image: what it is, what it was before the last addition, its offset, that of the word after it, how many
-/// bytes before the beginning of what it refers to its place is, or its relocation word.
+/// What is asked of a word of the image: what it is, what it was before the last addition, its offset, that of the word after it, or how
+/// many bytes before the beginning of what it refers to its place is.
 fn number_of_word(session: &Session, what: &str, word: WordPlace) -> Option<u16> {
     let cell = cell_at(session, word.segment, word.offset)?;
     match what {
@@ -169,7 +173,6 @@ fn number_of_word(session: &Session, what: &str, word: WordPlace) -> Option<u16>
         "at" => Some(word.offset),
         "after" => Some(word.offset.wrapping_add(2)),
         "before" => Some(0u16.wrapping_sub(place_meant(cell, word.offset))),
-        "reloc" => relocation_word(session, word),
         _ => None,
     }
 }
@@ -179,8 +182,9 @@ fn number_in_image(session: &Session, text: &str) -> Option<Number> {
     let (first, rest) = first_word(text);
     let word = match first {
         "size" => return size_named(session, rest),
+        "reloc" => return relocation_word(session, WordPlace::parse(rest)?).map(Number::Reloc),
         "text" | "data" => number_of_word(session, "", WordPlace::parse(text)?),
-        "was" | "at" | "after" | "before" | "reloc" => number_of_word(
+        "was" | "at" | "after" | "before" => number_of_word(
             session,
             first,
             WordPlace::parse(rest)?,
