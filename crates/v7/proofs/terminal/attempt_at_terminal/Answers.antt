@@ -10,7 +10,7 @@ use Rattle.v7.proofs.terminal.attempt_at_terminal.Goals.{then-is_typed, else-is_
 
 module _ {W : Type 0} (contents : W → Option (List ℕ)) (words : List (List ℕ)) (script : Option (List ℕ)) (old new : History)
     (before after : Latched W) (status : ℕ) where
-  Runs : Result ℕ CliFault → Type 0
+  abbrev Runs : Result ℕ CliFault → Type 0
   Runs done = RunsWords contents words script old new done before after
 
   well : (done : Result ℕ CliFault) (answer : ℕ) → Runs done → done ≡ Ok answer → status ≡ answer →
