@@ -58,13 +58,14 @@ NUMBER, FROM_PC, IN_TEXT, IN_DATA, IN_BSS = 0, 1, 2, 4, 6
 TEXT_PART, DATA_PART, BSS_PART, SYMBOLS_PART = 1, 2, 3, 4
 # options of a conversion from GNU's form
 DROP_DEBUGGER, DROP_UNUSED, DROP_LOCALS = 1, 2, 4
-# kinds of remarks: the first seven are wrong, and the last six suspicious
+# kinds of remarks: the first seven are wrong
 REMARK_SHORT_HEADER, REMARK_BAD_MAGIC, REMARK_ODD_SIZE, REMARK_TRUNCATED, REMARK_BAD_RELOCATION, REMARK_BAD_SYMBOL_NUMBER = range(1, 7)
 REMARK_MORE_BAD_WORDS, REMARK_IGNORED_ENTRY, REMARK_IGNORED_WORD, REMARK_BYTES_AFTER_TABLE, REMARK_IGNORED_RELOCATION_BITS = range(7, 12)
 REMARK_OUTSIDE_REFERENCE, REMARK_EMPTY_NAME, REMARK_UNPRINTABLE_NAME, REMARK_BYTES_AFTER_NAME, REMARK_REPEATED_NAME = range(12, 17)
 REMARK_IGNORED_TYPE_BITS, REMARK_UNKNOWN_TYPE, REMARK_ODD_COMMON, REMARK_OUTSIDE_VALUE, REMARK_RELOCATED_FIRST_WORD = range(17, 22)
 REMARK_UNSUITABLE_PC_BIT, REMARK_CUT_INSTRUCTION, REMARK_NO_INSTRUCTION, REMARK_BRANCH_OUTSIDE, REMARK_BRANCH_WITHIN = range(22, 27)
 REMARK_UNSUITABLE_REFERENCE, REMARK_UNSUITABLE_ADDRESS, REMARK_ABSOLUTE_TEXT = range(27, 30)
+REMARK_NO_ROOM, REMARK_UNUSED_NAME, REMARK_UNSUITABLE_JUMP, REMARK_ODD_OPERAND, REMARK_NO_END = range(30, 35)
 # why a name is reported
 MULTIPLY_DEFINED, RESERVED_NAME, ENTRY_NOT_IN_TEXT, UNDEFINED_NAME = 1, 2, 3, 4
 # of a name in a map, and of its uses
@@ -181,7 +182,7 @@ class Map(NamedTuple):
 
 
 class Remark(NamedTuple):
-    """A remark on a file: one of REMARK_SHORT_HEADER to REMARK_ABSOLUTE_TEXT, the byte of the file, and the text; and the part that the
+    """A remark on a file: one of REMARK_SHORT_HEADER to REMARK_NO_END, the byte of the file, and the text; and the part that the
     byte is in, or that its relocation word belongs to, with the index of the word, text before data, or the number of the symbol. A byte
     that is elsewhere has the part 0."""
 

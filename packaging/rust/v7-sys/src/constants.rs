@@ -102,6 +102,11 @@ pub const V7_REMARK_BRANCH_WITHIN: u32 = 26;
 pub const V7_REMARK_UNSUITABLE_REFERENCE: u32 = 27;
 pub const V7_REMARK_UNSUITABLE_ADDRESS: u32 = 28;
 pub const V7_REMARK_ABSOLUTE_TEXT: u32 = 29;
+pub const V7_REMARK_NO_ROOM: u32 = 30;
+pub const V7_REMARK_UNUSED_NAME: u32 = 31;
+pub const V7_REMARK_UNSUITABLE_JUMP: u32 = 32;
+pub const V7_REMARK_ODD_OPERAND: u32 = 33;
+pub const V7_REMARK_NO_END: u32 = 34;
 
 // enum v7_link_option
 pub const V7_RELOCATABLE: u32 = 1;
