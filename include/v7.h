@@ -351,7 +351,14 @@ enum v7_remark_kind {
     V7_REMARK_BRANCH_WITHIN = 26,
     V7_REMARK_UNSUITABLE_REFERENCE = 27,
     V7_REMARK_UNSUITABLE_ADDRESS = 28,
-    V7_REMARK_ABSOLUTE_TEXT = 29
+    V7_REMARK_ABSOLUTE_TEXT = 29,
+    /* odd */
+    V7_REMARK_NO_ROOM = 30,
+    V7_REMARK_UNUSED_NAME = 31,
+    /* suspicious */
+    V7_REMARK_UNSUITABLE_JUMP = 32,
+    V7_REMARK_ODD_OPERAND = 33,
+    V7_REMARK_NO_END = 34
 };
 struct v7_remark {
     size_t place;     /* the byte of the file, from 0 */

@@ -1,5 +1,5 @@
-"""Makes objects of the idioms of real assembler text in tests/oracles/data: each says in its first lines what is right about it. `v7 ld`
-takes each, and has nothing to report. `v7-explain -c` says nothing of it for sure.
+"""Makes objects of the idioms of real assembler text in tests/oracles/data: each says in its first lines what is right about it. Those of
+tests/oracles/right are made already. `v7 ld` takes each, and has nothing to report. `v7-explain -c` says nothing of it for sure.
 
 tier: check, 5 seconds; programs: v7 v7-object v7-explain; for: tests/oracles/data examples/asm.py crates/suspicions crates/findings
 """
@@ -11,8 +11,10 @@ from tests.lib.compare import notices, same
 from tests.lib.files import TOP, read, room, write
 from tests.lib.programs import program, ran
 
-IF = "if this is an instruction"
+IF = ", if this is"
 IDIOMS = sorted(glob.glob(os.path.join(TOP, "tests/oracles/data/*")))
+# objects of GNU's assembler, whose sources are beside them
+RIGHT = sorted(glob.glob(os.path.join(TOP, "tests/oracles/right/*.o")))
 
 
 def made(path):
@@ -32,12 +34,12 @@ def check(path):
 
 
 def main():
-    assert len(IDIOMS) >= 29, IDIOMS
-    for path in IDIOMS:
-        check(made(path))
+    assert len(IDIOMS) >= 29 and len(RIGHT) >= 30, (IDIOMS, RIGHT)
+    for path in [made(path) for path in IDIOMS] + RIGHT:
+        check(path)
     write("damaged.o", b"\1")
     notices(check, "damaged.o")
-    print(f"{len(IDIOMS)} idioms are objects that ld takes, and of which -c says nothing for sure")
+    print(f"{len(IDIOMS) + len(RIGHT)} idioms are objects that ld takes, and of which -c says nothing for sure")
 
 
 if __name__ == "__main__":

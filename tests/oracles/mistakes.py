@@ -2,9 +2,9 @@
 
 tier: check, 120 seconds; programs: v7-explain v7-object v7-from-gnu; for: crates/suspicions crates/findings
 
-The right objects are those of examples/ and of the page, 300 that are made here, the idioms of tests/oracles/data, and the texts of the
-page as GNU's assembler for the PDP-11 assembles them, if it is installed. `-c` may say nothing sure of any of them, and no line at all of
-one that a compiler wrote, with `-t` too.
+The right objects are those of examples/ and of the page, 300 that are made here, and the idioms of tests/oracles/data and right. If
+GNU's assembler for the PDP-11 is installed, it makes the last anew. `-c` may say nothing sure of any of them, and no line at all of one
+that a compiler wrote, with `-t` too.
 
 Each kind of mistake has a row. It says in how many objects the mistake was planted. For `-c`, and then for `-c -t`, it counts the objects
 in which the mistake is found, those with only lines that say "if", and those with no line. The last number is that of the objects in whose
@@ -25,7 +25,7 @@ from tests.lib.files import TOP, read_bytes, room, write
 from tests.lib.objects import unpack
 from tests.lib.programs import program, ran
 from tests.oracles.disassembly import File
-from tests.oracles.idioms import IDIOMS, IF, made as made_idiom
+from tests.oracles.idioms import IDIOMS, IF, RIGHT, made as made_idiom
 from tests.oracles.planting import BSS, DATA, EXTERNAL, MAY_BE_RIGHT, MISTAKES, dice
 from tests.oracles.suspicions import KINDS, surely_wrong
 
@@ -156,8 +156,8 @@ def objects_of(*patterns):
 
 
 def assembled():
-    """The texts of a program in C, by GNU's assembler."""
-    for source in sorted(glob.glob(os.path.join(TOP, "examples/total/*.s"))):
+    """The right objects of tests/oracles/right, by GNU's assembler."""
+    for source in sorted(glob.glob(os.path.join(TOP, "tests/oracles/right/*.s"))):
         same(source, ran(ASSEMBLER, "-o", "gnu.o", source).status, 0)
         same(source, ran(program("v7-from-gnu"), "gnu.o", "ours.o").status, 0)
         yield file_in(read_bytes("ours.o"))
@@ -165,6 +165,10 @@ def assembled():
 
 def idioms():
     """Text that has data too."""
+    if ASSEMBLER:
+        yield from assembled()
+    for path in RIGHT:
+        yield file_in(read_bytes(path))
     for path in IDIOMS:
         yield file_in(read_bytes(made_idiom(path)))
     yield file_in(read_bytes(DATA_IN_TEXT))
@@ -256,8 +260,6 @@ def main():
         "made": ([Maker(number).file() for number in range(300)], False),
         "idioms": (list(idioms()), False),
     }
-    if ASSEMBLER:
-        kinds["by GNU's assembler"] = (list(assembled()), False)
     notices(compare, "a word that is no instruction", File([0o004567, 0o177774, 0o10], [0, 9, 0], [(b"csv", 0o40, 0), (b"_f", 0o42, 0)]), False, set())
     check_right(kinds)
     files = [file for kind, (some, _) in kinds.items() if kind != "idioms" for file in some[:MOST_PLANTED]]

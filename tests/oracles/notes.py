@@ -42,8 +42,10 @@ TYPES = (0, 1, 2, 3, 4, 0o24, 0o37)
 # of bad relocation words, and of odd things, so many are shown one by one
 MOST = 16
 # what is odd of instructions; and what is said if more is odd than is shown
-SUSPICIOUS = re.compile(r"the first word of the|the pc bit of|an instruction leads to|is cut by the end of|the branch at|the word at \d+ (?:counts|is of a call|adds)")
-DOUBT = ", if this is an instruction"
+SUSPICIOUS = re.compile(r"the first word of the|the pc bit of|an instruction leads to|is cut by the end of|the branch at|the word at \d+ (?:counts|is of a call|adds|leads to|jumps)|is of the last instruction of text")
+DOUBT = ", if this is"
+# what right objects may have too
+MEANT = ": a mistake, if this is not meant"
 COMMON = "rounded up to even"
 # what a session answers to a whole file that is not an object
 PROGRAMS_SAID = ("not an object", "no relocation")
@@ -214,23 +216,55 @@ def odd_header(file):
         yield 10, f"the entry point of an object, {file.entry:06o}, is ignored"
     if file.unused:
         yield 12, f"the unused word, {file.unused:06o}, is ignored"
-    more = len(file.data) - file.end
+    more = file.data[file.end:]
     if more:
-        yield file.end, f"0{more:o} ({more}) bytes after the symbol table are not read"
+        yield file.end, f"0{len(more):o} ({len(more)}) bytes after the symbol table are not read" + unless(any(more))
+    end = file.ranges()["bss"][1]
+    if end > 65535:
+        yield 2, f"text, data and bss end at {end:06o}, and have no room in memory" + unless(file.data_size + file.bss > 65535)
+
+
+def unless(sure):
+    """What follows on a remark that a right object may have."""
+    return "" if sure else MEANT
+
+
+def is_moved(file):
+    """Whether a symbol of text lies outside of it, as in text for another address."""
+    return any(kind & 0o37 == 2 and value > file.text for _, _, kind, value in file.symbols())
+
+
+def is_far(file, segment, to):
+    """Whether an address is more than 0400 bytes outside, on either side, in memory that wraps around."""
+    begin, end = file.ranges()[segment]
+    return begin - to > 0o400 if to < begin else to - end > 0o400 and begin + 65536 - to > 0o400
+
+
+def places(file):
+    """Each word, its address and its relocation word; what it refers to, and the segment for which that is."""
+    for at, word, reloc in file.words():
+        address = at if at < file.text else (file.ranges()["data"][0] + at - file.text) % 65536
+        to = (word + address + 2) % 65536 if reloc & 1 else word
+        yield at, address, reloc, to, {2: "text", 4: "data", 6: "bss"}.get(reloc & 0o16)
+
+
+def all_outside(file):
+    """The kinds of words that all refer to addresses outside, two at least."""
+    to = {segment: {to for _, _, _, to, of in places(file) if of == segment} for segment in SEGMENTS.values()}
+    return [segment for segment, (begin, end) in file.ranges().items() if len(to[segment]) > 1 and not any(begin <= one <= end for one in to[segment])]
 
 
 def odd_words(file):
-    for at, word, reloc in file.words():
-        address = at if at < file.text else (file.ranges()["data"][0] + at - file.text) % 65536
+    moved, outside = is_moved(file), all_outside(file)
+    for at, address, reloc, to, segment in places(file):
         if reloc > 0o17 and reloc & 0o16 < 0o10:
             yield file.relocation_at + at, f"relocation word {reloc:06o} of the word at {address:06o}: bits above 17 are ignored"
-        segment = {2: "text", 4: "data", 6: "bss"}.get(reloc & 0o16)
         if segment:
             begin, end = file.ranges()[segment]
-            to = (word + address + 2) % 65536 if reloc & 1 else word
             if not begin <= to <= end:
+                sure = reloc & 1 or not moved and (is_far(file, segment, to) or segment in outside)
                 yield file.relocation_at + at, (f"the word at {address:06o} is of kind {segment} and refers to {to:06o}; "
-                                                f"{segment} lies from {begin:06o} to {end:06o}")
+                                                f"{segment} lies from {begin:06o} to {end:06o}" + unless(sure))
 
 
 def odd_symbol(file, number, symbol, first):
@@ -250,11 +284,16 @@ def odd_symbol(file, number, symbol, first):
         yield 8, f"has type {kind:06o}, which the format does not have; it is taken as absolute"
     if is_undefined(kind) and value % 2:
         yield 10, f"is undefined with value {value:06o}: a common of {value} bytes, rounded up to even"
+    if is_undefined(kind) and value > 0o157777:
+        yield 10, f"is a common of {value} bytes, which have no room in memory"
     segment = SEGMENTS.get(kind & 0o37)
     if segment:
         begin, end = file.ranges()[segment]
         if not begin <= value <= end:
-            yield 10, f"of {segment} has value {value:06o}, and {segment} lies from {begin:06o} to {end:06o}"
+            sure = segment != "text" and not is_moved(file) and (kind & 0o40 or is_far(file, segment, value))
+            yield 10, f"of {segment} has value {value:06o}, and {segment} lies from {begin:06o} to {end:06o}" + unless(sure)
+    if is_undefined(kind) and not value and file.flag == 0 and not any(reloc & 0o16 == 0o10 and reloc >> 4 == number for _, _, reloc in file.words()):
+        yield 0, "is undefined, and no word refers to it" + MEANT
 
 
 def odd_of(file):

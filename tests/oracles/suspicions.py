@@ -25,6 +25,8 @@ KINDS = {
     "reference": r"the word at (\d+) (?:counts from the pc to|is of a call or a jump, and (?:adds|refers to the odd)|adds \d+ to a common)",
     "symbol": r"of text has value (\d+), (?:which is odd|where text ends|within)",
     "text word": r"the word at (\d+) is of kind text and refers to \d+, (?:which is odd|where text ends|within)",
+    "no place": r"the word at (\d+) jumps or calls, and leads to no place of memory",
+    "odd operand": r"the word at (\d+) leads to a word of memory at an odd address",
     "absolute": r"is absolute with value (\d+), which is in text, and no symbol is of text",
 }
 # these are sure by the promise alone: one of two lines that overlap may be data, and a program may put code into data when it runs
@@ -138,8 +140,9 @@ def calls_csv(file, place, own):
     return is_line(file, place) and is_jsr(file, int(place), 5) and named(file, int(place), own) == b"csv"
 
 
-def next_lines(file, place, widely):
-    """Where the instruction at a place goes on, in words: what is surely executed next, or, `widely`, what may be."""
+def next_lines(file, place, widely, promise):
+    """Where the instruction at a place goes on, in words: what is surely executed next, or, `widely`, what may be. Without the promise
+    nothing is sure after a branch, a call and a system call."""
     name, after = instruction(file, place)[0], place + length(file, place)
     target = branch_target(file, place)
     if target is None and (name == "jmp" or is_jsr(file, place, PC) or widely):
@@ -153,7 +156,8 @@ def next_lines(file, place, widely):
         return
     if call == EXIT or name == "sys" and not widely and call in ("", "indir", "exec", "exece"):
         return
-    yield after
+    if promise or not (branch_target(file, place) is not None or is_jsr(file, place, PC) or file.words[place] in SYS):
+        yield after
     if call == FORK:
         yield after + 1
 
@@ -190,7 +194,7 @@ def follow(file, promise, widely, begins, without=()):
             after = place + length(file, place)
             if after < len(file.words) and not any(place < symbol < after for symbol in symbols):
                 waiting.append(after)
-        waiting += next_lines(file, place, widely)
+        waiting += next_lines(file, place, widely, promise)
     return reached
 
 
@@ -246,9 +250,24 @@ def wrong_at(file, place):
             goes = instruction(file, place)[0] in ("jmp", "jsr") and mode in (3, 6)
             if at is not None and register == PC and mode in (3, 6, 7) and (kind := wrong_reference(file, at, goes, mode >= 6)):
                 yield 2 * at, kind
+    yield from wrong_uses(file, place)
     target = branch_target(file, place)
     if target is not None:
         yield 2 * place, "within" if 0 <= target <= len(file.words) else "branch"
+
+
+def wrong_uses(file, place):
+    """A jump that leads to no memory, and words of memory at odd addresses; an external may have an odd one itself."""
+    name = instruction(file, place)[0]
+    goes, is_byte = name in ("jmp", "jsr"), file.words[place] >> 15 and file.words[place] >> 12 != 0o16
+    for at, letter, mode, register in operands(file, place):
+        if goes and letter in "SD" and (mode == 0 or mode == 2 and register == PC):
+            yield 2 * place, "no place"
+        if goes or is_byte or at is None or file.words[at] % 2 == 0:
+            continue
+        low = file.relocation[at]
+        if register == PC and mode in (3, 6) and low & 0o16 != EXTERNAL or register in (5, 6) and mode >= 6 and not low & 0o17:
+            yield 2 * at, "odd operand"
 
 
 def wrong_external(file, at, goes, beyond):
@@ -258,7 +277,8 @@ def wrong_external(file, at, goes, beyond):
     _, kind, value = file.symbols[number] if number < len(file.symbols) else (b"", 0o40, 0)
     size = value if kind & 0o77 == 0o40 else 0
     if goes:
-        return "call of data" if size else "reference" if beyond else None
+        # a function may have a second entry
+        return "call of data" if size else "reference" if beyond % 2 else None
     return "reference" if size and beyond >= size else None
 
 

@@ -45,6 +45,11 @@ BRANCH_WITHIN: the branch at: within another instruction
 UNSUITABLE_REFERENCE: counts from the pc to: to what its instruction cannot mean
 UNSUITABLE_ADDRESS: is of kind text and refers to: at which no instruction begins
 ABSOLUTE_TEXT: no symbol is of text: absolute with an address of the text
+NO_ROOM: have no room in memory: that have no room in memory
+UNUSED_NAME: and no word refers to it: to which no word refers
+UNSUITABLE_JUMP: leads to no place of memory: to a register or to a number
+ODD_OPERAND: leads to a word of memory at an odd address: at an odd address
+NO_END: is of the last instruction of text: is the last one of text
 """
 
 

@@ -294,7 +294,7 @@ moves_clean : (os : List Contents) → IsClean os moves_o
 unfolding row_of in_row call_of
 moves_clean os = record {
   words = words_so moves_o refl;
-  quiet = tt;
+  quiet = (refl, tt);
   parents = each moves_o _ (no_parent moves_o 0 refl, tt);
   jumps = each moves_o _ (no_jump _ moves_o 0 refl, tt);
 }

@@ -4,18 +4,18 @@ use Rattle.std.proofs.Common.{◌∷◌, ◌++◌, take, drop, length, get_or, s
 use Rattle.std.proofs.{lemmas.List.drop_more, lemmas.List.take_more, lemmas.List.length-take, lemmas.Slice.Eq.bytes_eq-Decides}
 use Rattle.std.specs.Prelude.{bytes_eq, Result, Ok, Err, OnOk}
 use Rattle.aout_core.specs.{declared.symbol.Symbol.Symbol, Contents.Contents, WellFormed.first_of, WellFormed.is_external}
-use Rattle.findings.specs.{Found.Found, Odd.first_named_from, Odd.first_named, Odd.odd_symbol, Odd.symbol_at, Odd.odd_symbols, Odd.first_alike}
+use Rattle.findings.specs.{Found.Found, Odd.first_named_from, Odd.first_named, Odd.odd_symbol, Odd.odd_symbols, Odd.first_alike}
 use Rattle.findings.specs.Odd.{has_name}
 use Rattle.std.proofs.lemmas.Bool.{and_parts}
 
 pub symbols_more : (commons : Bool) (c : Contents) (bytes : List ℕ) (symbols : List Symbol) (i : ℕ) (s : Symbol) (old new whole : List Found) →
     i < length symbols → s ≡ get_or symbols i s →
-    new ≡ old ++ odd_symbol commons c.header bytes (first_alike s (take i c.symbols)) (symbol_at c.header i) s → old ++ odd_symbols commons c bytes i
+    new ≡ old ++ odd_symbol commons c bytes (first_alike s (take i c.symbols)) i s → old ++ odd_symbols commons c bytes i
     (drop i symbols) ≡ whole → new ++ odd_symbols commons c bytes (i + 1) (drop (i + 1) symbols) ≡ whole
 symbols_more commons c bytes symbols i s old new whole inside is put so_far =
     let rest : List Found = odd_symbols commons c bytes (i + 1) (drop (i + 1) symbols) in
     ap (λ (l : List Found). l ++ rest) put
-    ∙ append_assoc old (odd_symbol commons c.header bytes (first_alike s (take i c.symbols)) (symbol_at c.header i) s) rest
+    ∙ append_assoc old (odd_symbol commons c bytes (first_alike s (take i c.symbols)) i s) rest
     ∙ ap (λ (l : List Symbol). old ++ odd_symbols commons c bytes i l)
     (sym (drop_more symbols i s inside ∙ ap (λ (x : Symbol). x ∷ drop (i + 1) symbols) (sym is)))
     ∙ so_far
@@ -72,3 +72,11 @@ external_noted (Ok x) s i old new e h =
     λ other. h other
     ∙ ap (λ (b : Bool). if (b && bytes_eq s.name other) && not (is_some (old s.name)) then Some i else old other) (sym e)
 external_noted (Err x) s i old new e h = h
+
+-- four lists that are added one after another
+pub four_parts : (old first second third fourth ks ls ms ns : List Found) → first ≡ old ++ ks → second ≡ first ++ ls →
+    third ≡ second ++ ms → fourth ≡ third ++ ns → fourth ≡ old ++ (ks ++ ls ++ ms ++ ns)
+four_parts old first second third fourth ks ls ms ns a b c d =
+    let two : second ≡ old ++ (ks ++ ls) = b ∙ ap (λ (l : List Found). l ++ ls) a ∙ append_assoc old ks ls in
+    let three : third ≡ old ++ (ks ++ ls ++ ms) = c ∙ ap (λ (l : List Found). l ++ ms) two ∙ append_assoc old (ks ++ ls) ms in
+    d ∙ ap (λ (l : List Found). l ++ ns) three ∙ append_assoc old (ks ++ ls ++ ms) ns

@@ -3,7 +3,7 @@ use Rattle.std.specs.Prelude.{◌≡◌, ℕ, Bool, true, false, if◌then◌els
 use Rattle.findings.specs.{declared.finding.Finding.Finding, declared.finding.FindingKind.FindingKind}
 use Rattle.findings.specs.declared.finding.FindingKind.TheVariants as kinds
 
--- what is wrong has 1 to 7, what is odd 8 to 20, and what is suspicious 21 to 29
+-- what is wrong has 1 to 7, what is odd 8 to 20, 30 and 31, and what is suspicious the others
 abbrev pub kind_number : FindingKind → ℕ
 kind_number kinds.ShortHeader = 1
 kind_number kinds.BadMagic = 2
@@ -34,6 +34,11 @@ kind_number kinds.BranchWithin = 26
 kind_number kinds.UnsuitableReference = 27
 kind_number kinds.UnsuitableAddress = 28
 kind_number kinds.AbsoluteText = 29
+kind_number kinds.NoRoom = 30
+kind_number kinds.UnusedName = 31
+kind_number kinds.UnsuitableJump = 32
+kind_number kinds.OddOperand = 33
+kind_number kinds.NoEnd = 34
 
 pub record Found : Type 0 where
   pub place : ℕ

@@ -2,10 +2,10 @@
 --
 -- The header comes first, then the relocation words of text and of data, and then the symbols. Each finding has the byte of the file
 -- at which the odd field begins.
-use Rattle.std.specs.Prelude.{ℕ, ◌+◌, ◌-◌, ◌*◌, ◌%◌, Bool, true, false, not, ◌&&◌, ◌||◌, eqb, nat_lt, nat_le, if◌then◌else◌, List, [], ◌∷◌}
+use Rattle.std.specs.Prelude.{ℕ, ◌+◌, ◌-◌, ◌*◌, ◌/◌, ◌%◌, Bool, true, false, not, ◌&&◌, ◌||◌, eqb, nat_lt, nat_le, if◌then◌else◌, List, [], ◌∷◌}
 use Rattle.std.specs.Prelude.{◌++◌, take, drop, length, slice_index, bytes_eq, Option, Some, None, is_some}
 use Rattle.std.specs.List.{list_any}
-use Rattle.aout_core.specs.WellFormed.{is_external, is_undefined, kind_of, masked_type, segment_of}
+use Rattle.aout_core.specs.WellFormed.{is_external, is_undefined, kind_of, masked_type, segment_of, symbol_number}
 use Rattle.aout_core.specs.{declared.header.Header.Header, declared.symbol.Symbol.Symbol, declared.symbol.Segment.Segment}
 use Rattle.aout_core.specs.{declared.reloc.Reloc.Reloc, declared.reloc.Kind.Kind, declared.reloc.Kind.TheVariants.External}
 use Rattle.aout_core.specs.{Contents.Contents, Encoding.relocation_at, Encoding.symbols_at, Encoding.file_length, Words.plus}
@@ -13,8 +13,9 @@ use Rattle.aout_core.specs.{Addresses.data_start_in, Addresses.target}
 use Rattle.texts.specs.Names.{is_printable}
 use Rattle.findings.specs.declared.finding.FindingKind.TheVariants.{IgnoredEntry, IgnoredWord, BytesAfterTable, IgnoredRelocationBits}
 use Rattle.findings.specs.declared.finding.FindingKind.TheVariants.{OutsideReference, EmptyName, UnprintableName, BytesAfterName}
-use Rattle.findings.specs.declared.finding.FindingKind.TheVariants.{RepeatedName, IgnoredTypeBits, UnknownType, OddCommon, OutsideValue}
-use Rattle.findings.specs.{Found.Found, Found.found_if, Segments.has_address, Segments.segment_meant}
+use Rattle.findings.specs.declared.finding.FindingKind.TheVariants.{NoRoom, UnusedName, RepeatedName, IgnoredTypeBits, UnknownType, OddCommon, OutsideValue}
+use Rattle.findings.specs.{Found.Found, Found.found_as, Found.found_if, Segments.bss_to, Segments.has_address, Segments.segment_meant}
+use Rattle.findings.specs.Outside.{is_byte, is_sure_word, is_sure_value}
 
 -- the entry point of a file with relocation
 abbrev pub odd_entry : Header → List Found
@@ -23,12 +24,17 @@ odd_entry h = found_if (not (eqb h.entry_point 0) && eqb h.flag 0) 10 IgnoredEnt
 abbrev pub odd_unused : Header → List Found
 odd_unused h = found_if (not (eqb h.unused 0)) 12 IgnoredWord
 
--- a file of so many bytes
-abbrev pub odd_rest : Header → ℕ → List Found
-odd_rest h size = found_if (nat_lt (file_length h) size) (file_length h) BytesAfterTable
+-- bytes after the table; zeros may fill a block
+abbrev pub odd_rest : Header → List ℕ → List Found
+odd_rest h bytes =
+    found_as (list_any is_byte (drop (file_length h) bytes)) (nat_lt (file_length h) (length bytes)) (file_length h) BytesAfterTable
 
-abbrev pub odd_header : Header → ℕ → List Found
-odd_header h size = odd_entry h ++ odd_unused h ++ odd_rest h size
+-- memory has 65,536 bytes; with split spaces text and data may have as many each
+abbrev pub odd_room : Header → List Found
+odd_room h = found_as (nat_lt 65535 (h.data_size + h.bss_size)) (nat_lt 65535 (bss_to h)) 2 NoRoom
+
+abbrev pub odd_header : Header → List ℕ → List Found
+odd_header h bytes = odd_entry h ++ odd_unused h ++ odd_rest h bytes ++ odd_room h
 
 -- the bits above 17 count for an external alone
 abbrev pub ignores_number : Option Kind → Bool
@@ -36,17 +42,20 @@ ignores_number None = false
 ignores_number (Some External) = false
 ignores_number (Some _) = true
 
--- a word at an address, whose relocation word is at this byte: bits that are ignored, and an address outside of its segment
-abbrev pub odd_word : Header → ℕ → ℕ → ℕ → Reloc → List Found
-odd_word h place address word r =
+-- a word at an address, with a place in its segment, whose relocation word is at this byte: bits that are ignored, and an address outside
+-- of its segment
+abbrev pub odd_word : Contents → Bool → ℕ → ℕ → ℕ → ℕ → Reloc → List Found
+odd_word c is_text n place address word r =
     found_if (nat_le 0o20 r.0 && ignores_number (kind_of r)) place IgnoredRelocationBits
-    ++ found_if (not (has_address h (segment_meant (kind_of r)) (target r word address))) place OutsideReference
+    ++ found_as (is_sure_word c is_text n (segment_meant (kind_of r)) r (target r word address))
+    (not (has_address c.header (segment_meant (kind_of r)) (target r word address))) place OutsideReference
 
 -- the words of a segment from number n on, by their relocation words; number 0 has this address, and its relocation word this byte
-abbrev pub odd_words : Header → ℕ → ℕ → List ℕ → ℕ → List Reloc → List Found
-odd_words h place address words n [] = []
-odd_words h place address words n (r ∷ rs) =
-    odd_word h (place + 2 * n) (plus address (2 * n)) (slice_index words n) r ++ odd_words h place address words (n + 1) rs
+abbrev pub odd_words : Contents → Bool → ℕ → ℕ → List ℕ → ℕ → List Reloc → List Found
+odd_words c is_text place address words n [] = []
+odd_words c is_text place address words n (r ∷ rs) =
+    odd_word c is_text n (place + 2 * n) (plus address (2 * n)) (slice_index words n) r
+    ++ odd_words c is_text place address words (n + 1) rs
 
 -- the byte does not print; a backslash does, though names that are shown have it as `\134`
 abbrev pub is_hidden : ℕ → Bool
@@ -60,9 +69,6 @@ after_name bytes place s = if nat_lt (length bytes) (place + 8) then [] else tak
 abbrev pub has_type : Symbol → Bool
 has_type s = nat_lt (masked_type s) 5 || (eqb (masked_type s) 0o24 || eqb (masked_type s) 0o37)
 
-abbrev pub is_byte : ℕ → Bool
-is_byte b = not (eqb b 0)
-
 -- of a symbol whose entry begins at this byte, and whose name an earlier external has or not: what is odd of its name
 abbrev pub odd_name : List ℕ → Bool → ℕ → Symbol → List Found
 odd_name bytes is_again place s =
@@ -72,12 +78,13 @@ odd_name bytes is_again place s =
     ++ found_if is_again place RepeatedName
 
 -- and of its type word and its value; a common of an odd size, if these are wanted
-abbrev pub odd_fields : Bool → Header → ℕ → Symbol → List Found
-odd_fields commons h place s =
+abbrev pub odd_fields : Bool → Contents → ℕ → Symbol → List Found
+odd_fields commons c place s =
     found_if (nat_le 0o100 s.type_bits) (place + 8) IgnoredTypeBits
     ++ found_if (not (has_type s)) (place + 8) UnknownType
     ++ found_if (commons && (is_undefined s && eqb (s.value % 2) 1)) (place + 10) OddCommon
-    ++ found_if (not (has_address h (segment_of s) s.value)) (place + 10) OutsideValue
+    ++ found_if (is_undefined s && nat_lt 0o157777 s.value) (place + 10) NoRoom
+    ++ found_as (is_sure_value c s) (not (has_address c.header (segment_of s) s.value)) (place + 10) OutsideValue
 
 -- an external has a name; names are equal in eight bytes
 abbrev pub has_name : Symbol → List ℕ → Bool
@@ -95,23 +102,34 @@ first_named name symbols = first_named_from 0 name symbols
 abbrev pub first_alike : Symbol → List Symbol → Option ℕ
 first_alike s earlier = if is_external s then first_named s.name earlier else None
 
--- a symbol whose entry begins at this byte, and which follows these in the table
-abbrev pub odd_symbol : Bool → Header → List ℕ → Option ℕ → ℕ → Symbol → List Found
-odd_symbol commons h bytes first place s = odd_name bytes (is_some first) place s ++ odd_fields commons h place s
-
 abbrev pub symbol_at : Header → ℕ → ℕ
 symbol_at h n = symbols_at h + 12 * n
+
+-- a relocation word refers to the symbol of a number
+abbrev pub refers_to : ℕ → Reloc → Bool
+refers_to n r = eqb (r.0 / 2 % 8) 4 && eqb (symbol_number r) n
+
+abbrev pub is_unused : Contents → ℕ → Symbol → Bool
+is_unused c n s =
+    eqb c.header.flag 0 && (is_undefined s && (eqb s.value 0 && not (list_any (refers_to n) c.text_reloc || list_any (refers_to n) c.data_reloc)))
+
+-- symbol number n, which follows these in the table
+abbrev pub odd_symbol : Bool → Contents → List ℕ → Option ℕ → ℕ → Symbol → List Found
+odd_symbol commons c bytes first n s =
+    odd_name bytes (is_some first) (symbol_at c.header n) s
+    ++ odd_fields commons c (symbol_at c.header n) s
+    ++ found_as false (is_unused c n s) (symbol_at c.header n) UnusedName
 
 -- the symbols from number n on
 abbrev pub odd_symbols : Bool → Contents → List ℕ → ℕ → List Symbol → List Found
 odd_symbols commons c bytes n [] = []
 odd_symbols commons c bytes n (s ∷ ss) =
-    odd_symbol commons c.header bytes (first_alike s (take n c.symbols)) (symbol_at c.header n) s ++ odd_symbols commons c bytes (n + 1) ss
+    odd_symbol commons c bytes (first_alike s (take n c.symbols)) n s ++ odd_symbols commons c bytes (n + 1) ss
 
 -- all that is odd, with the commons of odd sizes or without them
 abbrev pub odd : Bool → List ℕ → Contents → List Found
 odd commons bytes c =
-    odd_header c.header (length bytes)
-    ++ odd_words c.header (relocation_at c.header) 0 c.text_words 0 c.text_reloc
-    ++ odd_words c.header (relocation_at c.header + c.header.text_size) (data_start_in c.header % 65536) c.data_words 0 c.data_reloc
+    odd_header c.header bytes
+    ++ odd_words c true (relocation_at c.header) 0 c.text_words 0 c.text_reloc
+    ++ odd_words c false (relocation_at c.header + c.header.text_size) (data_start_in c.header % 65536) c.data_words 0 c.data_reloc
     ++ odd_symbols commons c bytes 0 c.symbols

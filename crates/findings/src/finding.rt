@@ -7,7 +7,8 @@ use std::fmt::Display;
 use std::marker::Model;
 use texts::Text;
 
-/// What is wrong or odd, each with its number in `v7.h`: 1 to 7 are wrong, 8 to 20 odd, 21 to 29 suspicious. v7-explain(1) lists them.
+/// What is wrong or odd, each with its number in `v7.h`: 1 to 7 are wrong, 8 to 20, 30 and 31 odd, and the
+/// others suspicious. v7-explain(1) lists them.
 #[derive(Clone, Copy, Debug, PartialEq, Eq)]
 pub enum FindingKind {
     /// The file ends in its header.
@@ -68,6 +69,16 @@ pub enum FindingKind {
     UnsuitableAddress = 28,
     /// An external is absolute and has an address of the text, and no symbol is of text.
     AbsoluteText = 29,
+    /// Text, data and bss, or a common, have no room in memory.
+    NoRoom = 30,
+    /// No word refers to a name that is undefined.
+    UnusedName = 31,
+    /// A jump or a call goes to a register or to a number.
+    UnsuitableJump = 32,
+    /// An instruction has a word of memory at an odd address.
+    OddOperand = 33,
+    /// The text ends after an instruction that goes on.
+    NoEnd = 34,
 }
 
 impl FindingKind {
@@ -170,10 +181,27 @@ impl Findings {
     )
         ensures { Finds self.old self.new (found_if holds place kind) }
     {
+        self.find_if_as(true, holds, place, kind, says);
+    }
+
+    /// The same of one that is sure or in doubt; then its text ends with an `if`.
+    pub fn find_if_as<D: Display + Drop>(
+        &mut self,
+        is_sure: bool,
+        holds: bool,
+        place: usize,
+        kind: FindingKind,
+        says: D,
+    )
+        ensures { Finds self.old self.new (found_as is_sure holds place kind) }
+    {
         if holds {
             let mut text = self.text();
             text.say(says);
-            self.find(place, kind, text);
+            if !is_sure {
+                text.put(": a mistake, if this is not meant");
+            }
+            self.find_as(is_sure, place, kind, text);
         }
     }
 

@@ -11,7 +11,7 @@
 //! fn oddities(alloc: Global, bytes: &[u8]) -> Result<Notes> {
 //!     let file = read_file(alloc, &mut Wire::new(bytes))?;
 //!     let mut notes = Notes::new(alloc);
-//!     put_findings(&mut notes, "odd", &odd_of(alloc, bytes, &file, true)?);
+//!     put_findings(&mut notes, "odd", &odd_of(alloc, bytes, &Sweep::new(alloc, &file)?, true)?);
 //!     Ok(notes)
 //! }
 //! ```
@@ -24,6 +24,7 @@ pub mod laws;
 mod notes;
 mod odd;
 mod other_files;
+mod outside;
 mod places;
 mod remains;
 mod wrong;

@@ -1,19 +1,25 @@
 //! What is odd of a file, and not refused. Only tested: the texts of the findings.
-ghost use Rattle.std.specs.Prelude.{◌≡◌, ◌+◌, ◌*◌, ◌^◌, ◌<◌, ◌≤◌, ◌&&◌, not, None, Some, length, take};
+ghost use Rattle.std.specs.Prelude.{◌≡◌, ◌+◌, ◌*◌, ◌%◌, ◌^◌, ◌<◌, ◌≤◌, ◌&&◌, not, None, Some, length, slice_index, take, false, true};
 ghost use Rattle.std.specs.Prelude.{if◌then◌else◌, bytes_eq, is_some, IfOk, OnOk, List, ℕ};
 ghost use Rattle.std.specs.List.{list_any};
 ghost use Rattle.std.specs.BTreeMap.{get};
 ghost use Rattle.std.specs.Cmp.Lexicographic.{slice_cmp};
 ghost use Rattle.std.specs.Ordering.{nat_cmp};
 ghost use Rattle.aout_core.specs.WellFormed.{is_external};
+ghost use Rattle.aout_core.specs.Words.{plus};
+ghost use Rattle.aout_core.specs.Encoding.{relocation_at};
+ghost use Rattle.aout_core.specs.Addresses.{data_start_in};
 ghost use Rattle.findings.specs.Found.{all_found, Finds};
 ghost use Rattle.findings.specs.Segments.{segment_meant};
-ghost use Rattle.findings.specs.Odd.{after_name, first_alike, has_name, has_type, ignores_number, is_byte, is_hidden, odd, odd_fields};
-ghost use Rattle.findings.specs.Odd.{odd_header, odd_name, odd_symbol, odd_symbols, odd_word, odd_words, symbol_at};
+ghost use Rattle.findings.specs.Outside.{is_byte};
+ghost use Rattle.findings.specs.Odd.{after_name, first_alike, has_name, has_type, ignores_number, is_hidden, odd, odd_fields};
+ghost use Rattle.findings.specs.Odd.{odd_header, odd_rest, odd_name, refers_to, is_unused, odd_symbol, odd_symbols, odd_word, odd_words, symbol_at};
 
 use crate::finding::{Finding, FindingKind, Findings};
+use crate::outside::{has_byte, is_sure_value, is_sure_word};
 use crate::places::{FilePlaces, Title, has_address, range_of, segment_name, symbol_at};
 use aout_core::{File, Header, Kind, Name, Reloc, Segment, Symbol};
+use disassemblies::Sweep;
 use std::alloc::{AllocError, Global};
 use std::collections::BTreeMap;
 use texts::is_printable;
@@ -45,13 +51,6 @@ fn has_hidden(name: &[u8]) -> bool
         .any(|byte| !is_printable(*byte) && *byte != b'\\')
 }
 
-/// Whether a byte is not NUL.
-fn has_byte(bytes: &[u8]) -> bool
-    ensures { result ≡ list_any is_byte bytes.now }
-{
-    bytes.iter().any(|byte| *byte != 0)
-}
-
 /// Whether the bytes of a name after its NUL are not NULs too.
 fn has_rest(bytes: &[u8], place: usize, symbol: &Symbol) -> bool
     requires { place < 2 ^ 32 }
@@ -77,7 +76,7 @@ fn has_type(symbol: &Symbol) -> bool
 #[derive(Clone, Copy)]
 struct Source<'a> {
     bytes: &'a [u8],
-    file: &'a File,
+    sweep: &'a Sweep<'a>,
     commons: bool,
 }
 
@@ -126,16 +125,17 @@ fn find_name(
 /// Adds what is odd of the type and the value of a symbol.
 fn find_fields(
     findings: &mut Findings,
-    header: &Header,
+    file: &File,
     commons: bool,
     place: usize,
     number: usize,
     symbol: &Symbol,
 )
     requires { place < 2 ^ 32 }
-    ensures { Finds findings.old findings.new (odd_fields commons header.now place symbol.now) }
+    ensures { Finds findings.old findings.new (odd_fields commons file.now place symbol.now) }
 {
     use FindingKind::*;
+    let header = file.header();
     let title = Title { number, symbol };
     let (bits, value, segment) = (symbol.type_bits, symbol.value, symbol.segment());
     let (label, range) = (segment_name(segment), range_of(header, segment));
@@ -162,11 +162,42 @@ fn find_fields(
         ),
     );
     findings.find_if(
+        symbol.is_undefined() && value > 0o157777,
+        place + 10,
+        NoRoom,
+        format_args!("{title} is a common of {value} bytes, which have no room in memory"),
+    );
+    findings.find_if_as(
+        is_sure_value(file, symbol),
         !has_address(header, segment, value),
         place + 10,
         OutsideValue,
         format_args!("{title} of {label} has value {value:06o}, and {label} {range}"),
     );
+}
+
+/// Whether a relocation word refers to the symbol of a number.
+fn refers_to(number: usize, reloc: Reloc) -> bool
+    ensures { result ≡ refers_to number reloc }
+{
+    reloc.0 / 2 % 8 == 4 && usize::from(reloc.number()) == number
+}
+
+/// Whether some relocation word refers to the symbol of a number.
+fn has_reference(relocs: &[Reloc], number: usize) -> bool
+    ensures { result ≡ list_any (refers_to number) relocs.now }
+{
+    relocs.iter().any(|reloc| refers_to(number, *reloc))
+}
+
+/// Whether a symbol of an object is undefined, and no word refers to it.
+fn is_unused(file: &File, number: usize, symbol: &Symbol) -> bool
+    ensures { result ≡ is_unused file.now number symbol.now }
+{
+    file.header().flag == 0
+        && symbol.is_undefined()
+        && symbol.value == 0
+        && !(has_reference(file.text_reloc(), number) || has_reference(file.data_reloc(), number))
 }
 
 /// Adds what is odd of a symbol, whose name an earlier one has first, if one has it.
@@ -178,14 +209,23 @@ fn find_symbol(
     symbol: &Symbol,
 )
     requires few { number < 65536 }
-    requires first { first ≡ first_alike symbol.now (take number source.now.file.now.symbols) }
-    ensures { Finds findings.old findings.new (odd_symbol source.now.commons source.now.file.now.header source.now.bytes.now
-        (first_alike symbol.now (take number source.now.file.now.symbols)) (symbol_at source.now.file.now.header number) symbol.now) }
+    requires first { first ≡ first_alike symbol.now (take number source.now.sweep.now.symbols) }
+    ensures { Finds findings.old findings.new (odd_symbol source.now.commons source.now.sweep.now source.now.bytes.now
+        (first_alike symbol.now (take number source.now.sweep.now.symbols)) number symbol.now) }
 {
-    let header = source.file.header();
+    let file = source.sweep.file();
+    let header = file.header();
     let place = symbol_at(header, number);
     find_name(findings, source.bytes, place, first, number, symbol);
-    find_fields(findings, header, source.commons, place, number, symbol);
+    find_fields(findings, file, source.commons, place, number, symbol);
+    let title = Title { number, symbol };
+    findings.find_if_as(
+        false,
+        is_unused(file, number, symbol),
+        place,
+        FindingKind::UnusedName,
+        format_args!("{title} is undefined, and no word refers to it"),
+    );
 }
 
 /// The number that was noted first with a name, which is noted if none was.
@@ -228,11 +268,11 @@ fn first_alike(
 /// Adds what is odd of the symbols.
 fn find_symbols(findings: &mut Findings, source: &Source<'_>)
     ensures { Finds findings.old findings.new
-        (odd_symbols source.now.commons source.now.file.now source.now.bytes.now 0
-        source.now.file.now.symbols) }
+        (odd_symbols source.now.commons source.now.sweep.now source.now.bytes.now 0
+        source.now.sweep.now.symbols) }
 {
     let mut seen = BTreeMap::new(findings.allocator());
-    let symbols = source.file.symbols();
+    let symbols = source.sweep.file().symbols();
     for (number, symbol) in symbols.iter().enumerate() {
         match first_alike(&mut seen, symbol, number) {
             Ok(first) => find_symbol(findings, source, number, first, symbol),
@@ -241,17 +281,36 @@ fn find_symbols(findings: &mut Findings, source: &Source<'_>)
     }
 }
 
-/// Adds what is odd of a word at an address, whose relocation word has a place in the file.
+/// The words of text or of data, from this address on, and their relocation words, from this place of the file on.
+#[derive(Clone, Copy)]
+struct Contents<'a> {
+    is_text: bool,
+    start: u16,
+    words: &'a [u16],
+    relocs: &'a [Reloc],
+    place: usize,
+}
+
+/// Adds what is odd of a word of text or of data.
 fn find_word(
     findings: &mut Findings,
-    header: &Header,
-    place: usize,
-    address: u16,
-    word: u16,
+    sweep: &Sweep<'_>,
+    contents: &Contents<'_>,
+    number: usize,
     reloc: Reloc,
 )
-    ensures { Finds findings.old findings.new (odd_word header.now place address word reloc) }
+    requires inside { number < length contents.now.words.now }
+    requires short { length contents.now.words.now < 32768 }
+    requires near { contents.now.place < 2 ^ 20 }
+    requires text { contents.now.is_text ≡ true → length contents.now.words.now ≡ length sweep.now.text_words }
+    ensures { Finds findings.old findings.new (odd_word sweep.now contents.now.is_text number
+        (contents.now.place + 2 * number) (plus contents.now.start (2 * number))
+        (slice_index contents.now.words.now number) reloc) }
 {
+    let word = contents.words[number];
+    let place = contents.place + 2 * number;
+    let address = contents.start.wrapping_add((2 * number) as u16);
+    let header = sweep.file().header();
     let segment = segment_meant(reloc.kind());
     let (label, range) = (segment_name(segment), range_of(header, segment));
     let target = reloc.target(word, address);
@@ -264,57 +323,58 @@ fn find_word(
             "relocation word {bits:06o} of the word at {address:06o}: bits above 17 are ignored"
         ),
     );
-    findings.find_if(
-        !has_address(header, segment, target),
-        place,
-        FindingKind::OutsideReference,
-        format_args!(
-            "the word at {address:06o} is of kind {label} and refers to {target:06o}; {label} {range}"
-        ),
-    );
-}
-
-/// The words of a segment, from this address on, and their relocation words, from this place of the file on.
-#[derive(Clone, Copy)]
-struct Contents<'a> {
-    start: u16,
-    words: &'a [u16],
-    relocs: &'a [Reloc],
-    place: usize,
-}
-
-/// Adds what is odd of the words of a segment.
-fn find_words(findings: &mut Findings, header: &Header, contents: &Contents<'_>)
-    requires each { length contents.now.relocs.now ≤ length contents.now.words.now }
-    requires short { length contents.now.words.now < 32768 }
-    requires near { contents.now.place < 2 ^ 20 }
-    ensures { Finds findings.old findings.new (odd_words header.now contents.now.place
-        contents.now.start contents.now.words.now 0 contents.now.relocs.now) }
-{
-    for (number, reloc) in contents.relocs.iter().enumerate() {
-        let address = contents.start.wrapping_add((2 * number) as u16);
-        let word = contents.words[number];
-        find_word(
-            findings,
-            header,
-            contents.place + 2 * number,
-            address,
-            word,
-            *reloc,
+    if !has_address(header, segment, target) {
+        findings.find_if_as(
+            is_sure_word(sweep, contents.is_text, number, segment, reloc, target),
+            true,
+            place,
+            FindingKind::OutsideReference,
+            format_args!(
+                "the word at {address:06o} is of kind {label} and refers to {target:06o}; {label} {range}"
+            ),
         );
     }
 }
 
-/// Adds words of the header that are ignored, and bytes after the table of a file of so many bytes.
-fn find_ignored(findings: &mut Findings, header: &Header, size: usize)
-    ensures { Finds findings.old findings.new (odd_header header.now size) }
+/// Adds what is odd of the words of text or of data.
+fn find_words(findings: &mut Findings, sweep: &Sweep<'_>, contents: &Contents<'_>)
+    requires each { length contents.now.relocs.now ≤ length contents.now.words.now }
+    requires short { length contents.now.words.now < 32768 }
+    requires near { contents.now.place < 2 ^ 20 }
+    requires text { contents.now.is_text ≡ true → length contents.now.words.now ≡ length sweep.now.text_words }
+    ensures { Finds findings.old findings.new (odd_words sweep.now contents.now.is_text
+        contents.now.place contents.now.start contents.now.words.now 0 contents.now.relocs.now) }
 {
-    let (entry, unused, end) = (
-        header.entry_point,
-        header.unused,
-        FilePlaces::of(header).end,
+    for (number, reloc) in contents.relocs.iter().enumerate() {
+        find_word(findings, sweep, contents, number, *reloc);
+    }
+}
+
+/// Adds bytes after the table of a file with this header. Zeros may fill a block.
+fn find_rest(findings: &mut Findings, header: &Header, bytes: &[u8])
+    ensures { Finds findings.old findings.new (odd_rest header.now bytes.now) }
+{
+    let end = FilePlaces::of(header).end;
+    let is_longer = bytes.len() > end;
+    if !is_longer {
+        return;
+    }
+    let rest = &bytes[end..];
+    let more = rest.len();
+    findings.find_if_as(
+        has_byte(rest),
+        true,
+        end,
+        FindingKind::BytesAfterTable,
+        format_args!("0{more:o} ({more}) bytes after the symbol table are not read"),
     );
-    let more = size.saturating_sub(end);
+}
+
+/// Adds words of the header that are ignored, and those of these bytes that come after the table.
+fn find_ignored(findings: &mut Findings, header: &Header, bytes: &[u8])
+    ensures { Finds findings.old findings.new (odd_header header.now bytes.now) }
+{
+    let (entry, unused) = (header.entry_point, header.unused);
     findings.find_if(
         entry != 0 && header.flag == 0,
         10,
@@ -327,38 +387,59 @@ fn find_ignored(findings: &mut Findings, header: &Header, size: usize)
         FindingKind::IgnoredWord,
         format_args!("the unused word, {unused:06o}, is ignored"),
     );
-    findings.find_if(
-        size > end,
-        end,
-        FindingKind::BytesAfterTable,
-        format_args!("0{more:o} ({more}) bytes after the symbol table are not read"),
+    find_rest(findings, header, bytes);
+    let end = range_of(header, Segment::BssSeg).end;
+    findings.find_if_as(
+        u32::from(header.data_size) + u32::from(header.bss_size) > 65535,
+        end > 65535,
+        2,
+        FindingKind::NoRoom,
+        format_args!("text, data and bss end at {end:06o}, and have no room in memory"),
     );
+}
+
+/// Adds what is odd of the words of text.
+fn find_text(findings: &mut Findings, sweep: &Sweep<'_>)
+    ensures { Finds findings.old findings.new (odd_words sweep.now true
+        (relocation_at sweep.now.header) 0 sweep.now.text_words 0 sweep.now.text_reloc) }
+{
+    let file = sweep.file();
+    let text = Contents {
+        is_text: true,
+        start: 0,
+        words: file.text_words(),
+        relocs: file.text_reloc(),
+        place: FilePlaces::of(file.header()).relocation,
+    };
+    find_words(findings, sweep, &text);
+}
+
+/// Adds what is odd of the words of data.
+fn find_data(findings: &mut Findings, sweep: &Sweep<'_>)
+    ensures { Finds findings.old findings.new (odd_words sweep.now false
+        (relocation_at sweep.now.header + sweep.now.header.text_size)
+        (data_start_in sweep.now.header % 65536) sweep.now.data_words 0 sweep.now.data_reloc) }
+{
+    let file = sweep.file();
+    let header = file.header();
+    let data = Contents {
+        is_text: false,
+        start: (header.data_start() % 65536) as u16,
+        words: file.data_words(),
+        relocs: file.data_reloc(),
+        place: FilePlaces::of(header).relocation + usize::from(header.text_size),
+    };
+    find_words(findings, sweep, &data);
 }
 
 /// Adds what is odd of a file, which the bytes begin with.
 fn find_odd(findings: &mut Findings, source: &Source<'_>)
     ensures { Finds findings.old findings.new
-        (odd source.now.commons source.now.bytes.now source.now.file.now) }
+        (odd source.now.commons source.now.bytes.now source.now.sweep.now) }
 {
-    let file = source.file;
-    let header = file.header();
-    let relocation = FilePlaces::of(header).relocation;
-    let text_size = usize::from(header.text_size);
-    find_ignored(findings, header, source.bytes.len());
-    let text = Contents {
-        start: 0,
-        words: file.text_words(),
-        relocs: file.text_reloc(),
-        place: relocation,
-    };
-    find_words(findings, header, &text);
-    let data = Contents {
-        start: (header.data_start() % 65536) as u16,
-        words: file.data_words(),
-        relocs: file.data_reloc(),
-        place: relocation + text_size,
-    };
-    find_words(findings, header, &data);
+    find_ignored(findings, source.sweep.file().header(), source.bytes);
+    find_text(findings, source.sweep);
+    find_data(findings, source.sweep);
     find_symbols(findings, source);
 }
 
@@ -366,16 +447,16 @@ fn find_odd(findings: &mut Findings, source: &Source<'_>)
 pub fn odd_of(
     alloc: Global,
     bytes: &[u8],
-    file: &File,
+    sweep: &Sweep<'_>,
     commons: bool,
 ) -> Result<Vec<Finding>, AllocError>
     ensures { IfOk result (λ findings.
-        all_found findings.items ≡ odd commons bytes.now file.now) }
+        all_found findings.items ≡ odd commons bytes.now sweep.now) }
 {
     let mut findings = Findings::new(alloc);
     let source = Source {
         bytes,
-        file,
+        sweep,
         commons,
     };
     find_odd(&mut findings, &source);

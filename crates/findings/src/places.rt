@@ -4,6 +4,7 @@ ghost use Rattle.aout_core.specs.Addresses.{data_start_in};
 ghost use Rattle.aout_core.specs.Encoding.{relocation_at, symbols_at, file_length};
 ghost use Rattle.findings.specs.Segments.{data_to, bss_to, has_address};
 ghost use Rattle.findings.specs.Odd.{symbol_at};
+ghost use Rattle.findings.specs.Outside.{first_of, last_of};
 
 use aout_core::{Header, Segment, Symbol};
 use std::fmt::{self, Display, Formatter, Write};
@@ -114,8 +115,11 @@ impl Segments {
     }
 }
 
-/// Where a segment of a file with this header lies, for a note.
-pub(crate) fn range_of(header: &Header, segment: Segment) -> Range {
+/// Where a segment of a file with this header lies; text for one without addresses of its own.
+pub(crate) fn range_of(header: &Header, segment: Segment) -> Range
+    ensures start { result.start ≡ first_of header.now segment }
+    ensures end { result.end ≡ last_of header.now segment }
+{
     let segments = Segments::of(header);
     match segment {
         Segment::DataSeg => segments.data,

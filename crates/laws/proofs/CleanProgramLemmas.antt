@@ -26,10 +26,10 @@ use Rattle.instructions.specs.Lines.{word_for}
 use Rattle.instructions.specs.declared.mode.Addressing.TheVariants.{Immediate, Absolute, Relative, RelativeDeferred, Indexed}
 use Rattle.instructions.proofs.AlikeLemmas.{get_inside}
 use Rattle.disassemblies.specs.Lines.{unix_line_in}
-use Rattle.suspicions.specs.declared.evidence.Evidence.TheVariants.{Flow, Promise}
+use Rattle.suspicions.specs.declared.evidence.Evidence.TheVariants.{Names, Promise}
 use Rattle.suspicions.specs.{ReachedLaw.is_place, ReachedLaw.IsReached, ReachedLaw.Evident, ReachedLaw.Led, Trust.is_sure}
 use Rattle.suspicions.specs.{Reached.is_reached, SureLaw.IsInside, SureLaw.AreInside, SureLaw.targets}
-use Rattle.suspicions.specs.Reached.{is_text, named, nameless, branch_of, leads_by, leads_to, jump, jump_of}
+use Rattle.suspicions.specs.Reached.{is_text, named, nameless, branch_of, leads_by, leads_to, jump, jump_of, shown_from}
 use Rattle.suspicions.specs.Suspicions.{is_foreign, is_immediate}
 use Rattle.suspicions.proofs.{ReachLemmas.reached_law, SureLemmas.sure_below, SureLemmas.sure_places, SureLemmas.sure_words}
 use Rattle.laws.specs.{Core.of_instructions, Core.IsWordAt, Operands.Defines, OperandWords.machine_value}
@@ -41,7 +41,7 @@ use Rattle.laws.proofs.{InstructionLemmas.text_within, InstructionLemmas.word_sm
 use Rattle.laws.proofs.{LoadedLemmas.word_there, LoadedLemmas.found_in, OperandPlaceLemmas.one_word}
 use Rattle.laws.proofs.ReachedInstructionLemmas.{decoded, value_small, reached_instructions_kept, sure_places_begin}
 use Rattle.laws.proofs.FlowLemmas.{Lines, Calls, Instructs, Ends, whole_at, lines_at}
-use Rattle.laws.proofs.LeadLemmas.{or-nothing, placed, place_is, Within, call_leads, JumpBy, instruction_leads}
+use Rattle.laws.proofs.LeadLemmas.{or_none, none_shown, placed, place_is, Within, call_leads, JumpBy, instruction_leads}
 use Rattle.aout_core.specs.declared.reloc.Kind.TheVariants as kinds
 use Rattle.instructions.specs.declared.operand.Operand.TheVariants as operands
 
@@ -316,7 +316,7 @@ module _ (forced : List (List ℕ)) (before : List Contents) (k : Contents) (aft
 
   -- where the line leads in the program
   module _ (q : ℕ) (below : q < length x.file.text_words)
-      (led : list_any (is_place q) (leads_to Flow (stripped x.file) (total TextSeg before / 2 + i)) ≡ true) where
+      (led : list_any (is_place q) (leads_to Names (stripped x.file) (total TextSeg before / 2 + i)) ≡ true) where
     abbrev p : ℕ
     p = total TextSeg before / 2 + i
 
@@ -326,7 +326,7 @@ module _ (forced : List (List ℕ)) (before : List Contents) (k : Contents) (aft
         (call_leads x.file k (total TextSeg before / 2) p i q c refl
         (let place = sure_below Promise k i sure in omega (arith, place, long, length-drop (i + 1) k.text_words))
         (clean.parents i r c here)
-        (subst (λ (line : UnixLine). list_any (is_place q) (leads_by Flow (stripped x.file) p line) ≡ true) there led))
+        (subst (λ (line : UnixLine). list_any (is_place q) (leads_by Names (stripped x.file) p line) ≡ true) there led))
     by_lines (Instructs instruction w f g is uncut at_object at_program here there) =
         let fits = file_fits forced (before ++ k ∷ after) o x good l small in
         let inside = ends_within forced (before ++ k ∷ after) o x good l small before k after refl in
@@ -336,7 +336,7 @@ module _ (forced : List (List ℕ)) (before : List Contents) (k : Contents) (aft
         (omega (arith, fits, inside)) at_object at_program is
         (line_whole k.text_words i w f instruction (sure_below Promise k i sure) at_object is uncut) (only_end k (branch_of (2 * i) instruction.first) inner.0)
         (only_end k (branch_of (2 * i) instruction.second) inner.1.0)
-        (subst (λ (line : UnixLine). list_any (is_place q) (leads_by Flow (stripped x.file) p line) ≡ true) there led)) [
+        (subst (λ (line : UnixLine). list_any (is_place q) (leads_by Names (stripped x.file) p line) ≡ true) there led)) [
           | inl own ↦ within_object q below (Machine (decoded instruction f)) here own
           | inr by ↦ jump_arrives q below instruction w f at_object is uncut here by
         ]
@@ -367,7 +367,7 @@ step_from : (forced : List (List ℕ)) (os : List Contents) (o : Choices) (x : O
     (after : List Contents) → os ≡ before ++ k ∷ after → AllByRecursion IsObject os → IsClean os k → o.keep ≢ Nothing →
     IsLinkedFrom forced os o x → x.report.multiples ≡ [] → x.file.header.text_size ≤ 65535 → (i : ℕ) → IsReached Promise k i →
     (q : ℕ) → q < length x.file.text_words →
-    list_any (is_place q) (leads_to Flow (stripped x.file) (total TextSeg before / 2 + i)) ≡ true → IsAt os q
+    list_any (is_place q) (leads_to Names (stripped x.file) (total TextSeg before / 2 + i)) ≡ true → IsAt os q
 step_from forced os o x before k after all good clean kept l once small i r q below led =
     subst (λ (ys : List Contents). AllByRecursion IsObject ys → IsClean ys k → IsLinkedFrom forced ys o x → IsAt ys q) (sym all)
     (λ g c m. leads_there forced before k after o x g c kept m once small i r q below led) good clean l
@@ -387,10 +387,11 @@ module _ (forced : List (List ℕ)) (os : List Contents) (o : Choices) (x : Outc
   clean_in before k after all =
       (all_split (IsClean os) before (k ∷ after) (subst (λ (ys : List Contents). AllByRecursion (IsClean os) ys) all clean)).1.0
 
-  run_at : (place : ℕ) → IsReached Flow (stripped x.file) place → IsAt os place
+  run_at : (place : ℕ) → IsReached Names (stripped x.file) place → IsAt os place
   run_at place (Evident p below led) =
       let is : x.file.header.entry_point ≡ 2 * p =
-      placed p x.file.header.entry_point (or-nothing (is_place p (Some x.file.header.entry_point)) led) in
+      placed p x.file.header.entry_point (or_none (is_place p (Some x.file.header.entry_point))
+      (list_any (is_place p) (shown_from (stripped x.file) 0 x.file.text_words)) (none_shown x.file p 0 x.file.text_words) led) in
       let fits = file_fits forced os o x good l small in
       elim begins [
         | inl first ↦ starts_next forced os o x good l small [] os p refl (omega (arith, is, first)) below
@@ -401,7 +402,7 @@ module _ (forced : List (List ℕ)) (os : List Contents) (o : Choices) (x : Outc
       go : IsAt os from → IsAt os p
       go a =
           step_from forced os o x a.before a.k a.after a.all good (clean_in a.before a.k a.after a.all) kept l once small a.i a.reached p below
-          (subst (λ (n : ℕ). list_any (is_place p) (leads_to Flow (stripped x.file) n) ≡ true) a.at led)
+          (subst (λ (n : ℕ). list_any (is_place p) (leads_to Names (stripped x.file) n) ≡ true) a.at led)
 
   of_object : (place : ℕ) → IsAt os place → IsOfObject o x l.rows os place
   of_object place a = search (rules, kept_from, clean_in)

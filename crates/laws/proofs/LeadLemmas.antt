@@ -1,6 +1,6 @@
 -- Where a line of a program leads: within the text of its object, or by a jump or a call.
-use Rattle.std.proofs.Common.{rules, ◌≡◌, ℕ, suc, ◌+◌, ◌-◌, ◌*◌, ◌/◌, ◌%◌, ◌<◌, ◌≤◌, ◌⊎◌, inl, inr, Bool, true, false, ◌||◌, eqb, nat_lt}
-use Rattle.std.proofs.Common.{if◌then◌else◌, List, ◌∷◌, length, drop, Option, Some, None, refl, sym, ◌∙◌, ap, subst, arith}
+use Rattle.std.proofs.Common.{rules, ◌≡◌, ℕ, suc, ◌+◌, ◌-◌, ◌*◌, ◌/◌, ◌%◌, ◌<◌, ◌≤◌, ◌⊎◌, inl, inr, Bool, true, false, ◌||◌, ◌&&◌, eqb, nat_lt}
+use Rattle.std.proofs.Common.{if◌then◌else◌, List, [], ◌∷◌, length, drop, Option, Some, None, refl, sym, ◌∙◌, ap, subst, arith}
 use Rattle.std.proofs.Math.Bool.{and-false}
 use Rattle.std.proofs.{lemmas.Bool.and_parts, lemmas.Bool.and_from, lemmas.Bool.or_cases}
 use Rattle.std.proofs.lemmas.Bool.{eq-eqb, lt-ltb, or_left, or_right}
@@ -12,10 +12,12 @@ use Rattle.instructions.specs.{Lines.word_for, Texts.number, Rows.row_of, declar
 use Rattle.instructions.specs.{declared.operation.Operation.Operation, declared.operand.Operand.Operand}
 use Rattle.instructions.specs.{declared.instruction.Instruction.Instruction, declared.call.SystemCall.SystemCall}
 use Rattle.instructions.specs.{declared.call_table.CallRow.CallRow, declared.unix.UnixLine.TheVariants.Machine}
+use Rattle.instructions.specs.{declared.unix.UnixLine.UnixLine, declared.unix.Decoder.TheVariants.Unix, declared.line.Line.TheVariants.Decoded}
+use Rattle.disassemblies.specs.{Listed.listed_line, Starts.starts, Starts.is_start}
 use Rattle.instructions.specs.{declared.unix.UnixLine.TheVariants.Call, Operands.takes_word}
 use Rattle.suspicions.specs.{ReachedLaw.is_place, Reached.passes, Reached.flows, Reached.calls_csv, Reached.calls_by_r5}
-use Rattle.suspicions.specs.Reached.{returns, next_of, parent_of, branch_of, jump, leads_by}
-use Rattle.suspicions.specs.declared.evidence.Evidence.TheVariants.{Flow, Promise}
+use Rattle.suspicions.specs.Reached.{returns, next_of, parent_of, branch_of, jump, leads_by, has_distance, is_shown_by, shown_from}
+use Rattle.suspicions.specs.declared.evidence.Evidence.TheVariants.{Names, Promise}
 use Rattle.instructions.proofs.AlikeLemmas.{get_from}
 use Rattle.laws.specs.{OperandPlaces.addressing_of, OperandPlaces.IsDirect, OperandPlaces.IsOperand, OperandWords.machine_value}
 use Rattle.laws.proofs.{ReachedInstructionLemmas.decoded, OperandPlaceLemmas.takes_its_word}
@@ -39,6 +41,34 @@ leads_on false q address e = absurd cc
 leads_on_back : (t : Bool) (q address : ℕ) → t ≡ true → address ≡ 2 * q → is_place q (if t then Some address else None) ≡ true
 leads_on_back true q address e is = place_is q address is
 leads_on_back false q address e is = absurd cc
+
+-- no word of a file without relocation shows a place
+
+no_distance : (c : Contents) (place : ℕ) (o : Option Operand) → has_distance (stripped c) place o ≡ false
+no_distance c place (Some (operands.General m r)) = refl
+no_distance c place _ = refl
+
+no_mark : (c : Contents) (place : ℕ) (line : UnixLine) → is_shown_by (stripped c) place line ≡ false
+no_mark c place (Machine (Decoded i a b)) =
+    ap (λ (t : Bool). t || has_distance (stripped c) (place + 1 + word_count_of i.first) i.second) (no_distance c (place + 1) i.first)
+    ∙ no_distance c (place + 1 + word_count_of i.first) i.second
+no_mark c place _ = refl
+
+pub none_shown : (c : Contents) (q place : ℕ) (ws : List ℕ) → list_any (is_place q) (shown_from (stripped c) place ws) ≡ false
+none_shown c q place [] = refl
+none_shown c q place (w ∷ ws) =
+    by (is_start (starts Unix (stripped c)) place) (is_shown_by (stripped c) place (listed_line Unix (stripped c) place))
+    (no_mark c place (listed_line Unix (stripped c) place))
+  where
+    by : (s m : Bool) → m ≡ false →
+        (is_place q (if s && m then Some (2 * place) else None) || list_any (is_place q) (shown_from (stripped c) (place + 1) ws)) ≡ false
+    by true true e = absurd cc
+    by true false e = none_shown c q (place + 1) ws
+    by false m e = none_shown c q (place + 1) ws
+
+pub or_none : (a b : Bool) → b ≡ false → (a || b) ≡ true → a ≡ true
+or_none true b n e = refl
+or_none false b n e = let bad : true ≡ false = sym e ∙ n in absurd cc
 
 -- an address of the program that is one of the object or the end of its text, moved with the text
 pub record Within (start length q : ℕ) (own : List (Option ℕ)) : Type 0 where
@@ -73,7 +103,7 @@ parent_leads file k start p i q _ at inside e = absurd cc
 -- a call leads on within the text, or to its end
 pub call_leads : (file k : Contents) (start p i q : ℕ) (c : CallRow) → p ≡ start + i →
     i + (1 + c.words) ≤ length k.text_words →
-    (c.call ≡ calls.Fork → i + 2 ≤ length k.text_words) → list_any (is_place q) (leads_by Flow (stripped file) p (Call c)) ≡ true →
+    (c.call ≡ calls.Fork → i + 2 ≤ length k.text_words) → list_any (is_place q) (leads_by Names (stripped file) p (Call c)) ≡ true →
     Within start (length k.text_words) q (leads_by Promise k i (Call c))
 call_leads file k start p i q c at whole parent e = elim (or_cases
     (is_place q (if returns c.call || false then Some (2 * (p + (1 + c.words))) else None)) (is_place q (parent_of (stripped file) p c.call) || false) e) [
@@ -281,7 +311,7 @@ module _ (file k : Contents) (start p i q w : ℕ) (f g : List ℕ) (instruction
   abbrev next : Bool
   next = is_place q (if flows (stripped file) p instruction || false then Some (2 * (p + line_size)) else None)
 
-  pub instruction_leads : list_any (is_place q) (leads_by Flow (stripped file) p (Machine (decoded instruction g))) ≡ true →
+  pub instruction_leads : list_any (is_place q) (leads_by Names (stripped file) p (Machine (decoded instruction g))) ≡ true →
       Within start (length k.text_words) q own ⊎ JumpsBy
   instruction_leads e =
       let short = short_in (row_of w) w instruction is in

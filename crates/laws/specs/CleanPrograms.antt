@@ -1,9 +1,10 @@
 -- What control reaches in a program of clean objects. (ld(1), the handbook of the PDP-11/70; what is suspicious for sure, and which
 -- places are reached: `suspicions`)
 --
--- Control begins at the entry point. A line leads to the one after it if control comes there for sure, to the target of its branch, and
--- to that of `jsr` or `jmp` by modes 37 and 67. The way ends at `jsr r5,f`: control goes to `f`, and nobody knows whether it comes back to
--- the next word. All of that is `IsReached` of the file without its symbols, for these could say more than the words.
+-- Control begins at the entry point. A line leads to the one after it if control comes there, as after a branch and after `jsr pc,f`, to the
+-- target of its branch, and to that of `jsr` or `jmp` by modes 37 and 67. The way ends at `jsr r5,f`: control goes to `f`, and nobody knows
+-- whether it comes back to the next word. All of that is `IsReached` of the file without its symbols and its relocation, for these could
+-- say more than the words.
 --
 -- All of each object's text is taken to be instructions, as by `-t`. Two things are asked besides. A jump or a call refers to its own text, or
 -- to a name of text. After `sys fork` the parent's word is in the text, or is the first one after it.
@@ -22,7 +23,7 @@ use Rattle.instructions.specs.{declared.unix.Decoder.TheVariants.Unix, declared.
 use Rattle.instructions.specs.{declared.unix.UnixLine.TheVariants.Call, declared.call.SystemCall.TheVariants.Fork}
 use Rattle.instructions.specs.declared.call_table.CallRow.{CallRow}
 use Rattle.disassemblies.specs.Lines.{unix_line_in}
-use Rattle.suspicions.specs.declared.evidence.Evidence.TheVariants.{Flow, Promise}
+use Rattle.suspicions.specs.declared.evidence.Evidence.TheVariants.{Names, Promise}
 use Rattle.suspicions.specs.{Reached.is_text, ReachedLaw.IsReached, Suspicions.suspicions, Suspicions.is_foreign}
 use Rattle.suspicions.specs.SureLaw.{NoneIsSure}
 use Rattle.laws.specs.{OperandPlaces.addressing_of, OperandPlaces.IsOperand, OperandPlaces.IsDirect, OperandWords.machine_value}
@@ -31,7 +32,7 @@ use Rattle.aout_core.specs.declared.reloc.Kind.TheVariants as kinds
 
 -- control reaches a place of a program, which counts the words of its text
 abbrev pub IsRun : Contents → ℕ → Type 0
-IsRun file place = IsReached Flow (stripped file) place
+IsRun file place = IsReached Names (stripped file) place
 
 -- a symbol of text of one of the objects, whose value is before the end of that text: with `-t` its place is reached
 pub record TextSymbol (os : List Contents) : Type 0 where

@@ -41,7 +41,7 @@ pub fn instruction_law()
 {}
 
 /// What it means for a program that nothing is suspicious for sure in an object: that `v7-explain` reports nothing odd of its instructions
-/// without "if this is an instruction", as `suspicions` defines it. (ld(1), the handbook of the PDP-11/70; what is suspicious: own choice)
+/// without "if this is", as `suspicions` defines it. (ld(1), the handbook of the PDP-11/70; what is suspicious: own choice)
 ///
 /// - `reached`: each instruction at a sure place of the object that is not cut is in the program, by `instructions` of `instruction_law`:
 ///   its first word is not relocated. Each operand that has a word is the address of the byte to which its relocation word refers, by

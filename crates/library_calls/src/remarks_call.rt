@@ -24,7 +24,7 @@ pub struct RemarkRecord {
     /// Where its text begins among all texts, from 0.
     pub text: usize,
     pub text_size: usize,
-    /// What is remarked: 1 to 7 are wrong, 8 to 20 odd, 21 to 29 suspicious.
+    /// What is remarked: 1 to 7 are wrong, 8 to 20, 30 and 31 odd, and the others suspicious.
     pub kind: u32,
     /// The part that the byte is in, as a `LongPart` has its number, or that its relocation is of; else 0.
     pub part: u32,

@@ -24,6 +24,7 @@ use Rattle.suspicions.specs.Branches.{of_lines, word_place, suspicious_entry, su
 use Rattle.suspicions.specs.Suspicions.{reloc_place, may_begin, differ, is_immediate, is_foreign, suspicious_bit, suspicious_by}
 use Rattle.suspicions.specs.Suspicions.{suspicious_lack, suspicious_operand, suspicious_line, suspicious_at, suspicious_place}
 use Rattle.suspicions.specs.{Addresses.suspicious_addresses, Referents.suspicious_references, Suspicions.suspicious_words, Suspicions.suspicions}
+use Rattle.suspicions.specs.Uses.{suspicious_uses}
 use Rattle.suspicions.specs.SureLaw.{NoneIsSure, targets, is_whole, IsInside, AreInside, SureLaw, SuitsMode, SuitsModes, SureWordsLaw}
 use Rattle.suspicions.specs.{declared.evidence.Evidence.Evidence, declared.evidence.Evidence.TheVariants.Names}
 use Rattle.suspicions.specs.{declared.evidence.Evidence.TheVariants.Promise, declared.trust.Trust.Trust, Reached.branch_of}
@@ -226,7 +227,8 @@ quiet_at e c place none s =
       reached = reached;
       none =
           (quiet_parts (suspicious_line (of_lines e) c (trust e c place) place (unix_line_in Unix c place))
-          (suspicious_references (of_lines e) c (trust e c place) place (unix_line_in Unix c place))
+          (suspicious_references (of_lines e) c (trust e c place) place (unix_line_in Unix c place)
+          ++ suspicious_uses c (trust e c place) place (unix_line_in Unix c place))
           (looked_at (trust e c place).is_reached (is_start (starts Unix c) place) (suspicious_at (of_lines e) c (trust e c place) place)
           reached (place_quiet e c c.text_words 0 place place (sure_below e c place s) (omega arith)
           (quiet_parts (suspicious_words e c 0 c.text_words) (suspicious_addresses e c) none).0))).0;

@@ -6,4 +6,5 @@ pub mod Referents
 pub mod SureLaw
 pub mod Suspicions
 pub mod Trust
+pub mod Uses
 pub mod internal

@@ -12,12 +12,13 @@
 --
 -- Each of them shows the entry point of a linked file. A line leads to the targets of its branch, and to that of its jump or call within
 -- the text. `sys fork` leads to the line after it, for the child, and to the word after the next one, for the parent. A line leads to
--- that after it if control comes there for sure: not after a jump, nor if the pc may be written as an operand. After `jsr` it does only if
--- the link is the pc, or if it is `jsr r5,csv`: another one may take the words after it. So may a trap that is not a system call
--- of the table, and that of `indir`, and `exit` does not come back. By the promise each line leads to that after it, unless a symbol of text is
--- within it.
+-- that after it if control comes there: not after a jump, nor if the pc may be written. After `jsr` it does only if the link is the pc, or
+-- if it is `jsr r5,csv`: another one may take the words after it. So may a trap that is not a system call of the table, and that of
+-- `indir`, and `exit` does not come back. The flow goes on only where control is sure to come back: not after another call by the pc, as
+-- its callee may take words or not return, nor after a branch, which may always be taken, nor after a system call, whose arguments
+-- another Unix counts otherwise. By the promise each line leads to that after it, unless a symbol of text is within it.
 use Rattle.std.specs.Prelude.{ℕ, zero, suc, ◌+◌, ◌*◌, ◌/◌, ◌%◌, Bool, true, false, not, ◌&&◌, ◌||◌, eqb, nat_lt, if◌then◌else◌, List, []}
-use Rattle.std.specs.Prelude.{◌∷◌, ◌++◌, bytes_eq, codes, length, map, slice_get, slice_index, Option, Some, None}
+use Rattle.std.specs.Prelude.{◌∷◌, ◌++◌, bytes_eq, codes, length, map, slice_get, slice_index, is_some, Option, Some, None}
 use Rattle.std.specs.List.{list_any}
 use Rattle.aout_core.specs.{declared.symbol.Symbol.Symbol, declared.symbol.Segment.TheVariants.TextSeg, declared.reloc.Reloc.Reloc}
 use Rattle.aout_core.specs.{declared.header.Header.Header, Words.plus, Contents.Contents, WellFormed.masked_type}
@@ -25,6 +26,7 @@ use Rattle.aout_core.specs.WellFormed.{segment_number, symbol_number, is_pc_rela
 use Rattle.instructions.specs.{declared.operation.Operation.Operation, declared.mode.Addressing.Addressing}
 use Rattle.instructions.specs.{declared.operand.Operand.Operand, declared.operand.Operand.TheVariants.General}
 use Rattle.instructions.specs.{declared.operand.Operand.TheVariants.Register, declared.mode.Mode.TheVariants.Direct, Modes.is_pc}
+use Rattle.instructions.specs.declared.mode.Register.TheVariants.{Sp}
 use Rattle.instructions.specs.{declared.mode.Mode.TheVariants.Decrement, declared.mode.Mode.TheVariants.DecrementDeferred}
 use Rattle.instructions.specs.declared.instruction.Instruction.{Instruction}
 use Rattle.instructions.specs.{declared.operand.Operand.TheVariants.Forward, declared.operand.Operand.TheVariants.Backward}
@@ -56,9 +58,10 @@ only_reads operations.Tst = true
 only_reads operations.Tstb = true
 only_reads _ = false
 
--- the pc itself is the last operand
+-- the pc itself is the last operand, or sp is: a quotient goes into two registers
 abbrev pub ends_with_pc : Option Operand → Option Operand → Bool
 ends_with_pc first None = is_pc_itself first
+ends_with_pc first (Some (Register Sp)) = true
 ends_with_pc first (Some second) = is_pc_itself (Some second)
 
 -- an operand counts the pc down
@@ -141,6 +144,20 @@ abbrev pub is_promised : Evidence → Bool
 is_promised Promise = true
 is_promised _ = false
 
+-- the address that a branch at an address goes to
+abbrev pub branch_of : ℕ → Option Operand → Option ℕ
+branch_of address (Some (Forward v)) = Some (branch_target address v)
+branch_of address (Some (Backward v)) = Some (branch_back_target address v)
+branch_of address _ = None
+
+abbrev pub is_flow : Evidence → Bool
+is_flow Flow = true
+is_flow _ = false
+
+-- control may leave by an instruction, and never come to the line after it: by a branch, or by a call whose link is the pc
+abbrev pub may_leave : Instruction → Bool
+may_leave i = is_some (branch_of 0 i.first) || (is_some (branch_of 0 i.second) || (jumps i.row.operation && is_pc_itself i.first))
+
 -- a symbol of text has an address between these
 abbrev pub is_between : ℕ → ℕ → Symbol → Bool
 is_between low high s = is_text s && (nat_lt low s.value && nat_lt s.value high)
@@ -152,8 +169,9 @@ is_followed e c place line = is_promised e && not (list_any (is_between (2 * pla
 -- the line at a place leads to the one after it
 abbrev pub goes_on : Evidence → Contents → ℕ → UnixLine → Bool
 goes_on e c place (Machine (Plain w)) = false
-goes_on e c place (Machine (Decoded i a b)) = flows c place i || is_followed e c place (Machine (Decoded i a b))
-goes_on e c place (Call k) = returns k.call || is_followed e c place (Call k)
+goes_on e c place (Machine (Decoded i a b)) =
+    (not (is_flow e && may_leave i) && flows c place i) || is_followed e c place (Machine (Decoded i a b))
+goes_on e c place (Call k) = (not (is_flow e) && returns k.call) || is_followed e c place (Call k)
 
 -- the address after the line at a place, if it goes on there
 abbrev pub next_of : Evidence → Contents → ℕ → UnixLine → Option ℕ
@@ -163,12 +181,6 @@ next_of e c place line = if goes_on e c place line then Some (2 * (place + unix_
 abbrev pub parent_of : Contents → ℕ → SystemCall → Option ℕ
 parent_of c place calls.Fork = if nat_lt (place + 2) (length c.text_words) then Some (2 * (place + 2)) else None
 parent_of c place _ = None
-
--- the address that a branch at an address goes to
-abbrev pub branch_of : ℕ → Option Operand → Option ℕ
-branch_of address (Some (Forward v)) = Some (branch_target address v)
-branch_of address (Some (Backward v)) = Some (branch_back_target address v)
-branch_of address _ = None
 
 -- a word is an address of the text
 abbrev pub is_own_address : Option Reloc → Bool

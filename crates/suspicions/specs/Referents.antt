@@ -5,9 +5,9 @@
 -- kind absolute with the pc bit refers to a fixed address, so not to data or bss, which move. A jump or a call leads to an even
 -- address in text, or to an external, and not into a common or beyond an external. Memory of a common lies within its size.
 --
--- Where the line is sure, so is what is wrong, with three exceptions. A number may be the address of a symbol of data or bss by accident. An
--- address below 001000 may be that of a vector. Code that is put into data or a common at run time may be called; by the promise that all
--- of the text is instructions there is none.
+-- Where the line is sure, so is what is wrong, with four exceptions. A number may be the address of a symbol of data or bss by accident. An
+-- address below 001000 may be that of a vector. A function may be entered beyond its first instruction, as by `jsr pc,_f+4`, but not at an
+-- odd address. Code in data or in a common may be called; by the promise there is none.
 use Rattle.std.specs.Prelude.{ℕ, ◌+◌, ◌*◌, ◌%◌, Bool, true, false, not, ◌&&◌, ◌||◌, eqb, nat_le, nat_lt, if◌then◌else◌, List, [], ◌++◌, length}
 use Rattle.std.specs.Prelude.{slice_get, Option, Some, None}
 use Rattle.std.specs.List.{list_any}
@@ -107,6 +107,7 @@ mismatch_of c access (External k n) = wrong_external access n (common_size (slic
 abbrev pub is_certain : Bool → Mismatch → Bool
 is_certain promised (Unmarked n) = false
 is_certain promised (Absolute n) = nat_le 0o1000 n
+is_certain promised (Beyond n) = eqb (n % 2) 1
 is_certain promised (CommonCalled n) = promised
 is_certain promised (DataCalled n) = promised
 is_certain promised _ = true

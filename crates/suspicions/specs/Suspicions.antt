@@ -24,7 +24,7 @@ use Rattle.disassemblies.specs.{Lines.unix_line_in, Starts.starts, Starts.is_sta
 use Rattle.findings.specs.declared.finding.FindingKind.TheVariants.{RelocatedFirstWord, UnsuitablePcBit, CutInstruction, NoInstruction}
 use Rattle.findings.specs.{Found.Found, Found.found_as, Odd.odd}
 use Rattle.suspicions.specs.Branches.{of_lines, word_place, suspicious_branch}
-use Rattle.suspicions.specs.{Addresses.suspicious_addresses, Referents.suspicious_references}
+use Rattle.suspicions.specs.{Addresses.suspicious_addresses, Referents.suspicious_references, Uses.suspicious_uses}
 use Rattle.suspicions.specs.{declared.evidence.Evidence.Evidence, declared.trust.Trust.Trust, Reached.branch_of, Trust.trust}
 
 -- the byte of the file at which the relocation word of a word of text is
@@ -96,7 +96,8 @@ suspicious_line e c t place (Call k) = []
 
 abbrev pub suspicious_at : Evidence → Contents → Trust → ℕ → List Found
 suspicious_at e c t place =
-    suspicious_line e c t place (unix_line_in Unix c place) ++ suspicious_references e c t place (unix_line_in Unix c place)
+    suspicious_line e c t place (unix_line_in Unix c place)
+    ++ (suspicious_references e c t place (unix_line_in Unix c place) ++ suspicious_uses c t place (unix_line_in Unix c place))
 
 -- what is suspicious at a place, if it is reached or begins a line
 abbrev pub suspicious_place : Evidence → Contents → ℕ → List Found

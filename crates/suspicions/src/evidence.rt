@@ -6,9 +6,9 @@ pub enum Evidence {
     /// The symbols of text, and operand words that count from the pc and are relocated so, which no data has. It may be data.
     Names,
     /// Control comes there for sure, from the entry of a linked file, or from a function that begins as those of the Seventh Edition's C
-    /// compiler do.
+    /// compiler do; so not after a branch or a call.
     Flow,
-    /// The caller promises that all of the text is instructions: then one begins at its beginning, at each symbol of text, and after each
+    /// The caller promises that all of the text is instructions, and nothing else is: then one begins at its beginning, at each symbol of text, and after each
     /// other one.
     Promise,
 }

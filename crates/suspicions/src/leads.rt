@@ -2,7 +2,7 @@
 ghost use Rattle.std.specs.Prelude.{◌≡◌, ◌<◌, ◌≤◌, ◌+◌, ◌*◌, length, option_map, slice_get};
 ghost use Rattle.std.specs.List.{list_any};
 ghost use Rattle.instructions.specs.UnixLines.{unix_length};
-ghost use Rattle.suspicions.specs.Reached.{is_pc_itself, only_reads, ends_with_pc, counts_down, may_write_pc, passes, is_csv, is_some_csv, is_external_csv, is_csv_at, refers_to_csv, calls_by_r5, calls_csv, flows, returns, is_promised, is_text, is_between, is_followed, goes_on, next_of, parent_of, branch_of, is_own_distance, is_own_address, jump_by, jump_of, jump};
+ghost use Rattle.suspicions.specs.Reached.{is_pc_itself, only_reads, ends_with_pc, counts_down, may_write_pc, passes, is_csv, is_some_csv, is_external_csv, is_csv_at, refers_to_csv, calls_by_r5, calls_csv, flows, returns, is_promised, is_flow, may_leave, is_text, is_between, is_followed, goes_on, next_of, parent_of, branch_of, is_own_distance, is_own_address, jump_by, jump_of, jump};
 
 use crate::evidence::Evidence;
 use aout_core::{File, Reloc, Segment, Symbol};
@@ -54,11 +54,12 @@ fn only_reads(operation: Operation) -> bool
     }
 }
 
-/// Whether the pc itself is the last operand.
+/// Whether the pc itself is the last operand, or sp is, with the pc as its second register.
 fn ends_with_pc(first: Option<Operand>, second: Option<Operand>) -> bool
     ensures { result ≡ ends_with_pc first second }
 {
     match second {
+        Some(Operand::Register(Register::Sp)) => true,
         Some(operand) => is_pc_itself(Some(operand)),
         None => is_pc_itself(first),
     }
@@ -201,7 +202,7 @@ pub(crate) fn calls_csv(file: &File, place: usize) -> bool
 }
 
 /// Whether control comes for sure to the line after the instruction at a place.
-fn flows(file: &File, place: usize, instruction: &Instruction) -> bool
+pub(crate) fn flows(file: &File, place: usize, instruction: &Instruction) -> bool
     requires { place < 32768 }
     ensures { result ≡ flows file.now place instruction.now }
 {
@@ -227,6 +228,24 @@ pub(crate) fn is_promised(evidence: Evidence) -> bool
         Evidence::Promise => true,
         Evidence::Names | Evidence::Flow => false,
     }
+}
+
+fn is_flow(evidence: Evidence) -> bool
+    ensures { result ≡ is_flow evidence }
+{
+    match evidence {
+        Evidence::Flow => true,
+        Evidence::Names | Evidence::Promise => false,
+    }
+}
+
+/// Whether control may leave by an instruction, and never come to the line after it.
+fn may_leave(instruction: &Instruction) -> bool
+    ensures { result ≡ may_leave instruction.now }
+{
+    branch_of(0, instruction.first).is_some()
+        || branch_of(0, instruction.second).is_some()
+        || (instruction.row.operation.jumps() && is_pc_itself(instruction.first))
 }
 
 /// Whether a symbol of text has an address between these.
@@ -262,9 +281,12 @@ fn goes_on(evidence: Evidence, file: &File, place: usize, line: &UnixLine) -> bo
     match line {
         UnixLine::Machine(Line::Plain(_)) => false,
         UnixLine::Machine(Line::Decoded(instruction, _, _)) => {
-            flows(file, place, instruction) || is_followed(evidence, file, place, line)
+            (!(is_flow(evidence) && may_leave(instruction)) && flows(file, place, instruction))
+                || is_followed(evidence, file, place, line)
         }
-        UnixLine::Call(row) => returns(row.call) || is_followed(evidence, file, place, line),
+        UnixLine::Call(row) => {
+            (!is_flow(evidence) && returns(row.call)) || is_followed(evidence, file, place, line)
+        }
     }
 }
 

@@ -15,6 +15,7 @@ mod referent;
 mod suspect;
 mod suspicions;
 mod trust;
+mod uses;
 
 pub use evidence::Evidence;
 pub use reached::reached_places;

@@ -242,11 +242,9 @@ fn is_certain(promised: bool, mismatch: Mismatch) -> bool
     match mismatch {
         Mismatch::Unmarked(_) => false,
         Mismatch::Absolute(address) => address >= 0o1000,
+        Mismatch::Beyond(number) => number % 2 == 1,
         Mismatch::CommonCalled(_) | Mismatch::DataCalled(_) => promised,
-        Mismatch::Unrelocated(_)
-        | Mismatch::Beyond(_)
-        | Mismatch::Outgrown(_)
-        | Mismatch::OddPlace(_) => true,
+        Mismatch::Unrelocated(_) | Mismatch::Outgrown(_) | Mismatch::OddPlace(_) => true,
     }
 }
 

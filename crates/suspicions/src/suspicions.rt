@@ -22,6 +22,7 @@ use crate::reached::{is_marked, reached_places};
 use crate::referent::find_references;
 use crate::suspect::{Suspect, doubt_text};
 use crate::trust::{Reached, Trust, is_sure};
+use crate::uses::find_uses;
 use aout_core::{File, Reloc};
 use disassemblies::Sweep;
 use findings::{FilePlaces, Finding, FindingKind, Findings, odd_of, put_instruction};
@@ -246,6 +247,7 @@ fn find_at(findings: &mut Findings, at: &Suspect<'_>)
     let line = at.sweep().line_at(at.start);
     find_line(findings, at, &line);
     find_references(findings, at, &line);
+    find_uses(findings, at, &line);
 }
 
 /// A file, and for each word of its text whether names show that it is reached, and whether an evidence of sure places does.
@@ -387,7 +389,7 @@ pub fn all_odd_of(
     ensures { IfOk result (λ found.
         all_found found.items ≡ all_odd evidence commons bytes.now sweep.now) }
 {
-    let mut found = odd_of(alloc, bytes, sweep.file(), commons)?;
+    let mut found = odd_of(alloc, bytes, sweep, commons)?;
     let mut more = suspicions_of(alloc, evidence, sweep)?;
     found.append(&mut more)?;
     Ok(found)

@@ -8,7 +8,7 @@ pub loop-number-preserved : goal.loop-number-preserved
 loop-number-preserved c =
     let symbols = c.symbols-symbols.result.now in
     let commons = c.args.source.now.commons in
-    let file = c.args.source.now.file.now in (
+    let file = c.args.source.now.sweep.now in (
       λ whole.
           let put = c.find_symbol.ensures whole in
           let so_far = c.loop-number.invariant.0 put.0 in (

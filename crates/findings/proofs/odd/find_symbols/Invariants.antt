@@ -7,6 +7,6 @@ use Rattle.findings.proofs.odd.find_symbols.Given as goal
 abbrev pub invariant-loop-number : goal.invariant-loop-number
 invariant-loop-number l =
     (l.findings.is_cut ≡ false → (l.initial.findings.is_cut ≡ false)
-    × (l.findings.found ++ odd_symbols l.source.commons l.source.file.now l.source.bytes.now l.number (drop l.number l.symbols)
-    ≡ l.initial.findings.found ++ odd_symbols l.source.commons l.source.file.now l.source.bytes.now 0 l.symbols))
+    × (l.findings.found ++ odd_symbols l.source.commons l.source.sweep.now l.source.bytes.now l.number (drop l.number l.symbols)
+    ≡ l.initial.findings.found ++ odd_symbols l.source.commons l.source.sweep.now l.source.bytes.now 0 l.symbols))
     × ((other : List ℕ) → get (slice_cmp nat_cmp) l.seen other ≡ first_named other (take l.number l.symbols))

@@ -6,6 +6,7 @@ use Rattle.findings.proofs.odd.find_words.Given as goal
 abbrev pub invariant-loop-number : goal.invariant-loop-number
 invariant-loop-number l =
     l.findings.is_cut ≡ false → (l.initial.findings.is_cut ≡ false)
-    × (l.findings.found ++ odd_words l.header l.contents.place l.contents.start l.contents.words.now l.number
+    × (l.findings.found ++ odd_words l.sweep l.contents.is_text l.contents.place l.contents.start l.contents.words.now l.number
     (drop l.number l.contents.relocs.now)
-    ≡ l.initial.findings.found ++ odd_words l.header l.contents.place l.contents.start l.contents.words.now 0 l.contents.relocs.now)
+    ≡ l.initial.findings.found
+    ++ odd_words l.sweep l.contents.is_text l.contents.place l.contents.start l.contents.words.now 0 l.contents.relocs.now)
