@@ -21,7 +21,7 @@ from tests.lib.compare import notices, same
 from tests.lib.files import TOP, read_bytes, room, write
 from tests.lib.programs import program, ran
 from tests.oracles import agree
-from tests.oracles.disassembly import File as Text
+from tests.oracles.disassembly import FOUND, SYS, File as Text, has_word
 
 PROGRAMS = {0o405: "an overlay", 0o407: "a program", 0o410: "a program, pure text", 0o411: "a program, separate text and data"}
 KINDS = {0o405: "overlay", 0o407: "program 0407", 0o410: "program 0410", 0o411: "program 0411"}
@@ -248,21 +248,25 @@ def places(file):
         yield at, address, reloc, to, {2: "text", 4: "data", 6: "bss"}.get(reloc & 0o16)
 
 
-def all_outside(file):
-    """The kinds of words that all refer to addresses outside, two at least."""
-    to = {segment: {to for _, _, _, to, of in places(file) if of == segment} for segment in SEGMENTS.values()}
-    return [segment for segment, (begin, end) in file.ranges().items() if len(to[segment]) > 1 and not any(begin <= one <= end for one in to[segment])]
+def direct(file):
+    """The bytes of text at which the words of operands of modes 37, 67 and 77 are, by the lines of the sweep."""
+    text, place = text_of(file), 0
+    while place < len(text.words):
+        length = text.line(place)[0]
+        fields = [value for letter, value in FOUND[text.words[place]][1] if has_word(letter, value)] if length > 1 and text.words[place] not in SYS else []
+        yield from (2 * at for at, value in enumerate(fields, place + 1) if value in (0o37, 0o67, 0o77))
+        place += length
 
 
 def odd_words(file):
-    moved, outside = is_moved(file), all_outside(file)
+    moved, sure_words = is_moved(file), set(direct(file))
     for at, address, reloc, to, segment in places(file):
         if reloc > 0o17 and reloc & 0o16 < 0o10:
             yield file.relocation_at + at, f"relocation word {reloc:06o} of the word at {address:06o}: bits above 17 are ignored"
         if segment:
             begin, end = file.ranges()[segment]
             if not begin <= to <= end:
-                sure = reloc & 1 or not moved and (is_far(file, segment, to) or segment in outside)
+                sure = reloc & 1 or at in sure_words or is_far(file, segment, to) and not moved
                 yield file.relocation_at + at, (f"the word at {address:06o} is of kind {segment} and refers to {to:06o}; "
                                                 f"{segment} lies from {begin:06o} to {end:06o}" + unless(sure))
 

@@ -58,13 +58,13 @@ pub none_shown : (c : Contents) (q place : ℕ) (ws : List ℕ) → list_any (is
 none_shown c q place [] = refl
 none_shown c q place (w ∷ ws) =
     by (is_start (starts Unix (stripped c)) place) (is_shown_by (stripped c) place (listed_line Unix (stripped c) place))
-    (no_mark c place (listed_line Unix (stripped c) place))
+    (no_mark c place (listed_line Unix (stripped c) place)) (none_shown c q (place + 1) ws)
   where
-    by : (s m : Bool) → m ≡ false →
-        (is_place q (if s && m then Some (2 * place) else None) || list_any (is_place q) (shown_from (stripped c) (place + 1) ws)) ≡ false
-    by true true e = absurd cc
-    by true false e = none_shown c q (place + 1) ws
-    by false m e = none_shown c q (place + 1) ws
+    by : (s m : Bool) → m ≡ false → list_any (is_place q) (shown_from (stripped c) (place + 1) ws) ≡ false →
+        (list_any (is_place q) ((if s && m then Some (2 * place) else None) ∷ shown_from (stripped c) (place + 1) ws)) ≡ false
+    by true true e later = absurd cc
+    by true false e later = later
+    by false m e later = later
 
 pub or_none : (a b : Bool) → b ≡ false → (a || b) ≡ true → a ≡ true
 or_none true b n e = refl
