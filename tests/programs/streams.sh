@@ -205,9 +205,7 @@ if (ulimit -v 200000 && exec v7-explain main.o) >answers 2>fault; then
     done
     limited v7-explain -l zero | grep -q '^device .* zero$' || fail 'v7-explain -l zero'
     for words in 'v7-object large out' 'v7-from-gnu large out'; do
-        (ulimit -v 200000 && exec $words) >answers 2>fault; status=$?
-        expect "$words, with little memory" 2 "${words%% *}: no memory"
-        same answers /dev/null
+        tried "$words" 2 "${words%% *}: large: file too long" limited $words >answers
     done
     # an inventory reads only its first bytes
     (ulimit -v 200000 && exec v7-explain -l large) >answers 2>fault; status=$?

@@ -1,5 +1,5 @@
 -- What is sure among findings, and what is reported of them.
-use Rattle.std.proofs.Common.{◌≡◌, ◌≢◌, ℕ, Bool, true, false, ◌&&◌, ◌||◌, Option, List, [], ◌∷◌, Result, IfOk, refl, ap, ◌∙◌}
+use Rattle.std.proofs.Common.{◌≡◌, ◌≢◌, ℕ, Bool, true, false, ◌&&◌, ◌||◌, Option, List, [], ◌∷◌, Result, IfOk, refl, ap, sym, ◌∙◌}
 use Rattle.std.proofs.lemmas.Result.{IfOk-weaker}
 use Rattle.std.specs.Prelude.{if◌then◌else◌}
 use Rattle.std.specs.List.{list_any}
@@ -40,6 +40,11 @@ said_odd e bytes c odd errors status is_cut result are some by = IfOk-weaker res
   nothing = λ none. absurd (some (none_found odd (are ∙ none)));
 })
 
--- nothing is reported if nothing is found
-pub nothing_odd : (fs : List Finding) (found : List Found) → all_found fs ≡ found → found ≡ [] → fs ≡ []
-nothing_odd fs found are none = none_found fs (are ∙ none)
+-- and nothing, if there is nothing
+pub said_nothing : (e : Evidence) (bytes : List ℕ) (c : Contents) (odd : List Finding) (a : Answer) →
+    all_found odd ≡ all_odd e false bytes c → odd ≡ [] → a ≡ only_errors [] 0 → IsOdd (all_odd e false bytes c) a
+said_nothing e bytes c odd a are none is = record {
+  has_status = ap (λ (x : Answer). x.status) is ∙ ap (λ (fs : List Finding). status_of (all_found fs)) (sym none) ∙ ap status_of are;
+  no_output = ap (λ (x : Answer). x.output) is;
+  nothing = λ _. ap (λ (x : Answer). x.errors) is;
+}

@@ -54,7 +54,6 @@ fn status_of(found: &[Finding]) -> u8
 }
 
 /// What is odd in an object.
-#[tactic(auto, using(crate::proofs::FoundLemmas::nothing_odd))]
 fn check_object(
     alloc: Global,
     evidence: Evidence,

@@ -1,6 +1,16 @@
-use Rattle.std.proofs.Common.{rules}
-use Rattle.v7_explain.proofs.FoundLemmas.{said_odd}
+use Rattle.std.proofs.Common.{rules, ◌≡◌, eqb-true, sym, ◌∙◌}
+use Rattle.std.specs.Vec.{vec_len}
+use Rattle.std.proofs.lemmas.List.{nil_from_length}
+use Rattle.v7_explain.proofs.FoundLemmas.{said_nothing, said_odd}
 use Rattle.v7_explain.proofs.checking.check_object.Goals as goal
+
+pub returns-then-is_empty : goal.returns-then-is_empty
+returns-then-is_empty c =
+    let odd = c.in_ok-odd.odd in
+    let zero : vec_len odd ≡ 0 = eqb-true (vec_len odd) 0 (sym c.is_empty.ensures ∙ c.if-is_empty.true) in
+    said_nothing c.args.evidence c.args.source.bytes.now c.args.file.now odd.items c.nothing_said.result (search rules)
+    (nil_from_length odd.items (sym odd.ok.0 ∙ zero))
+    c.nothing_said.ensures
 
 pub returns : goal.returns
 returns c =
