@@ -26,17 +26,17 @@ module _ {W : Type 0} (contents : W → Option (List ℕ)) (words : List (List �
 pub returns-in-Ok-clause-run : goal.returns-in-Ok-clause-run
 returns-in-Ok-clause-run g c =
     elim c.if-is_typed.branch [
-        then-is_typed w ↦ rw (w.office-is, w.output-is)
-            (well _ _ _ _ _ _ _ _ _ _ w.attempt-done.ensures.run (sym w.done-is ∙ c.in-Ok.is) refl)
+      | then-is_typed w ↦ rw (w.office-is, w.output-is)
+          (well _ _ _ _ _ _ _ _ _ _ w.attempt-done.ensures.run (sym w.done-is ∙ c.in-Ok.is) refl)
       | else-is_typed w ↦ rw (w.office-is, w.output-is)
-            (well _ _ _ _ _ _ _ _ _ _ w.attempt-done-else-is_typed.ensures.run (sym w.done-is ∙ c.in-Ok.is) refl)
+          (well _ _ _ _ _ _ _ _ _ _ w.attempt-done-else-is_typed.ensures.run (sym w.done-is ∙ c.in-Ok.is) refl)
     ]
 
 pub returns-in-Err-clause-run : goal.returns-in-Err-clause-run
 returns-in-Err-clause-run g c =
     elim c.if-is_typed.branch [
-        then-is_typed w ↦ rw (w.office-is, w.output-is)
-            (badly _ _ _ _ _ _ _ _ _ _ w.attempt-done.ensures.run (sym w.done-is ∙ c.in-Err.is) c.report.ensures.two)
+      | then-is_typed w ↦ rw (w.office-is, w.output-is)
+          (badly _ _ _ _ _ _ _ _ _ _ w.attempt-done.ensures.run (sym w.done-is ∙ c.in-Err.is) c.report.ensures.two)
       | else-is_typed w ↦ rw (w.office-is, w.output-is)
-            (badly _ _ _ _ _ _ _ _ _ _ w.attempt-done-else-is_typed.ensures.run (sym w.done-is ∙ c.in-Err.is) c.report.ensures.two)
+          (badly _ _ _ _ _ _ _ _ _ _ w.attempt-done-else-is_typed.ensures.run (sym w.done-is ∙ c.in-Err.is) c.report.ensures.two)
     ]
