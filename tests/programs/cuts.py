@@ -1,6 +1,6 @@
 """Cuts the listing of an object before each of its bytes: v7-object makes no other object of what is left.
 
-tier: test, 5 seconds; programs: v7-explain v7-object; for: crates/listings crates/v7_object
+tier: check, 5 seconds; programs: v7-explain v7-object; for: crates/listings crates/v7_object
 """
 import os
 

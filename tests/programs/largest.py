@@ -30,6 +30,7 @@ SYMBOLS, NAMES, NUMBERS = model.SYMBOLS_LIMIT, model.NAMES_LIMIT, model.NUMBER_L
 OBJECTS = 1000
 WANTED, NUMBER, LABEL, LOCAL = 0o40, 0o41, 0o42, 0o2
 FORCED = [f"-u_f{number}" for number in range(model.FORCED_LIMIT)]
+RETURN = 0o207
 BAD_KIND, BAD_NUMBER = 0o12, 0o10 + 16 * 4000
 SECONDS = 300
 
@@ -42,10 +43,11 @@ def named(count, kind=WANTED, value=0, first=0):
 
 
 def file_of(text=0, data=0, symbols=(), relocs=(0,), word=NOP, bss=0, magic=0o407, flag=0):
-    """A file of so many equal words, whose relocation words take turns."""
+    """A file of so many equal words, whose relocation words take turns. Text of instructions ends with a return."""
     def relocated(count):
         return None if flag else [relocs[place % len(relocs)] for place in range(count)]
-    return File([word] * text, relocated(text), list(symbols), magic, [word] * data, relocated(data), bss)
+    words = [word] * (text - 1) + [RETURN] if text and word == NOP else [word] * text
+    return File(words, relocated(text), list(symbols), magic, [word] * data, relocated(data), bss)
 
 
 def referring():
@@ -216,17 +218,18 @@ def recognized(kind):
 
 
 def remarks(data):
-    """What `-c` says of a file, and how many more things are odd than it shows."""
+    """What `-c` says of a file, and how many more things are odd than it shows; and whether one of all is sure."""
     said, odd = notes.notes_of(data)[1], [note for note in notes.odd_notes(data) if not note.endswith("rounded up to even")]
     more = len(odd) - len(said) if said == odd[:notes.MOST] else 0
-    return said + [f"and {more} more that are odd"] * (more > 0)
+    return said + [f"and {more} more that are odd"] * (more > 0), any(notes.DOUBT not in note for note in said + odd)
 
 
 def checked(kind):
     """What v7 ld says of each file, or nothing."""
     files = encoded(kind)
-    refused = [f"v7-explain: {path}: {text}\n" for path, data in files.items() for text in remarks(data)]
-    same("answer", answer("v7-explain", "-c", *written(files)), (int(bool(refused)), "", "".join(refused)))
+    found = {path: remarks(data) for path, data in files.items()}
+    refused = [f"v7-explain: {path}: {text}\n" for path, (texts, _) in found.items() for text in texts]
+    same("answer", answer("v7-explain", "-c", *written(files)), (int(any(sure for _, sure in found.values())), "", "".join(refused)))
 
 
 def shown(kind):
