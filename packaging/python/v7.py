@@ -489,6 +489,7 @@ def listing(data: bytes) -> str:
     bss 0
     symbols
     0     _f         42  000000  T
+    end
     """
     return _given("v7_list", *_slice(data)).decode("latin-1")
 

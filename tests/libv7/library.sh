@@ -81,7 +81,7 @@ int main(void)
     puts(V7_VERSION);
     if (strcmp(v7_strerror(V7_NOTHING), "nothing to withdraw") != 0)
         return 3;
-    return strcmp(v7_strerror(9), "unknown fault") != 0 || strcmp(v7_strerror(90), "unknown fault") != 0;
+    return strcmp(v7_strerror(36), "unknown fault") != 0 || strcmp(v7_strerror(90), "unknown fault") != 0;
 }
 END
 cp header.c header.cpp
@@ -150,9 +150,9 @@ ${OBJCOPY:-objcopy} --redefine-sym v7_run=real_v7_run \
     --redefine-sym v7_session_link=real_v7_session_link "$archive" planted.a
 $CC -std=c99 -O2 -Wall -Wextra -Werror -o random_planted $compiles "$top/tests/libv7/c/random_calls.c" "$top/tests/libv7/c/planted_records.c" \
     -Wl,--wrap=malloc -Wl,--wrap=realloc -Wl,--wrap=free planted.a || exit 1
-PLANT=nothing ./random_planted 100 >planted.txt || { cat planted.txt; fail "a random call differs without a fault"; }
+PLANT=nothing ./random_planted 300 >planted.txt || { cat planted.txt; fail "a random call differs without a fault"; }
 for plant in short_result short_map short_kept; do
-    ! (PLANT=$plant ./random_planted 100) >planted.txt 2>&1 || fail "$plant is not found"
+    ! (PLANT=$plant ./random_planted 300) >planted.txt 2>&1 || fail "$plant is not found"
 done
 # links, sessions and maps beside each other
 $CC -std=c99 -O2 -Wall -Wextra -Werror -o runs $compiles "$top/tests/libv7/c/runs.c" "$archive" || exit 1

@@ -78,7 +78,7 @@ class Programs:
         if not isinstance(made, v7.Fault):
             return made == read_bytes("out.o") and said == ""
         mistakes = [MISTAKE.fullmatch(line) for line in said.rstrip("\n").split("\n")]
-        if not all(mistakes) or len(mistakes) > 10 or not 61 <= made.fault <= 77:
+        if not all(mistakes) or len(mistakes) > 10 or not 61 <= made.fault <= 80:
             return False
         return (made.place, made.word) == (int(mistakes[0][1]), int(mistakes[0][2]))
 

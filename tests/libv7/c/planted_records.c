@@ -56,7 +56,7 @@ uint32_t v7_run(const struct v7_request *request, struct v7_result *result)
     uint32_t status = real_v7_run(request, result);
 
     if (is_planted("short_result"))
-        result->report_size = 0;
+        result->finding_count = 0;
     if (is_planted("short_map"))
         result->map.limit_count = 0;
     if (result->size < sizeof *result || result->fault)
@@ -76,6 +76,6 @@ uint32_t v7_session_link(struct v7_session *session, const struct v7_request *re
     uint32_t status = real_v7_session_link(session, request, result);
 
     if (is_planted("short_kept"))
-        result->report_size = 0;
+        result->finding_count = 0;
     return status;
 }
