@@ -152,7 +152,7 @@ $CC -std=c99 -O2 -Wall -Wextra -Werror -o random_planted $compiles "$top/tests/l
     -Wl,--wrap=malloc -Wl,--wrap=realloc -Wl,--wrap=free planted.a || exit 1
 PLANT=nothing ./random_planted 300 >planted.txt || { cat planted.txt; fail "a random call differs without a fault"; }
 for plant in short_result short_map short_kept; do
-    ! (PLANT=$plant ./random_planted 300) >planted.txt 2>&1 || fail "$plant is not found"
+    ! PLANT=$plant sh -c './random_planted 300; exit $?' >planted.txt 2>&1 || fail "$plant is not found"
 done
 # links, sessions and maps beside each other
 $CC -std=c99 -O2 -Wall -Wextra -Werror -o runs $compiles "$top/tests/libv7/c/runs.c" "$archive" || exit 1
