@@ -10,8 +10,10 @@ pub mod Reading
 pub mod Refusals
 pub mod WellFormed
 pub mod Addresses
+pub mod Placed
 pub mod Objects
 pub mod Strip
 pub mod Laws
 pub mod FaultTexts
+pub mod Devices
 pub mod internal

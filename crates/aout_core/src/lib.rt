@@ -14,6 +14,7 @@
 //! - `File`, `Parts`: a file in memory, and the parts that make one
 //! - `Header`: the eight words that a file begins with
 //! - `Part`: text or data, the parts that have words
+//! - `PlacedWord`: a word of a part, with its address and its relocation word
 //! - `Reloc`, `Kind`: a relocation word, and what it refers to
 //! - `Symbol`, `Segment`, `Name`: a symbol, where its value counts from, and a name of at most eight bytes
 //! - `Object`, `ObjectFault`: a file that can be linked, and why a file cannot
@@ -38,6 +39,7 @@
 //! Modules:
 //!
 //! - `laws`: theorems about reading and writing
+//! - `samples`: small objects, and devices over memory, for tests
 //!
 //! Words have 16 bits, low byte first; docs/FORMAT.md has the format. "(own choice)" marks what a.out(5) leaves open.
 #![tactic(auto)]
@@ -54,11 +56,15 @@ mod object;
 mod object_reader;
 mod outgoing;
 mod part;
+mod placed;
 mod reader;
 mod refused;
 mod reloc;
+pub mod samples;
 mod strip;
 mod symbol;
+#[cfg(test)]
+mod tests;
 mod whole;
 mod wire;
 mod word;
@@ -72,6 +78,7 @@ pub use name::Name;
 pub use object::{Object, ObjectFault, object_fault};
 pub use object_reader::{NoObject, read_object};
 pub use part::Part;
+pub use placed::PlacedWord;
 pub use reader::{decode_file, read_file};
 pub use refused::Refused;
 pub use reloc::{Kind, Reloc};

@@ -1,6 +1,6 @@
 //! Symbols.
-ghost use Rattle.std.specs.Prelude.{◌≡◌, ◌≤◌};
-ghost use Rattle.aout_core.specs.WellFormed.{is_external, is_undefined, segment_number, segment_of};
+ghost use Rattle.std.specs.Prelude.{◌≡◌, ◌<◌, ◌≤◌, eqb};
+ghost use Rattle.aout_core.specs.WellFormed.{is_external, is_undefined, masked_type, segment_number, segment_of};
 
 use crate::name::Name;
 
@@ -61,11 +61,26 @@ impl Symbol {
         self.is_external() && self.segment() == Segment::Undefined
     }
 
+    /// The low five bits of the type word, without the external bit. (a.out(5))
+    pub fn masked_type(&self) -> u16
+        ensures value { result ≡ masked_type self.now }
+        ensures small { result < 32 }
+    {
+        self.type_bits % 0o40
+    }
+
+    /// Whether the low five bits of the type word are those of a segment. (a.out(5))
+    pub fn is_of(&self, segment: Segment) -> bool
+        ensures { result ≡ eqb (masked_type self.now) (segment_number segment) }
+    {
+        self.masked_type() == segment.number()
+    }
+
     /// The segment by the type word masked with 037: 0 to 4 in the order of `Segment`, any other `Other`. (a.out(5))
     pub fn segment(&self) -> Segment
         ensures { result ≡ segment_of self.now }
     {
-        match self.type_bits % 0o40 {
+        match self.masked_type() {
             0 => Segment::Undefined,
             1 => Segment::Absolute,
             2 => Segment::TextSeg,

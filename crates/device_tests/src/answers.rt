@@ -1,7 +1,7 @@
 //! When what a command prints goes out: how often it is flushed, that a session's answer is flushed before the next line is read,
 //! and that a flush that fails ends a command.
-use crate::fixtures::samples::{C_O, Failing, TestReader, TestWriter};
 use crate::fixtures::{failed_store, words};
+use aout_core::samples::{C_O, Failing, TestReader, TestWriter};
 use aout_core::{File, Wire};
 use std::alloc::{AllocError, Global};
 use std::cell::Cell;

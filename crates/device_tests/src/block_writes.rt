@@ -1,6 +1,6 @@
 //! How often a writer in blocks calls its device, and what a device that fails has taken.
 
-use crate::fixtures::samples::{Failing, TestWriter};
+use aout_core::samples::{Failing, TestWriter};
 use aout_core::{DeviceFault, Wire};
 use std::alloc::Global;
 use std::io::ErrorKind;

@@ -1,7 +1,7 @@
 //! What `emit` writes, also to devices that fail at each place of the file and of the report.
-use crate::fixtures::samples::{A_O, B_O, C_O, Failing, G_O};
 use crate::fixtures::{TWO_OBJECTS, UNDEFINED};
 use crate::links::{FAILURES, failing_writer, in_memory, link};
+use aout_core::samples::{A_O, B_O, C_O, Failing, G_O};
 use link_out::{Keep, Linked};
 use std::alloc::Global;
 use std::test::Fail;

@@ -1,6 +1,6 @@
 //! The faults: their lines and texts, and links and loads that meet them.
-use crate::fixtures::samples::{A_O, Failing, TestReader, TestWriter};
 use crate::fixtures::{failed_read, failed_write, has_text};
+use aout_core::samples::{A_O, Failing, TestReader, TestWriter};
 use aout_core::{File, ObjectFault, ReadFault, Refused, Wire};
 use link_out::LinkFault;
 use link_session::AddFault;

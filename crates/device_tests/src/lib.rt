@@ -1,5 +1,5 @@
-//! Tests of what no case can say: devices that fail and how often they are called, texts of faults, and the calls below the commands; and
-//! what these share.
+//! Tests that need several crates, and that no case can show: devices that fail and how often they are called, texts of faults, and
+//! the calls below the commands; and what these share.
 #![tactic(auto)]
 
 #[cfg(test)]
@@ -30,6 +30,6 @@ mod runs;
 #[cfg(test)]
 mod script_calls;
 #[cfg(test)]
-mod steps;
+mod standard_error;
 #[cfg(test)]
-mod wires;
+mod steps;

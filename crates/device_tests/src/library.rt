@@ -1,6 +1,6 @@
 //! The calls that take bytes and give bytes: what they give, and why they give nothing.
-use crate::fixtures::samples::{A_O, B_O, C_O, D_O, G_O};
 use crate::fixtures::{TWO_OBJECTS, UNDEFINED, sized};
+use aout_core::samples::{A_O, B_O, C_O, D_O, G_O};
 use aout_core::{ObjectFault, ReadFault};
 use library_calls::{
     Cause, LinkRequest, LongPart, ObjectBytes, ObjectParts, ObjectWord, Refusal, ReportedName,

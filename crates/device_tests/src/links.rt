@@ -1,6 +1,6 @@
 //! Links of bytes in memory, and devices that fail at each place of an input, or when they are flushed.
-use crate::fixtures::samples::{A_O, B_O, C_O, Failing, TestReader, TestWriter};
 use crate::fixtures::{TWO_OBJECTS, plain, wires};
+use aout_core::samples::{A_O, B_O, C_O, Failing, TestReader, TestWriter};
 use aout_core::{File, ReadFault, Wire, read_file};
 use link_out::{Keep, Linked};
 use link_session::Forced;

@@ -1,8 +1,8 @@
 //! Lists and sizes on devices that fail.
-use crate::fixtures::samples::Failing;
 use crate::fixtures::{S_O_LIST, s_o};
 use crate::links::{FAILURES, failing_writer};
 use aout_core::File;
+use aout_core::samples::Failing;
 use std::alloc::Global;
 use std::test::Fail;
 use symtools::{NmOptions, ToolFault, nm, size};

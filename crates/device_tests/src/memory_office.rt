@@ -2,8 +2,8 @@
 //! system says of this one what was opened and stored. A session is run on it.
 ghost use Rattle.std.specs.Prelude.{◌≡◌, [], ◌∷◌, ◌++◌, string_bytes};
 
-use crate::fixtures::samples::{A_O, TestReader, TestWriter};
 use crate::fixtures::words;
+use aout_core::samples::{A_O, TestReader, TestWriter};
 use aout_core::{File, Parts, Wire};
 use std::alloc::Global;
 use std::process::Abort;

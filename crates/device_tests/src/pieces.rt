@@ -1,9 +1,9 @@
 //! Devices that give and take the bytes of a file in pieces, and how often they are called.
 ghost use Rattle.std.specs.Prelude.{◌<◌};
 
-use crate::fixtures::samples::{A_O, Failing, TestReader, TestWriter};
 use crate::fixtures::{v_o, written};
 use crate::links::FAILURES;
+use aout_core::samples::{A_O, Failing, TestReader, TestWriter};
 use aout_core::{File, ReadFault, Wire, read_file, write_file};
 use std::alloc::Global;
 use std::io::ErrorKind;

@@ -1,7 +1,7 @@
 //! Edits in one run: the replies to them, and the link of what they leave.
-use crate::fixtures::samples::{C_O, D_O, TestReader};
 use crate::fixtures::{file_of, plain, sized, written};
 use crate::links::link;
+use aout_core::samples::{C_O, D_O, TestReader};
 use aout_core::{Object, Wire, read_file};
 use link_out::{Edit, Keep, Layout, LinkFault, Options, Reply, RunFault, run};
 use link_session::{AddFault, Forced};

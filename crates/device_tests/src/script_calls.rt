@@ -1,9 +1,9 @@
 //! The lines of scripts that come in pieces, and how often a script asks its reader.
 ghost use Rattle.std.specs.Prelude.{◌<◌};
 
-use crate::fixtures::samples::TestReader;
 use crate::fixtures::{ASKED, SCRIPT, answer_texts};
 use aout_core::Wire;
+use aout_core::samples::TestReader;
 use std::alloc::Global;
 use std::io::ErrorKind;
 use std::test::Fail;

@@ -1,7 +1,7 @@
 //! The steps of a session whose answers fail at each byte.
-use crate::fixtures::samples::{C_O, D_O, Failing, TestReader, TestWriter};
 use crate::fixtures::{ANSWERS, plain};
 use aout_core::Wire;
+use aout_core::samples::{C_O, D_O, Failing, TestReader, TestWriter};
 use link_out::{Keep, Linked};
 use link_session::Session;
 use std::alloc::{AllocError, Global};

@@ -1,12 +1,9 @@
 //! Wires whose device fails once and is then left alone, and what they pass on with no failure.
-use crate::fixtures::samples::{Failing, TestReader, TestWriter};
-use aout_core::Wire;
+use crate::samples::{Failing, TestReader, TestWriter};
+use crate::wire::Wire;
 use std::alloc::Global;
-use std::fmt::Display;
-use std::io;
-use std::io::{ErrorKind, Write};
+use std::io::ErrorKind;
 use std::test::Fail;
-use surroundings::StandardError;
 
 /// Failures that another program might take for no failure at all.
 static PASSING: [ErrorKind; 3] = [
@@ -116,30 +113,4 @@ fn failed_flush_is_latched(rt: HostRuntime) {
     let mut wire = Wire::new(TestWriter::new(Vec::new(rt.alloc()), 1, 0, broken));
     let is_latched = wire.flush().is_err() && wire.failed() && wire.flush().is_err();
     assert!(rt; is_latched && wire.into_inner().flushes() == 1);
-}
-
-/// A standard error that takes nothing.
-#[derive(Drop)]
-struct Closed;
-
-impl Eprint for Closed {
-    fn eprint<D: Display + Drop>(&self, _value: D) -> io::Result<()> {
-        Err(io::Error::from(ErrorKind::BrokenPipe))
-    }
-
-    fn eprintln<D: Display + Drop>(&self, value: D) -> io::Result<()> {
-        self.eprint(value)
-    }
-}
-
-/// The kind of the error that standard error returns for these bytes.
-fn refusal(bytes: &[u8]) -> Option<ErrorKind> {
-    let error = StandardError::new(&Closed).write(bytes).err()?;
-    Some(error.kind())
-}
-
-#[test]
-fn errors_of_standard_error(rt: HostRuntime) {
-    assert!(rt; refusal(b"x") == Some(ErrorKind::BrokenPipe));
-    assert!(rt; refusal(b"\xff") == Some(ErrorKind::InvalidData));
 }
