@@ -25,6 +25,11 @@ abbrev pub without_wire : {R : Type 0} → Result (Unit {0}) (CliFault × Latche
 without_wire (Ok x) = Ok x
 without_wire (Err refused) = Err refused.0
 
+-- a link without the session that comes with it
+abbrev pub without_session : Result (Linked × Kept) CliFault → Result Linked CliFault
+without_session (Ok made) = Ok made.0
+without_session (Err fault) = Err fault
+
 -- the inputs before one are taken, which leaves these objects, and the link stops at that one
 abbrev pub StopsWith : List (List ℕ) → List Labelled → List Input → Said → List Labelled → Type 0
 StopsWith forced kept [] said left = ⊥

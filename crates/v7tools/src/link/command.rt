@@ -6,13 +6,14 @@ ghost use Rattle.v7tools.specs.LinkRuns.{IsLinkRun, Reports, ReportsIf};
 ghost use Rattle.v7tools.specs.internal.Openings.{IsOpening};
 
 use crate::fault::CliFault;
-use crate::link::linking::ld;
+use crate::link::linking::ld_of_session;
 use crate::setting::Setting;
 use crate::status::Status;
 use aout_core::{BufferedWrite, Wire};
 use link_out::Report;
 use link_session::Forced;
 use std::alloc::Global;
+use std::mem::forget;
 use surroundings::{Office, Stored};
 
 /// Opens the files in order, all before any is read.
@@ -77,7 +78,9 @@ pub(crate) fn link_files<O: Office, W: BufferedWrite>(
     ensures passed { IsPassedOn W.waiting output.old → IsPassedOn W.waiting output.new }
 {
     let inputs = open_all(setting.alloc, office, files)?;
-    let linked = ld(setting.alloc, inputs, forced, setting.options)?;
+    let (linked, session) = ld_of_session(setting.alloc, inputs, forced, setting.options)?;
+    // the program ends soon, and the system takes all memory back at once
+    forget(session);
     let stored = office.store(out.as_str(), &linked.file);
     report_stored(&linked.report, out, stored, output)
 }

@@ -3,7 +3,7 @@ ghost use Rattle.std.specs.Prelude.{◌≡◌, ◌↔◌, true, IfErr, IfOk, IsT
 ghost use Rattle.aout_core.specs.WellFormed.{IsWellFormed};
 ghost use Rattle.link_session.specs.Labelled.{objects};
 ghost use Rattle.link_out.specs.function.Link.{link};
-ghost use Rattle.v7tools.specs.internal.InputParts.{AreTaken, IsDeviceFault, IsFinalLink, without_wire};
+ghost use Rattle.v7tools.specs.internal.InputParts.{AreTaken, IsDeviceFault, IsFinalLink, without_session, without_wire};
 ghost use Rattle.v7tools.specs.LinkAnswers.{inputs_of, IsLinkOf};
 
 use crate::fault::CliFault;
@@ -46,6 +46,26 @@ fn link_inputs(alloc: Global, session: &Session, options: &Options) -> Result<Li
     Ok(finish(alloc, session, options)?)
 }
 
+/// The link that `ld` makes, and its session: a program that ends soon need not free each of its lists.
+pub(crate) fn ld_of_session<R: Read + Drop>(
+    alloc: Global,
+    inputs: Vec<(String, Wire<R>)>,
+    forced: &Forced,
+    options: &Options,
+) -> Result<(Linked, Session), CliFault>
+    ensures value { IsLinkOf forced.now options.now (inputs_of R.remaining inputs.items)
+        (without_session result) }
+    ensures object { options.now.relocatable ≡ true
+        → IfOk result (λ made. IsWellFormed made.0.file) }
+{
+    let mut session = Session::with_forced(alloc, forced)?;
+    if let Err((fault, _)) = take_inputs(alloc, &mut session, inputs) {
+        return Err(fault);
+    }
+    let linked = link_inputs(alloc, &session, options)?;
+    Ok((linked, session))
+}
+
 /// Links the files of the inputs, pairs of a path and a reader, in their order, after the forced names. Each is
 /// read, checked and added before the next one is read, and a refusal ends the link. With relocation the file is an
 /// object, which can be linked again. (ld(1))
@@ -66,9 +86,6 @@ pub fn ld<R: Read + Drop>(
     ensures object { options.now.relocatable ≡ true
         → IfOk result (λ linked. IsWellFormed linked.file) }
 {
-    let mut session = Session::with_forced(alloc, forced)?;
-    if let Err((fault, _)) = take_inputs(alloc, &mut session, inputs) {
-        return Err(fault);
-    }
-    link_inputs(alloc, &session, options)
+    let (linked, _session) = ld_of_session(alloc, inputs, forced, options)?;
+    Ok(linked)
 }
