@@ -1,6 +1,6 @@
 -- Lists that are written item by item. (own choice)
 use Rattle.std.specs.Prelude.{ℕ, ◌+◌, List, [], ◌∷◌, ◌++◌, Option, Some, None, slice_get}
-use Rattle.link_session.specs.{declared.state.State.State, Image.Named}
+use Rattle.link_session.specs.{declared.state.State.State, Image.Named, Undo.Kept, Undo.image_of}
 
 -- each item by its index, from this one on
 abbrev pub each_from : {A B : Type 0} → (ℕ → A → List B) → ℕ → List A → List B
@@ -17,3 +17,7 @@ name_in (Some e) = e.0
 
 abbrev pub name_at : Named → ℕ → List ℕ
 name_at es i = name_in (slice_get es i)
+
+-- the externals of a session
+abbrev pub named : Kept → Named
+named s = (image_of s).externals

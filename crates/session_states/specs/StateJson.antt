@@ -9,7 +9,7 @@ use Rattle.link_session.specs.{declared.mark.Mark.TheVariants.CellWas, declared.
 use Rattle.link_session.specs.{declared.mark.Place.TheVariants.InText, declared.mark.Place.TheVariants.InData, declared.state.State.State}
 use Rattle.link_session.specs.{declared.state.State.TheVariants.Defined, declared.state.State.TheVariants.Wanted, Image.Image, Image.Named}
 use Rattle.link_session.specs.{Sessions.newest, Undo.Kept, Undo.image_of}
-use Rattle.session_states.specs.Items.{name_at}
+use Rattle.session_states.specs.Items.{name_at, named}
 use Rattle.session_states.specs.Json.{Put, bool_text, bytes_string, each_put, list, member, nothing_written, object, text_string, with_key, with_value}
 use Rattle.aout_core.specs.declared.symbol.Segment.TheVariants as segments
 use Rattle.link_session.specs.declared.cell.Target.TheVariants as targets
@@ -82,11 +82,11 @@ image_members m json =
     names_members m (number_member (codes "bss") m.bss_total
     (words_member m.externals (codes "data") m.data_cells (words_member m.externals (codes "text") m.text_cells json)))
 
-abbrev pub marks_member : Kept → Put
-marks_member s json = list (each_put (mark_json (image_of s).externals) 0 (newest s.journal)) (with_key json (codes "marks"))
-
-abbrev pub session_json : Kept → Put
-session_json s = object (λ json. marks_member s (image_members (image_of s) (number_member (codes "objects") (length s.entries) json)))
+-- the object of a session, whose last addition overwrote this
+abbrev pub session_json : Kept → List Mark → Put
+session_json s marks = object
+    (λ json. list (each_put (mark_json (named s)) 0 marks)
+    (with_key (image_members (image_of s) (number_member (codes "objects") (length s.entries) json)) (codes "marks")))
 
 abbrev pub state_json : Kept → List ℕ
-state_json s = (session_json s nothing_written).text
+state_json s = (session_json s (newest s.journal) nothing_written).text

@@ -4,14 +4,13 @@
 -- what it refers to or waits for. Then come the size of bss, each external name with its state, the names that are multiply
 -- defined, and what the addition of the last object overwrote, in order. Words and offsets have six octal digits, and sizes are decimal.
 use Rattle.std.specs.Prelude.{ℕ, ◌*◌, Bool, true, false, eqb, if◌then◌else◌, List, [], ◌∷◌, ◌++◌, codes, decimal}
-use Rattle.aout_core.specs.declared.symbol.Segment.{Segment}
 use Rattle.link_session.specs.{declared.cell.Cell.Cell, declared.cell.Target.Target, declared.mark.Mark.Mark}
 use Rattle.link_session.specs.{declared.mark.Mark.TheVariants.CellWas, declared.mark.Mark.TheVariants.StateWas, declared.mark.Place.Place}
 use Rattle.link_session.specs.{declared.mark.Place.TheVariants.InText, declared.mark.Place.TheVariants.InData, declared.state.State.State}
 use Rattle.link_session.specs.{declared.state.State.TheVariants.Defined, declared.state.State.TheVariants.Wanted, Image.Image, Image.Named}
 use Rattle.link_session.specs.{Labelled.Labelled, Sessions.newest, Undo.Kept, Undo.image_of}
 use Rattle.texts.specs.{Numbers.six_digits, Names.printable_name}
-use Rattle.session_states.specs.Items.{each, name_at}
+use Rattle.session_states.specs.Items.{each, name_at, named}
 use Rattle.aout_core.specs.declared.symbol.Segment.TheVariants as segments
 use Rattle.link_session.specs.declared.cell.Target.TheVariants as targets
 
@@ -30,26 +29,19 @@ pc_text false = codes "     "
 abbrev pub cell_text : Named → Cell → List ℕ
 cell_text es c = six_digits c.value ++ pc_text c.pc ++ target_text es c.target
 
--- the segment of a definition
-abbrev pub segment_text : Segment → List ℕ
-segment_text segments.TextSeg = codes "text "
-segment_text segments.DataSeg = codes "data "
-segment_text segments.BssSeg = codes "bss "
-segment_text _ = codes "the number "
-
 abbrev pub wanted_text : ℕ → List ℕ
 wanted_text size = if eqb size 0 then codes "undefined" else codes "a common of " ++ decimal size ++ codes " bytes"
 
 abbrev pub state_text : State → List ℕ
-state_text (Defined segment offset) = segment_text segment ++ six_digits offset
+state_text (Defined segments.TextSeg offset) = codes "text " ++ six_digits offset
+state_text (Defined segments.DataSeg offset) = codes "data " ++ six_digits offset
+state_text (Defined segments.BssSeg offset) = codes "bss " ++ six_digits offset
+state_text (Defined _ number) = codes "the number " ++ six_digits number
 state_text (Wanted size) = wanted_text size
 
--- the word of this index in a segment, without a newline
-abbrev pub cell_row : Named → List ℕ → ℕ → Cell → List ℕ
-cell_row es segment i c = codes "  " ++ segment ++ six_digits (2 * i) ++ codes "  " ++ cell_text es c
-
+-- the word of this index in a segment
 abbrev pub cell_line : Named → List ℕ → ℕ → Cell → List ℕ
-cell_line es segment i c = cell_row es segment i c ++ codes "\n"
+cell_line es segment i c = codes "  " ++ segment ++ six_digits (2 * i) ++ codes "  " ++ cell_text es c ++ codes "\n"
 
 abbrev pub external_line : List ℕ × State → List ℕ
 external_line e = codes "  name " ++ printable_name e.0 ++ codes ": " ++ state_text e.1 ++ codes "\n"
@@ -85,4 +77,4 @@ image_lines m =
     ++ each (λ _ n. multiple_line n) m.multiples
 
 abbrev pub state_lines : Kept → List ℕ
-state_lines s = nothing_line s.entries ++ image_lines (image_of s) ++ each (λ _ k. mark_line (image_of s).externals k) (newest s.journal)
+state_lines s = nothing_line s.entries ++ image_lines (image_of s) ++ each (λ _ k. mark_line (named s) k) (newest s.journal)

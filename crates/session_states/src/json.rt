@@ -1,72 +1,16 @@
 //! What a session knows, as JSON.
-ghost use Rattle.std.specs.Prelude.{◌≡◌, ◌*◌, ◌<◌, ◌≤◌, length, false, IfOk};
-ghost use Rattle.texts.specs.Texts.{Puts};
-ghost use Rattle.std.specs.Fmt.{digit_glyph};
-ghost use Rattle.std.specs.List.{flat_map};
+ghost use Rattle.std.specs.Prelude.{◌≡◌, ◌*◌, ◌<◌, ◌≤◌, length, IfOk};
 ghost use Rattle.link_session.specs.Labelled.{objects};
 ghost use Rattle.link_session.specs.Undo.{IsJournal, image_of};
-ghost use Rattle.session_states.specs.Json.{Becomes, each_put, json_byte, json_text_byte};
-ghost use Rattle.session_states.specs.StateJson.{cell_members, external_json, image_members, mark_json, mark_members, marks_member, multiple_json, name_member, names_members, number_member, place_members, session_json, state_as, state_json, state_members, target_members, was, word_json, word_member, words_member};
+ghost use Rattle.session_states.specs.Items.{named};
+ghost use Rattle.session_states.specs.Json.{Becomes, each_put};
+ghost use Rattle.session_states.specs.StateJson.{cell_members, external_json, image_members, mark_json, mark_members, multiple_json, name_member, names_members, number_member, place_members, session_json, state_as, state_json, state_members, was, word_json, word_member, words_member};
 
 use crate::json_writer::JsonWriter;
 use crate::names::name_at;
 use aout_core::{Name, Segment};
 use link_session::{Cell, Mark, Place, Session, State, Target};
 use std::alloc::{AllocError, Global};
-use texts::Text;
-
-fn hex_digit(digit: u8) -> u8
-    requires { digit < 16 }
-    ensures { result ≡ digit_glyph false digit }
-{
-    if digit < 10 {
-        b'0' + digit
-    } else {
-        b'a' + (digit - 10)
-    }
-}
-
-/// Appends a byte of a name.
-fn put_json_byte(text: &mut Text, byte: u8)
-    ensures { Puts text.old text.new (json_byte byte) }
-{
-    if byte > 31 && byte < 127 && byte != b'"' && byte != b'\\' {
-        return text.put_byte(byte);
-    }
-    text.put("\\u00");
-    text.put_byte(hex_digit(byte / 16));
-    text.put_byte(hex_digit(byte % 16));
-}
-
-/// Appends bytes as what is between the quotes of a JSON string, each as the character of its number: one that does not print in
-/// ASCII, a quote and a backslash are `\u00` and two hexadecimal digits. (own choice)
-pub(crate) fn put_json_bytes(text: &mut Text, bytes: &[u8])
-    ensures { Puts text.old text.new (flat_map json_byte bytes.now) }
-{
-    for byte in bytes {
-        put_json_byte(text, *byte);
-    }
-}
-
-/// Appends a byte of a text in UTF-8.
-fn put_json_text_byte(text: &mut Text, byte: u8)
-    ensures { Puts text.old text.new (json_text_byte byte) }
-{
-    if byte > 127 {
-        return text.put_byte(byte);
-    }
-    put_json_byte(text, byte);
-}
-
-/// Appends a text as what is between the quotes of a JSON string: its characters beyond ASCII as they are, and the others as
-/// `put_json_bytes` has them. (own choice)
-pub(crate) fn put_json_text(text: &mut Text, characters: &str)
-    ensures { Puts text.old text.new (flat_map json_text_byte characters.now) }
-{
-    for byte in characters.as_bytes() {
-        put_json_text_byte(text, *byte);
-    }
-}
 
 fn put_number(out: &mut JsonWriter, key: &str, number: u64)
     ensures { Becomes out.old out.new (number_member key.now number) }
@@ -89,11 +33,14 @@ fn put_name(out: &mut JsonWriter, name: &Name)
     out.put_bytes(b"", name.as_bytes());
 }
 
-/// Puts what a word refers to, or the name that it waits for.
-fn put_target(out: &mut JsonWriter, session: &Session, target: Target)
-    ensures { Becomes out.old out.new (target_members (image_of session.now).externals target) }
+/// Puts the members of a word: its value, and what it refers to or waits for.
+fn put_cell(out: &mut JsonWriter, session: &Session, cell: Cell)
+    ensures { Becomes out.old out.new (cell_members (named session.now) cell) }
 {
-    match target {
+    put_number(out, "value", u64::from(cell.value));
+    out.put_key("pc");
+    out.put_bool(cell.pc);
+    match cell.target {
         Target::Absolute => put_word(out, "target", "number"),
         Target::TextSeg => put_word(out, "target", "text"),
         Target::DataSeg => put_word(out, "target", "data"),
@@ -103,16 +50,6 @@ fn put_target(out: &mut JsonWriter, session: &Session, target: Target)
             put_name(out, &name_at(session, index));
         }
     }
-}
-
-/// Puts the members of a word: its value, and what it refers to or waits for.
-fn put_cell(out: &mut JsonWriter, session: &Session, cell: Cell)
-    ensures { Becomes out.old out.new (cell_members (image_of session.now).externals cell) }
-{
-    put_number(out, "value", u64::from(cell.value));
-    out.put_key("pc");
-    out.put_bool(cell.pc);
-    put_target(out, session, cell.target);
 }
 
 fn put_state_as(out: &mut JsonWriter, word: &str, value: u16)
@@ -136,10 +73,10 @@ fn put_state(out: &mut JsonWriter, state: State)
     }
 }
 
-/// Puts a word of a segment.
+/// Puts the word of this index in a segment.
 fn put_word_at(out: &mut JsonWriter, session: &Session, index: usize, cell: Cell)
     requires { index < 65536 }
-    ensures { Becomes out.old out.new (word_json (image_of session.now).externals index cell) }
+    ensures { Becomes out.old out.new (word_json (named session.now) index cell) }
 {
     out.begin_object();
     put_number(out, "offset", 2 * index as u64);
@@ -147,15 +84,25 @@ fn put_word_at(out: &mut JsonWriter, session: &Session, index: usize, cell: Cell
     out.end_object();
 }
 
-/// Puts the words of a segment.
 #[tactic(auto, using(crate::proofs::PutLemmas::by_item))]
 fn put_words(out: &mut JsonWriter, session: &Session, cells: &[Cell])
     requires { 2 * length cells.now ≤ 65534 }
-    ensures { Becomes out.old out.new (each_put (word_json (image_of session.now).externals) 0 cells.now) }
+    ensures { Becomes out.old out.new (each_put (word_json (named session.now)) 0 cells.now) }
 {
     for (index, cell) in cells.iter().enumerate() {
         put_word_at(out, session, index, *cell);
     }
+}
+
+/// Puts the words of a segment.
+fn put_segment(out: &mut JsonWriter, session: &Session, key: &str, cells: &[Cell])
+    requires { 2 * length cells.now ≤ 65534 }
+    ensures { Becomes out.old out.new (words_member (named session.now) key.now cells.now) }
+{
+    out.put_key(key);
+    out.begin_list();
+    put_words(out, session, cells);
+    out.end_list();
 }
 
 fn put_external(out: &mut JsonWriter, name: &Name, state: State)
@@ -167,10 +114,8 @@ fn put_external(out: &mut JsonWriter, name: &Name, state: State)
     out.end_object();
 }
 
-/// Puts the external names with what is known of each.
-#[tactic(auto, using(crate::proofs::PutLemmas::by_item))]
 fn put_externals(out: &mut JsonWriter, session: &Session)
-    ensures { Becomes out.old out.new (each_put external_json 0 (image_of session.now).externals) }
+    ensures { Becomes out.old out.new (each_put external_json 0 (named session.now)) }
 {
     for index in 0..session.external_count() {
         let (name, state) = session.external(index).unwrap();
@@ -178,7 +123,6 @@ fn put_externals(out: &mut JsonWriter, session: &Session)
     }
 }
 
-/// Puts the names that are multiply defined.
 #[tactic(auto, using(crate::proofs::PutLemmas::by_item))]
 fn put_multiples(out: &mut JsonWriter, names: &[Name])
     ensures { Becomes out.old out.new (each_put multiple_json 0 names.now) }
@@ -188,75 +132,7 @@ fn put_multiples(out: &mut JsonWriter, names: &[Name])
     }
 }
 
-fn put_place(out: &mut JsonWriter, segment: &str, index: u16)
-    ensures { Becomes out.old out.new (place_members segment.now index) }
-{
-    put_word(out, "segment", segment);
-    put_number(out, "offset", 2 * u64::from(index));
-}
-
-/// Puts what was in a word.
-fn put_cell_was(out: &mut JsonWriter, session: &Session, cell: Cell)
-    ensures { Becomes out.old out.new (was (cell_members (image_of session.now).externals cell)) }
-{
-    out.put_key("was");
-    out.begin_object();
-    put_cell(out, session, cell);
-    out.end_object();
-}
-
-/// Puts where something was overwritten, and what was there.
-fn put_mark_members(out: &mut JsonWriter, session: &Session, mark: Mark)
-    ensures { Becomes out.old out.new (mark_members (image_of session.now).externals mark) }
-{
-    match mark {
-        Mark::CellWas(Place::InText(index), cell) => {
-            put_place(out, "text", index);
-            put_cell_was(out, session, cell);
-        }
-        Mark::CellWas(Place::InData(index), cell) => {
-            put_place(out, "data", index);
-            put_cell_was(out, session, cell);
-        }
-        Mark::StateWas(index, state) => {
-            put_name(out, &name_at(session, index));
-            out.put_key("was");
-            out.begin_object();
-            put_state(out, state);
-            out.end_object();
-        }
-    }
-}
-
-fn put_mark(out: &mut JsonWriter, session: &Session, mark: Mark)
-    ensures { Becomes out.old out.new (mark_json (image_of session.now).externals 0 mark) }
-{
-    out.begin_object();
-    put_mark_members(out, session, mark);
-    out.end_object();
-}
-
-/// Puts what the addition of the last object overwrote.
-#[tactic(auto, using(crate::proofs::PutLemmas::by_item))]
-fn put_marks(out: &mut JsonWriter, session: &Session, marks: &[Mark])
-    ensures { Becomes out.old out.new (each_put (mark_json (image_of session.now).externals) 0 marks.now) }
-{
-    for mark in marks {
-        put_mark(out, session, *mark);
-    }
-}
-
-fn put_segment(out: &mut JsonWriter, session: &Session, key: &str, cells: &[Cell])
-    requires { 2 * length cells.now ≤ 65534 }
-    ensures { Becomes out.old out.new (words_member (image_of session.now).externals key.now cells.now) }
-{
-    out.put_key(key);
-    out.begin_list();
-    put_words(out, session, cells);
-    out.end_list();
-}
-
-/// Puts the names: the externals, and those that are multiply defined.
+/// Puts the names: the externals with what is known of each, and those that are multiply defined.
 fn put_names(out: &mut JsonWriter, session: &Session)
     ensures { Becomes out.old out.new (names_members (image_of session.now)) }
 {
@@ -279,25 +155,68 @@ fn put_image(out: &mut JsonWriter, session: &Session)
     put_names(out, session);
 }
 
-fn put_last_marks(out: &mut JsonWriter, session: &Session)
-    ensures json { Becomes out.old out.new (marks_member session.now) }
-    ensures journal { IsJournal session.now.forced (objects session.now.entries) session.now.journal }
+/// Puts what was in a word of a segment.
+fn put_cell_was(out: &mut JsonWriter, session: &Session, segment: &str, index: u16, cell: Cell)
+    ensures { Becomes out.old out.new (λ json.
+        was (cell_members (named session.now) cell) (place_members segment.now index json)) }
 {
-    out.put_key("marks");
-    out.begin_list();
-    put_marks(out, session, session.last_marks());
-    out.end_list();
+    put_word(out, "segment", segment);
+    put_number(out, "offset", 2 * u64::from(index));
+    out.put_key("was");
+    out.begin_object();
+    put_cell(out, session, cell);
+    out.end_object();
 }
 
-/// Puts the object of a session.
-fn put_session(out: &mut JsonWriter, session: &Session)
-    ensures json { Becomes out.old out.new (session_json session.now) }
-    ensures journal { IsJournal session.now.forced (objects session.now.entries) session.now.journal }
+/// Puts where something was overwritten, and what was there.
+fn put_mark_members(out: &mut JsonWriter, session: &Session, mark: Mark)
+    ensures { Becomes out.old out.new (mark_members (named session.now) mark) }
+{
+    match mark {
+        Mark::CellWas(Place::InText(index), cell) => {
+            put_cell_was(out, session, "text", index, cell);
+        }
+        Mark::CellWas(Place::InData(index), cell) => {
+            put_cell_was(out, session, "data", index, cell);
+        }
+        Mark::StateWas(index, state) => {
+            put_name(out, &name_at(session, index));
+            out.put_key("was");
+            out.begin_object();
+            put_state(out, state);
+            out.end_object();
+        }
+    }
+}
+
+fn put_mark(out: &mut JsonWriter, session: &Session, mark: Mark)
+    ensures { Becomes out.old out.new (mark_json (named session.now) 0 mark) }
+{
+    out.begin_object();
+    put_mark_members(out, session, mark);
+    out.end_object();
+}
+
+#[tactic(auto, using(crate::proofs::PutLemmas::by_item))]
+fn put_marks(out: &mut JsonWriter, session: &Session, marks: &[Mark])
+    ensures { Becomes out.old out.new (each_put (mark_json (named session.now)) 0 marks.now) }
+{
+    for mark in marks {
+        put_mark(out, session, *mark);
+    }
+}
+
+/// Puts the object of a session whose last addition left these marks.
+fn put_session(out: &mut JsonWriter, session: &Session, marks: &[Mark])
+    ensures { Becomes out.old out.new (session_json session.now marks.now) }
 {
     out.begin_object();
     put_number(out, "objects", session.entries().len() as u64);
     put_image(out, session);
-    put_last_marks(out, session);
+    out.put_key("marks");
+    out.begin_list();
+    put_marks(out, session, marks);
+    out.end_list();
     out.end_object();
 }
 
@@ -322,6 +241,6 @@ pub fn state_json(alloc: Global, session: &Session) -> Result<Vec<u8>, AllocErro
         IsJournal session.now.forced (objects session.now.entries) session.now.journal) }
 {
     let mut out = JsonWriter::new(alloc);
-    put_session(&mut out, session);
+    put_session(&mut out, session, session.last_marks());
     out.finish()
 }

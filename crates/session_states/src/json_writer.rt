@@ -1,8 +1,10 @@
 //! A JSON text that is written value by value.
-ghost use Rattle.std.specs.Prelude.{◌≡◌, ◌++◌, true, false, codes, decimal, IfOk};
-ghost use Rattle.session_states.specs.Json.{Becomes, bool_text, bytes_string, nothing_written, separator, text_string, with_end, with_key, with_line_end, with_start, with_value};
+ghost use Rattle.std.specs.Prelude.{◌≡◌, ◌<◌, ◌++◌, true, false, codes, decimal, IfOk};
+ghost use Rattle.std.specs.Fmt.{digit_glyph};
+ghost use Rattle.std.specs.List.{flat_map};
+ghost use Rattle.texts.specs.Texts.{Puts};
+ghost use Rattle.session_states.specs.Json.{Becomes, bool_text, bytes_string, json_byte, json_text_byte, nothing_written, text_string, with_end, with_key, with_line_end, with_start, with_value};
 
-use crate::json::{put_json_bytes, put_json_text};
 use itoa::Buffer;
 use std::alloc::{AllocError, Global};
 use std::marker::Model;
@@ -25,10 +27,56 @@ impl Model for JsonWriter {
     ghost view = { λ w. record { json = record { text = w.text.bytes; is_after_value = w.is_after_value }; is_cut = w.text.is_cut } };
 }
 
-fn separator(is_after_value: bool) -> &'static str
-    ensures { result.now ≡ separator is_after_value }
+fn hex_digit(digit: u8) -> u8
+    requires { digit < 16 }
+    ensures { result ≡ digit_glyph false digit }
 {
-    if is_after_value { "," } else { "" }
+    if digit < 10 {
+        b'0' + digit
+    } else {
+        b'a' + (digit - 10)
+    }
+}
+
+fn put_json_byte(text: &mut Text, byte: u8)
+    ensures { Puts text.old text.new (json_byte byte) }
+{
+    if byte > 31 && byte < 127 && byte != b'"' && byte != b'\\' {
+        return text.put_byte(byte);
+    }
+    text.put("\\u00");
+    text.put_byte(hex_digit(byte / 16));
+    text.put_byte(hex_digit(byte % 16));
+}
+
+/// Appends bytes as what is between the quotes of a JSON string, each as the character of its number: one that does not print in
+/// ASCII, a quote and a backslash are `\u00` and two hexadecimal digits. (own choice)
+fn put_json_bytes(text: &mut Text, bytes: &[u8])
+    ensures { Puts text.old text.new (flat_map json_byte bytes.now) }
+{
+    for byte in bytes {
+        put_json_byte(text, *byte);
+    }
+}
+
+/// Appends a byte of a text in UTF-8.
+fn put_json_text_byte(text: &mut Text, byte: u8)
+    ensures { Puts text.old text.new (json_text_byte byte) }
+{
+    if byte > 127 {
+        return text.put_byte(byte);
+    }
+    put_json_byte(text, byte);
+}
+
+/// Appends a text as what is between the quotes of a JSON string: its characters beyond ASCII as they are, and the others as
+/// `put_json_bytes` has them. (own choice)
+fn put_json_text(text: &mut Text, characters: &str)
+    ensures { Puts text.old text.new (flat_map json_text_byte characters.now) }
+{
+    for byte in characters.as_bytes() {
+        put_json_text_byte(text, *byte);
+    }
 }
 
 impl JsonWriter {
@@ -47,7 +95,7 @@ impl JsonWriter {
     fn start(&mut self, start: &str)
         ensures { Becomes self.old self.new (λ json. with_start json start.now) }
     {
-        self.text.put(separator(self.is_after_value));
+        self.text.put(if self.is_after_value { "," } else { "" });
         self.text.put(start);
         self.is_after_value = false;
     }

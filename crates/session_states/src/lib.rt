@@ -14,7 +14,6 @@
 //! Functions:
 //!
 //! - `state_lines`: the image and the last marks, a line each
-//! - `nothing_line`, `put_cell_row`, `put_bss`, `put_external`, `put_multiple`, `put_marks`: its lines, kind by kind
 //! - `state_json`: the same as one JSON object
 #![tactic(auto)]
 
@@ -25,6 +24,4 @@ mod names;
 
 pub use json::state_json;
 pub use json_writer::JsonWriter;
-pub use lines::{
-    nothing_line, put_bss, put_cell_row, put_external, put_marks, put_multiple, state_lines,
-};
+pub use lines::state_lines;

@@ -1,12 +1,12 @@
 //! What a session knows, as lines.
-ghost use Rattle.std.specs.Prelude.{◌≡◌, ◌*◌, ◌<◌, ◌≤◌, ◌++◌, length, IfOk};
+ghost use Rattle.std.specs.Prelude.{◌≡◌, ◌*◌, ◌≤◌, ◌<◌, ◌++◌, length, IfOk};
 ghost use Rattle.link_session.specs.Sessions.{newest};
 ghost use Rattle.link_session.specs.Labelled.{objects};
 ghost use Rattle.link_session.specs.Undo.{IsJournal, image_of};
 ghost use Rattle.texts.specs.Numbers.{six_digits};
 ghost use Rattle.texts.specs.Texts.{Puts};
-ghost use Rattle.session_states.specs.Items.{each};
-ghost use Rattle.session_states.specs.StateLines.{bss_line, cell_line, cell_row, cell_text, external_line, image_lines, mark_line, mark_text, multiple_line, nothing_line, pc_text, place_text, segment_text, state_lines, state_text, target_text, wanted_text};
+ghost use Rattle.session_states.specs.Items.{each, named};
+ghost use Rattle.session_states.specs.StateLines.{bss_line, cell_line, cell_text, external_line, image_lines, mark_line, mark_text, multiple_line, nothing_line, state_lines, state_text};
 
 use crate::names::name_at;
 use aout_core::{Name, Segment};
@@ -14,11 +14,13 @@ use link_session::{Cell, Entry, Mark, Place, Session, State, Target};
 use std::alloc::{AllocError, Global};
 use texts::Text;
 
-/// Appends what a word refers to, or waits for.
-fn put_target(text: &mut Text, session: &Session, target: Target)
-    ensures { Puts text.old text.new (target_text (image_of session.now).externals target) }
+/// Appends a word, `pc` if it is relative to that, and what it refers to or waits for.
+fn put_cell(text: &mut Text, session: &Session, cell: Cell)
+    ensures { Puts text.old text.new (cell_text (named session.now) cell) }
 {
-    match target {
+    text.put_six_digits(u32::from(cell.value));
+    text.put(if cell.pc { " pc  " } else { "     " });
+    match cell.target {
         Target::Absolute => text.put("a number"),
         Target::TextSeg => text.put("text"),
         Target::DataSeg => text.put("data"),
@@ -30,41 +32,12 @@ fn put_target(text: &mut Text, session: &Session, target: Target)
     }
 }
 
-fn pc_text(pc: bool) -> &'static str
-    ensures { result.now ≡ pc_text pc }
+/// Appends what comes before an offset or a number, and that.
+fn put_at(text: &mut Text, front: &str, offset: u32)
+    ensures { Puts text.old text.new (front.now ++ six_digits offset) }
 {
-    if pc { " pc  " } else { "     " }
-}
-
-/// Appends a word, `pc` if it is relative to that, and what it refers to.
-fn put_cell(text: &mut Text, session: &Session, cell: Cell)
-    ensures { Puts text.old text.new (cell_text (image_of session.now).externals cell) }
-{
-    text.put_six_digits(u32::from(cell.value));
-    text.put(pc_text(cell.pc));
-    put_target(text, session, cell.target);
-}
-
-fn segment_text(segment: Segment) -> &'static str
-    ensures { result.now ≡ segment_text segment }
-{
-    match segment {
-        Segment::TextSeg => "text ",
-        Segment::DataSeg => "data ",
-        Segment::BssSeg => "bss ",
-        Segment::Undefined | Segment::Absolute | Segment::Other => "the number ",
-    }
-}
-
-fn put_wanted(text: &mut Text, size: u16)
-    ensures { Puts text.old text.new (wanted_text size) }
-{
-    if size == 0 {
-        return text.put("undefined");
-    }
-    text.put("a common of ");
-    text.put_decimal(u64::from(size));
-    text.put(" bytes");
+    text.put(front);
+    text.put_six_digits(offset);
 }
 
 /// Appends what is known of an external.
@@ -72,58 +45,44 @@ fn put_state(text: &mut Text, state: State)
     ensures { Puts text.old text.new (state_text state) }
 {
     match state {
-        State::Wanted(size) => put_wanted(text, size),
-        State::Defined(segment, offset) => {
-            text.put(segment_text(segment));
-            text.put_six_digits(u32::from(offset));
+        State::Wanted(0) => text.put("undefined"),
+        State::Wanted(size) => {
+            text.put("a common of ");
+            text.put_decimal(u64::from(size));
+            text.put(" bytes");
         }
+        State::Defined(Segment::TextSeg, offset) => put_at(text, "text ", u32::from(offset)),
+        State::Defined(Segment::DataSeg, offset) => put_at(text, "data ", u32::from(offset)),
+        State::Defined(Segment::BssSeg, offset) => put_at(text, "bss ", u32::from(offset)),
+        State::Defined(_, number) => put_at(text, "the number ", u32::from(number)),
     }
-}
-
-/// Appends a segment and the offset of its word of this index.
-fn put_place(text: &mut Text, segment: &str, index: usize)
-    requires { index < 65536 }
-    ensures { Puts text.old text.new (segment.now ++ six_digits (2 * index)) }
-{
-    text.put(segment);
-    text.put_six_digits(2 * index as u32);
-}
-
-/// Appends the line of the word of this index in a segment, whose name a blank follows, without the newline. (own choice)
-pub fn put_cell_row(text: &mut Text, session: &Session, segment: &str, index: usize, cell: Cell)
-    requires { index < 65536 }
-    ensures { Puts text.old text.new
-        (cell_row (image_of session.now).externals segment.now index cell) }
-{
-    text.put("  ");
-    put_place(text, segment, index);
-    text.put("  ");
-    put_cell(text, session, cell);
 }
 
 /// Appends the line of the word of this index in a segment.
 fn put_cell_line(text: &mut Text, session: &Session, segment: &str, index: usize, cell: Cell)
     requires { index < 65536 }
-    ensures { Puts text.old text.new
-        (cell_line (image_of session.now).externals segment.now index cell) }
+    ensures { Puts text.old text.new (cell_line (named session.now) segment.now index cell) }
 {
-    put_cell_row(text, session, segment, index, cell);
+    text.put("  ");
+    put_at(text, segment, 2 * index as u32);
+    text.put("  ");
+    put_cell(text, session, cell);
     text.put("\n");
 }
 
 /// Appends the lines of a segment.
+#[tactic(auto, using(crate::proofs::EachLemmas::by_item))]
 fn put_cells(text: &mut Text, session: &Session, segment: &str, cells: &[Cell])
     requires { 2 * length cells.now ≤ 65534 }
-    ensures { Puts text.old text.new
-        (each (cell_line (image_of session.now).externals segment.now) cells.now) }
+    ensures { Puts text.old text.new (each (cell_line (named session.now) segment.now) cells.now) }
 {
     for (index, cell) in cells.iter().enumerate() {
         put_cell_line(text, session, segment, index, *cell);
     }
 }
 
-/// Appends the line of bss of this size in bytes, if there is some. (own choice)
-pub fn put_bss(text: &mut Text, size: u16)
+/// Appends the line of bss of this size in bytes, if there is some.
+fn put_bss(text: &mut Text, size: u16)
     ensures { Puts text.old text.new (bss_line size) }
 {
     if size == 0 {
@@ -134,8 +93,8 @@ pub fn put_bss(text: &mut Text, size: u16)
     text.put(" bytes\n");
 }
 
-/// Appends the line of an external: its name, and what is known of it. (own choice)
-pub fn put_external(text: &mut Text, name: &Name, state: State)
+/// Appends the line of an external: its name, and what is known of it.
+fn put_external(text: &mut Text, name: &Name, state: State)
     ensures { Puts text.old text.new (external_line (name.now, state)) }
 {
     text.put("  name ");
@@ -147,8 +106,7 @@ pub fn put_external(text: &mut Text, name: &Name, state: State)
 
 /// Appends the lines of the externals.
 fn put_externals(text: &mut Text, session: &Session)
-    ensures { Puts text.old text.new
-        (each (λ _ e. external_line e) (image_of session.now).externals) }
+    ensures { Puts text.old text.new (each (λ _ e. external_line e) (named session.now)) }
 {
     for index in 0..session.external_count() {
         let (name, state) = session.external(index).unwrap();
@@ -156,8 +114,8 @@ fn put_externals(text: &mut Text, session: &Session)
     }
 }
 
-/// Appends the line of a name that is multiply defined. (own choice)
-pub fn put_multiple(text: &mut Text, name: &Name)
+/// Appends the line of a name that is multiply defined.
+fn put_multiple(text: &mut Text, name: &Name)
     ensures { Puts text.old text.new (multiple_line name.now) }
 {
     text.put("  name ");
@@ -174,23 +132,18 @@ fn put_multiples(text: &mut Text, names: &[Name])
     }
 }
 
-/// Appends the place of a cell that was bound.
-fn put_mark_place(text: &mut Text, place: Place)
-    ensures { Puts text.old text.new (place_text place) }
-{
-    match place {
-        Place::InText(index) => put_place(text, "text ", index as usize),
-        Place::InData(index) => put_place(text, "data ", index as usize),
-    }
-}
-
-/// Appends what an addition overwrote.
+/// Appends the place that an addition overwrote, and what was there.
 fn put_mark(text: &mut Text, session: &Session, mark: Mark)
-    ensures { Puts text.old text.new (mark_text (image_of session.now).externals mark) }
+    ensures { Puts text.old text.new (mark_text (named session.now) mark) }
 {
     match mark {
-        Mark::CellWas(place, cell) => {
-            put_mark_place(text, place);
+        Mark::CellWas(Place::InText(index), cell) => {
+            put_at(text, "text ", 2 * u32::from(index));
+            text.put(" was ");
+            put_cell(text, session, cell);
+        }
+        Mark::CellWas(Place::InData(index), cell) => {
+            put_at(text, "data ", 2 * u32::from(index));
             text.put(" was ");
             put_cell(text, session, cell);
         }
@@ -203,17 +156,17 @@ fn put_mark(text: &mut Text, session: &Session, mark: Mark)
 }
 
 fn put_mark_line(text: &mut Text, session: &Session, mark: Mark)
-    ensures { Puts text.old text.new (mark_line (image_of session.now).externals mark) }
+    ensures { Puts text.old text.new (mark_line (named session.now) mark) }
 {
     text.put("  mark ");
     put_mark(text, session, mark);
     text.put("\n");
 }
 
-/// Appends the lines of what the addition of the last object overwrote. (own choice)
-pub fn put_marks(text: &mut Text, session: &Session)
+/// Appends the lines of what the addition of the last object overwrote.
+fn put_marks(text: &mut Text, session: &Session)
     ensures lists { Puts text.old text.new
-        (each (λ _ k. mark_line (image_of session.now).externals k) (newest session.now.journal)) }
+        (each (λ _ k. mark_line (named session.now) k) (newest session.now.journal)) }
     ensures journal { IsJournal session.now.forced
         (objects session.now.entries) session.now.journal }
 {
@@ -233,8 +186,8 @@ fn put_image(text: &mut Text, session: &Session)
     put_multiples(text, session.multiples());
 }
 
-/// The line that says that a session has no objects; empty if it has some. (own choice)
-pub fn nothing_line(entries: &[Entry]) -> &'static str
+/// The line that says that a session has no objects; empty if it has some.
+fn nothing_line(entries: &[Entry]) -> &'static str
     ensures { result.now ≡ nothing_line entries.now }
 {
     if entries.is_empty() {

@@ -1,12 +1,11 @@
 use Rattle.std.proofs.Common.{◌∙◌, sym}
-use Rattle.link_session.specs.Undo.{image_of}
-use Rattle.session_states.specs.{Json.each_put, StateJson.external_json}
+use Rattle.session_states.specs.{Items.named, Json.each_put, StateJson.external_json}
 use Rattle.session_states.proofs.PutLemmas.{one_more_at}
 use Rattle.session_states.proofs.json.put_externals.Goals as goal
 
 pub loop-index-preserved : goal.loop-index-preserved
 loop-index-preserved c =
-    let es = (image_of c.args.session.now).externals in
+    let es = named c.args.session.now in
     λ whole.
     let put = c.put_external.ensures whole in
     let so_far = c.loop-index.invariant put.0 in (

@@ -1,12 +1,12 @@
 use Rattle.std.proofs.Common.{ℕ, List, ◌++◌, ◌∙◌, sym}
-use Rattle.link_session.specs.{declared.state.State.State, Undo.image_of}
-use Rattle.session_states.specs.{Items.each, StateLines.external_line}
+use Rattle.link_session.specs.{declared.state.State.State}
+use Rattle.session_states.specs.{Items.each, Items.named, StateLines.external_line}
 use Rattle.session_states.proofs.EachLemmas.{one_more_at}
 use Rattle.session_states.proofs.lines.put_externals.Goals as goal
 
 pub loop-index-preserved : goal.loop-index-preserved
 loop-index-preserved c =
-    let es = (image_of c.args.session.now).externals in
+    let es = named c.args.session.now in
     let encoding = λ (_ : ℕ) (e : List ℕ × State). external_line e in
     λ whole.
     let put = c.put_external.ensures whole in
