@@ -1,11 +1,11 @@
 -- What a map finds for a name once a name, or a symbol that counts, has been put in.
 use Rattle.std.proofs.Common.{◌≡◌, ℕ, ◌+◌, ◌<◌, Bool, true, false, cond, not, ◌&&◌, nat_eq, if◌then◌else◌, List, drop, take, length, Option}
-use Rattle.std.proofs.Common.{Some, None, Result, OnErr, get_or, refl, sym, ap, ◌∙◌, rules}
+use Rattle.std.proofs.Common.{Some, None, get_or, refl, sym, ap, ◌∙◌, rules}
 use Rattle.std.proofs.{lemmas.List.drop_more}
 use Rattle.std.specs.Cmp.Lexicographic.{pointwise, same_text}
 use Rattle.indexmap.specs.IndexMap.{IndexMap, get}
 use Rattle.gnu_objects.specs.Staying.{are_alike, alike_with}
-use Rattle.gnu_objects.specs.internal.AlikeNames.{other_than, found, first_number, PutsName, PutsSymbol, PutsSymbolsFrom, FindsNoLess}
+use Rattle.gnu_objects.specs.internal.AlikeNames.{other_than, found, first_number, PutsName, PutsSymbol, PutsSymbolsFrom}
 use Rattle.gnu_objects.specs.{declared.alike.Equals.Equals, declared.symbols.GnuSymbol.GnuSymbol}
 
 pub alike-symm : (a b : List ℕ) → are_alike a b ≡ are_alike b a
@@ -14,13 +14,6 @@ alike-symm a b = search rules
 in_front : (t : Bool) (n : ℕ) (a b c : Option ℕ) → c ≡ first_number a b →
     (if t then Some n else c) ≡ first_number (if t then Some n else a) b
 in_front t n a b c e = search rules
-
-later_none : (a b : Option ℕ) → first_number a b ≡ None → b ≡ None
-later_none a b e = search rules
-
--- what holds at any rate holds at an error
-pub any_err : {X E : Type 0} (r : Result X E) (P : Type 0) → P → OnErr r P
-any_err r h p = search rules
 
 module _ {S : Type 0} where
   pub puts_name : (name : List ℕ) (number : ℕ) (e : Equals) (old new : IndexMap (List ℕ) Equals S) →
@@ -71,10 +64,3 @@ module _ {S : Type 0} where
       PutsSymbolsFrom strings externals (n + 1) (drop (n + 1) symbols) old before →
       PutsSymbolsFrom strings externals n (drop n symbols) old after
   puts_more strings externals symbols n d old before after inside puts so_far q = search (rules, in_front, drop_more)
-
-  -- what is found for no name at last was found for none before
-  pub finds_no_less : (strings : List ℕ) (externals : Bool) (n : ℕ) (rest : List GnuSymbol)
-      (old before after : IndexMap (List ℕ) Equals S) →
-      PutsSymbolsFrom strings externals n rest old before → FindsNoLess before after → FindsNoLess old after
-  finds_no_less strings externals n rest old before after so_far no_less q none =
-      later_none (alike_with strings externals q n rest) (found old q) (sym (so_far q) ∙ no_less q none)

@@ -6,6 +6,6 @@ pub mod ReferenceLemmas
 pub mod DistinctLemmas
 pub mod LawLemmas
 pub mod AlikeLemmas
-pub mod ClashLemmas
+pub mod ExternalLemmas
 pub mod RankLemmas
 pub mod ChosenLemmas

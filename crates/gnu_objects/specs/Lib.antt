@@ -2,7 +2,6 @@ pub mod GnuForm
 pub mod Staying
 pub mod GnuRefusals
 pub mod Converted
-pub mod Remarks
 pub mod Clashes
 pub mod Places
 pub mod Laws

@@ -1,6 +1,6 @@
 -- Definitions for the code alone: what its private functions do. No contract of a public function leads here.
 pub mod Sizes
 pub mod AlikeNames
-pub mod Files
+pub mod Externals
 pub mod Ranks
 pub mod Chosen

@@ -1,7 +1,7 @@
 //! Names that are found by their first eight bytes. Two names are alike if they differ, and are equal in these bytes.
-ghost use Rattle.std.specs.Prelude.{◌≡◌, ◌≤◌, ◌<◌, ◌^◌, IfOk, OnOk, OnErr, length};
+ghost use Rattle.std.specs.Prelude.{◌≡◌, ◌≤◌, ◌<◌, ◌^◌, false, IfOk, OnOk, length};
 ghost use Rattle.aout_core.specs.Names.{before_nul};
-ghost use Rattle.gnu_objects.specs.internal.AlikeNames.{found, PutsName, PutsSymbol, PutsSymbols, FindsAlike, FindsNoLess};
+ghost use Rattle.gnu_objects.specs.internal.AlikeNames.{found, PutsName, PutsSymbol, PutsSymbols, FindsAlike};
 ghost use Rattle.gnu_objects.specs.Staying.{alike_with};
 
 use crate::names::name_at;
@@ -39,10 +39,9 @@ pub(crate) fn found(names: &AlikeNames, name: &[u8]) -> Option<u16>
 }
 
 /// Puts in a name, which is then found before those that are there.
-fn put_name(names: &mut AlikeNames, name: &[u8], number: u16) -> Result<(), AllocError>
+pub(crate) fn put_name(names: &mut AlikeNames, name: &[u8], number: u16) -> Result<(), AllocError>
     requires { before_nul name.now ≡ name.now }
-    ensures ok { OnOk result (PutsName name.now number names.old names.new) }
-    ensures err { OnErr result (FindsNoLess names.old names.new) }
+    ensures { OnOk result (PutsName name.now number names.old names.new) }
 {
     let mut copy = Vec::new(*names.allocator());
     copy.extend_from_slice(name)?;
@@ -63,8 +62,7 @@ pub(crate) fn put_symbol(
     n: u16,
     symbol: &GnuSymbol,
 ) -> Result<(), AllocError>
-    ensures ok { OnOk result (PutsSymbol strings.now externals n symbol.now names.old names.new) }
-    ensures err { OnErr result (FindsNoLess names.old names.new) }
+    ensures { OnOk result (PutsSymbol strings.now externals n symbol.now names.old names.new) }
 {
     if counts(strings, externals, symbol) {
         put_name(names, name_at(strings, symbol.place), n)?;
@@ -73,62 +71,55 @@ pub(crate) fn put_symbol(
 }
 
 /// Puts in the names of the symbols that count, the first of them last.
-pub(crate) fn put_symbols(
+fn put_symbols(
     names: &mut AlikeNames,
     strings: &[u8],
-    externals: bool,
     symbols: &[GnuSymbol],
 ) -> Result<(), AllocError>
     requires { length symbols.now < 2 ^ 16 }
-    ensures ok { OnOk result (PutsSymbols strings.now externals symbols.now names.old names.new) }
-    ensures err { OnErr result (FindsNoLess names.old names.new) }
+    ensures { OnOk result (PutsSymbols strings.now symbols.now names.old names.new) }
 {
     let mut n = symbols.len();
     while n > 0 {
         n -= 1;
-        put_symbol(names, strings, externals, n as u16, &symbols[n])?;
+        put_symbol(names, strings, false, n as u16, &symbols[n])?;
     }
     Ok(())
 }
 
-/// The symbols of a file of which those that count are found by their names.
+/// The symbols of a file, of which those that are not for a debugger are found by their names.
 #[derive(Drop)]
 pub(crate) struct NamedSymbols<'a> {
     pub(crate) strings: &'a [u8],
     pub(crate) symbols: &'a [GnuSymbol],
-    pub(crate) externals: bool,
     names: AlikeNames,
-    ghost finds: { FindsAlike strings.now externals symbols.now names },
+    ghost finds: { FindsAlike strings.now symbols.now names },
 }
 
 impl<'a> NamedSymbols<'a> {
-    /// The symbols with their names in these strings; externals alone count, or all but those for a debugger.
+    /// The symbols with their names in these strings.
     pub(crate) fn new(
         alloc: Global,
         strings: &'a [u8],
-        externals: bool,
         symbols: &'a [GnuSymbol],
     ) -> Result<NamedSymbols<'a>, AllocError>
         requires { length symbols.now < 2 ^ 16 }
         ensures strings { IfOk result (λ n. n.strings.now ≡ strings.now) }
         ensures symbols { IfOk result (λ n. n.symbols.now ≡ symbols.now) }
-        ensures externals { IfOk result (λ n. n.externals ≡ externals) }
     {
         let mut names = IndexMap::new(alloc);
-        put_symbols(&mut names, strings, externals, symbols)?;
+        put_symbols(&mut names, strings, symbols)?;
         Ok(NamedSymbols {
             strings,
             symbols,
-            externals,
             names,
         })
     }
 
-    /// The number of the first symbol that counts and whose name is alike with this one.
+    /// The number of the first symbol that is not for a debugger, and whose name is alike with this one.
     pub(crate) fn alike_with(&self, name: &[u8]) -> Option<u16>
         requires { before_nul name.now ≡ name.now }
-        ensures { result
-            ≡ alike_with self.now.strings.now self.now.externals name.now 0 self.now.symbols.now }
+        ensures { result ≡ alike_with self.now.strings.now false name.now 0 self.now.symbols.now }
     {
         found(&self.names, name)
     }

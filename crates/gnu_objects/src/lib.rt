@@ -15,11 +15,11 @@
 //! - `Refusal`, `Size`: why an object is refused, and which size is wrong
 //! - `Remark`, `Clash`: what there is to say of a name, and two names that would be one
 //! - `GnuSymbol`: a symbol in GNU's form
-//! - `Together`: files that are to be linked together, of which no two have names that would be one
 //!
 //! Functions:
 //!
 //! - `convert`: the object of the Seventh Edition
+//! - `clash_among`: two externals of several files whose names would be one
 //! - `remarks`: the external names that are cut, and the locals that go because of their names
 //! - `place_of`: the byte of the file that a refusal names
 //! - `whole_name`: the whole name of a symbol
@@ -27,6 +27,8 @@
 //! Modules:
 //!
 //! - `laws`: a theorem about conversions
+//!
+//! Only tested: what `remarks` and `whole_name` find for a person, and which names `clash_among` finds of those that clash.
 //!
 //! Header, text, data and relocation words are the same in both. A symbol of GNU's form has 8 bytes, of which a word is the place
 //! of its name in a table of strings after the symbols. docs/OBJECTS.md explains how such objects are made.
@@ -38,7 +40,7 @@ mod checks;
 mod chosen;
 mod clash;
 mod conversion;
-mod file_table;
+mod external;
 pub mod laws;
 mod names;
 mod options;
@@ -48,15 +50,13 @@ mod remark;
 mod staying;
 mod symbols;
 mod tables;
-mod together;
 mod whole;
 mod words;
 
-pub use clash::Clash;
+pub use clash::{Clash, clash_among};
 pub use conversion::convert;
 pub use options::{Locals, Options};
 pub use places::{place_of, whole_name};
 pub use refusal::{Refusal, Size};
 pub use remark::{Remark, remarks};
 pub use symbols::GnuSymbol;
-pub use together::Together;

@@ -1,12 +1,12 @@
 //! Where in a file a refusal stands, and the whole names of symbols.
-ghost use Rattle.std.specs.Prelude.{◌≡◌, ◌≢◌, []};
-ghost use Rattle.gnu_objects.specs.Places.{symbol_place, word_place, size_place, fault_place, place_of, whole_name, name_there, HasSymbol};
+ghost use Rattle.std.specs.Prelude.{◌≡◌};
+ghost use Rattle.gnu_objects.specs.Places.{symbol_place, word_place, size_place, fault_place, place_of};
 
-use crate::checks::{header_refusal, strings_at, strings_refusal, symbols_at};
+use crate::checks::{strings_at, symbols_at};
 use crate::names::name_at;
 use crate::refusal::{Refusal, Size};
 use crate::symbols::symbol_at;
-use crate::whole::{header_of, strings_of};
+use crate::whole::{header_of, strings_of, whole_header};
 use aout_core::{Header, ObjectFault};
 
 /// The place of a symbol.
@@ -72,22 +72,12 @@ pub fn place_of(bytes: &[u8], refusal: Refusal) -> usize
 
 /// The whole name of symbol `n`, counted from 0. It has no bytes if `convert` refuses the file for its header or its
 /// strings, or if there is no such symbol. (own choice)
-pub fn whole_name(bytes: &[u8], n: u16) -> &[u8]
-    ensures name { HasSymbol bytes.now n → (result.now ≡ whole_name bytes.now n) }
-    ensures none { result.now ≢ [] → HasSymbol bytes.now n }
-    ensures value { result.now ≡ name_there bytes.now n }
-{
-    if bytes.len() < 16 {
-        return &bytes[..0];
+pub fn whole_name(bytes: &[u8], n: u16) -> &[u8] {
+    match whole_header(bytes) {
+        Ok(header) if n < header.symbol_size / 8 => {
+            let symbol = symbol_at(bytes, symbol_place(&header, n));
+            name_at(strings_of(bytes, &header), symbol.place)
+        }
+        _ => &bytes[..0],
     }
-    let header = header_of(bytes);
-    let refusal = header_refusal(bytes.len(), &header);
-    if refusal.is_some()
-        || n >= header.symbol_size / 8
-        || strings_refusal(bytes, &header).is_some()
-    {
-        return &bytes[..0];
-    }
-    let symbol = symbol_at(bytes, symbol_place(&header, n));
-    name_at(strings_of(bytes, &header), symbol.place)
 }

@@ -1,5 +1,5 @@
 //! Which symbols stay in the table.
-ghost use Rattle.std.specs.Prelude.{◌≡◌, ◌≤◌, ◌<◌, ◌^◌, false, IfOk, length};
+ghost use Rattle.std.specs.Prelude.{◌≡◌, ◌≤◌, ◌<◌, ◌^◌, IfOk, length};
 ghost use Rattle.gnu_objects.specs.Staying.{is_external, refers, counts, collides, stays, staying, count, kept};
 
 use crate::alike::NamedSymbols;
@@ -32,7 +32,6 @@ pub(crate) fn counts(strings: &[u8], externals: bool, symbol: &GnuSymbol) -> boo
 
 /// Whether the name of a symbol is alike with one that counts.
 fn collides(named: &NamedSymbols<'_>, symbol: &GnuSymbol) -> bool
-    requires { named.now.externals ≡ false }
     ensures { result ≡ collides named.now.strings.now named.now.symbols.now symbol.now }
 {
     let name = name_at(named.strings, symbol.place);
@@ -41,7 +40,6 @@ fn collides(named: &NamedSymbols<'_>, symbol: &GnuSymbol) -> bool
 
 /// Whether symbol `n` stays.
 fn stays(named: &NamedSymbols<'_>, chosen: &ChosenLocals<'_>, n: u16, symbol: &GnuSymbol) -> bool
-    requires { named.now.externals ≡ false }
     ensures { result ≡ stays chosen.now.locals named.now.strings.now named.now.symbols.now
         chosen.now.words.now n symbol.now }
 {
@@ -61,7 +59,7 @@ pub(crate) fn staying(
     ensures value { IfOk result (λ v. v.items ≡ staying locals strings.now symbols.now words.now) }
     ensures count { IfOk result (λ v. length v.items ≡ length symbols.now) }
 {
-    let named = NamedSymbols::new(alloc, strings, false, symbols)?;
+    let named = NamedSymbols::new(alloc, strings, symbols)?;
     let chosen = ChosenLocals::new(alloc, locals, words)?;
     let mut flags = Vec::new(alloc);
     for (n, symbol) in symbols.iter().enumerate() {

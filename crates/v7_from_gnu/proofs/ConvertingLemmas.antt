@@ -3,12 +3,12 @@ use Rattle.std.proofs.Common.{◌≡◌, ◌≢◌, ℕ, Bool, true, false, List
 use Rattle.std.proofs.lemmas.Bool.{false≢true}
 use Rattle.std.specs.Prelude.{if◌then◌else◌, Option, Result, Ok, Err}
 use Rattle.aout_core.specs.{Contents.Contents, Refusals.refused}
-use Rattle.gnu_objects.specs.{Converted.converted, declared.options.Options.Options, declared.refusal.Refusal.Refusal}
+use Rattle.gnu_objects.specs.{Clashes.has_clash, Converted.converted, declared.options.Options.Options, declared.refusal.Refusal.Refusal}
 use Rattle.surroundings.specs.declared.answer.Fault.{Fault}
 use Rattle.surroundings.specs.declared.answer.Fault.TheVariants.{Answered, Memory}
 use Rattle.v7_from_gnu.specs.Answers.{FindsOr, Stops, is_none}
 use Rattle.v7_from_gnu.specs.Converting.{and_then, converted_from, outcome, target_of, target_with, with_names}
-use Rattle.v7_from_gnu.specs.{Checks.clash_from, Jobs.Source, Jobs.Target, internal.Lists.RefusedAs}
+use Rattle.v7_from_gnu.specs.{Checks.bytes_of, Jobs.Source, Jobs.Target, internal.Lists.RefusedAs}
 use Rattle.gnu_objects.specs.declared.refusal.Refusal.TheVariants as refusals
 
 abbrev pub refuses : Refusal → Result Contents Refusal
@@ -49,9 +49,9 @@ names_by true targets fault h = h
 names_by false targets fault h = h
 
 -- two names would be one
-pub names_fail : (targets : List Target) (fault : Fault) → Stops (clash_from [] targets) 1 fault →
+pub names_fail : (targets : List Target) (fault : Fault) → Stops (has_clash (bytes_of targets)) 1 fault →
     Stops (is_none (with_names targets)) 1 fault
-names_fail targets fault h = names_by (clash_from [] targets) targets fault h
+names_fail targets fault h = names_by (has_clash (bytes_of targets)) targets fault h
 
 -- what is done with the objects is what is done with the files
 pub plan_found : (options : Options) (sources : List Source) (targets : List Target) (result : Result (List Target) Fault) →

@@ -4,4 +4,3 @@ pub mod LookLemmas
 pub mod ConvertingLemmas
 pub mod StoringLemmas
 pub mod SlashLemmas
-pub mod ClashLemmas

@@ -3,7 +3,6 @@
 use Rattle.std.specs.Prelude.{◌≡◌, ◌⊎◌, ℕ, Bool, false, ◌||◌, List, [], ◌∷◌, ◌++◌, map, position, Result, Ok, Err, bytes_eq}
 use Rattle.std.specs.{List.list_any, Option.is_some}
 use Rattle.aout_core.specs.Refusals.{refused}
-use Rattle.gnu_objects.specs.Clashes.{clash_among}
 use Rattle.surroundings.specs.{Events.History, Events.Extends, Nodes.is_input, Nodes.looks, declared.answer.Fault.Fault}
 use Rattle.surroundings.specs.{declared.nodes.Nodes.Nodes, declared.answer.Fault.TheVariants.Memory}
 use Rattle.v7_from_gnu.specs.{Answers.Refuses, Jobs.Job, Jobs.Target}
@@ -49,11 +48,3 @@ ChecksInputs jobs old new result = (found : Result (List Nodes) Fault) × Looks 
 
 abbrev pub bytes_of : List Target → List (List ℕ)
 bytes_of targets = map (λ (t : Target). t.source.bytes) targets
-
--- the name of an external would become that of an external of an earlier file
-abbrev pub clash_with : List Target → Target → Bool
-clash_with before target = is_some (clash_among (bytes_of before) target.source.bytes)
-
-abbrev pub clash_from : List Target → List Target → Bool
-clash_from before [] = false
-clash_from before (target ∷ targets) = clash_with before target || clash_from (before ++ target ∷ []) targets

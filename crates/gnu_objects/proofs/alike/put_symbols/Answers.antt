@@ -1,6 +1,6 @@
-use Rattle.std.proofs.Common.{◌≡◌, ℕ, ◌+◌, ◌-◌, drop, subst, arith}
-use Rattle.gnu_objects.specs.internal.AlikeNames.{PutsSymbolsFrom, FindsNoLess}
-use Rattle.gnu_objects.proofs.AlikeLemmas.{puts_more, finds_no_less, any_err}
+use Rattle.std.proofs.Common.{◌≡◌, ℕ, ◌+◌, ◌-◌, false, drop, subst, arith}
+use Rattle.gnu_objects.specs.internal.AlikeNames.{PutsSymbolsFrom}
+use Rattle.gnu_objects.proofs.AlikeLemmas.{puts_more}
 use Rattle.gnu_objects.proofs.alike.put_symbols.Goals as goal
 
 pub loop-n-preserved : goal.loop-n-preserved
@@ -12,20 +12,14 @@ loop-n-preserved c =
     record {
       inside = omega (arith, c.loop-n.invariant.inside);
       puts =
-          puts_more strings c.args.externals symbols n _ c.args.names.now c.loop-n.names c.put_symbol.new.names
-          (omega (arith, c.loop-n-test.true, c.loop-n.invariant.inside)) c.in_ok-put_symbol.ensures.ok
-          (subst (λ (m : ℕ). PutsSymbolsFrom strings c.args.externals m (drop m symbols) c.args.names.now c.loop-n.names)
+          puts_more strings false symbols n _ c.args.names.now c.loop-n.names c.put_symbol.new.names
+          (omega (arith, c.loop-n-test.true, c.loop-n.invariant.inside)) c.in_ok-put_symbol.ensures
+          (subst (λ (m : ℕ). PutsSymbolsFrom strings false m (drop m symbols) c.args.names.now c.loop-n.names)
           back c.loop-n.invariant.puts);
     }
 
-pub returns-in_err-put_symbol-clause-err : goal.returns-in_err-put_symbol-clause-err
-returns-in_err-put_symbol-clause-err c =
-    any_err c.from_residual.result (FindsNoLess c.args.names.now c.put_symbol.new.names)
-    (finds_no_less c.args.strings.now c.args.externals c.loop-n.n (drop c.loop-n.n c.args.symbols.now) c.args.names.now
-    c.loop-n.names c.put_symbol.new.names c.loop-n.invariant.puts c.in_err-put_symbol.ensures.err)
-
-pub returns-clause-ok : goal.returns-clause-ok
-returns-clause-ok c =
+pub returns : goal.returns
+returns c =
     let end : c.loop-n.n ≡ 0 = omega (arith, c.loop-n-test.false) in
-    subst (λ (m : ℕ). PutsSymbolsFrom c.args.strings.now c.args.externals m
+    subst (λ (m : ℕ). PutsSymbolsFrom c.args.strings.now false m
     (drop m c.args.symbols.now) c.args.names.now c.loop-n.names) end c.loop-n.invariant.puts

@@ -1,0 +1,69 @@
+-- Externals of several files, and what a map finds for their names.
+use Rattle.std.proofs.Common.{◌≡◌, ℕ, ◌+◌, ◌<◌, ◌||◌, Bool, true, false, if◌then◌else◌, List, [], ◌∷◌, ◌++◌, drop, take, length, Option, Some, None}
+use Rattle.std.proofs.Common.{get_or, refl, sym, ap, ◌∙◌, subst, rules}
+use Rattle.std.proofs.lemmas.List.{drop_more, map_more}
+use Rattle.std.proofs.lemmas.List.Folds.{list_any-append}
+use Rattle.std.specs.{List.list_any, Option.is_some}
+use Rattle.indexmap.specs.IndexMap.{IndexMap}
+use Rattle.gnu_objects.specs.Staying.{are_alike}
+use Rattle.gnu_objects.specs.internal.AlikeNames.{found, PutsName}
+use Rattle.gnu_objects.specs.internal.Externals.{HasNames, names_in}
+use Rattle.gnu_objects.specs.{Clashes.alike_after, declared.alike.Equals.Equals, declared.external.External.External}
+
+last_first : (a b : Bool) → (a || (b || false)) ≡ (b || a)
+last_first true true = refl
+last_first true false = refl
+last_first false true = refl
+last_first false false = refl
+
+any_more : (p : List ℕ → Bool) (xs : List (List ℕ)) (x : List ℕ) → list_any p (xs ++ x ∷ []) ≡ (p x || list_any p xs)
+any_more p xs x = list_any-append p xs (x ∷ []) ∙ last_first (list_any p xs) (p x)
+
+some_or : (t : Bool) (n : ℕ) (o : Option ℕ) → is_some (if t then Some n else o) ≡ (t || is_some o)
+some_or true n o = refl
+some_or false n o = refl
+
+-- one external more
+names_done : (all : List External) (i : ℕ) (e : External) → i < length all → e ≡ get_or all i e →
+    names_in (take (i + 1) all) ≡ names_in (take i all) ++ e.name.now ∷ []
+names_done all i e within at =
+    map_more (λ (x : External). x.name.now) all i e within ∙ ap (λ (x : External). names_in (take i all) ++ x.name.now ∷ []) (sym at)
+
+names_left : (all : List External) (i : ℕ) (e : External) → i < length all → e ≡ get_or all i e →
+    names_in (drop i all) ≡ e.name.now ∷ names_in (drop (i + 1) all)
+names_left all i e within at =
+    ap names_in (drop_more all i e within) ∙ ap (λ (x : External). x.name.now ∷ names_in (drop (i + 1) all)) (sym at)
+
+module _ (all : List External) (i : ℕ) (e : External) where
+  -- it is alike with an earlier one
+  pub is_clash : i < length all → e ≡ get_or all i e → list_any (are_alike e.name.now) (names_in (take i all)) ≡ true →
+      alike_after [] (names_in all) ≡ alike_after (names_in (take i all)) (names_in (drop i all)) → alike_after [] (names_in all) ≡ true
+  is_clash within at alike so_far =
+      so_far ∙ ap (alike_after (names_in (take i all))) (names_left all i e within at)
+      ∙ ap (λ (b : Bool). b || alike_after (names_in (take i all) ++ e.name.now ∷ []) (names_in (drop (i + 1) all))) alike
+
+  -- it is not
+  pub is_apart : i < length all → e ≡ get_or all i e → list_any (are_alike e.name.now) (names_in (take i all)) ≡ false →
+      alike_after [] (names_in all) ≡ alike_after (names_in (take i all)) (names_in (drop i all)) →
+      alike_after [] (names_in all) ≡ alike_after (names_in (take (i + 1) all)) (names_in (drop (i + 1) all))
+  is_apart within at apart so_far =
+      so_far ∙ ap (alike_after (names_in (take i all))) (names_left all i e within at)
+      ∙ ap (λ (b : Bool). b || alike_after (names_in (take i all) ++ e.name.now ∷ []) (names_in (drop (i + 1) all))) apart
+      ∙ ap (λ (l : List (List ℕ)). alike_after l (names_in (drop (i + 1) all))) (sym (names_done all i e within at))
+
+module _ {S : Type 0} where
+  pub no_names : (names : IndexMap (List ℕ) Equals S) → ((q : List ℕ) → found names q ≡ None) → HasNames [] names
+  no_names names none q = ap is_some (none q)
+
+  -- a name more is put in
+  pub has_more : (done : List (List ℕ)) (name : List ℕ) (number : ℕ) (old new : IndexMap (List ℕ) Equals S) →
+      HasNames done old → PutsName name number old new → HasNames (done ++ name ∷ []) new
+  has_more done name number old new has puts q =
+      ap is_some (puts q) ∙ some_or (are_alike q name) number (found old q) ∙ ap (λ (b : Bool). are_alike q name || b) (has q)
+      ∙ sym (any_more (are_alike q) done name)
+
+  pub has_next : (all : List External) (i : ℕ) (e : External) (number : ℕ) (old new : IndexMap (List ℕ) Equals S) → i < length all →
+      e ≡ get_or all i e → HasNames (names_in (take i all)) old → PutsName e.name.now number old new → HasNames (names_in (take (i + 1) all)) new
+  has_next all i e number old new within at has puts =
+      subst (λ (l : List (List ℕ)). HasNames l new) (sym (names_done all i e within at))
+      (has_more (names_in (take i all)) e.name.now number old new has puts)
