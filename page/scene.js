@@ -134,10 +134,11 @@ function putScene(context, parts, how) {
     return room === 0 || rest.offsetTop + (isWide() && !how.isLast ? rest.offsetHeight : 0) <= room;
 }
 
-// shows parts with the instructions around their words, with a line for each word, or a cell
+// shows parts with the instructions around their words, with a line for each word, or a cell: in two columns, three, or four where they fit
 function showsAll(context, parts) {
     const count = parts.flatMap(({ groups }) => groups.flatMap(({ words }) => words)).length;
-    return [...(count <= FEW ? [{ near: true }] : []), {}, { cells: true }, { cells: true, isLast: true }, { cells: true, isDense: true, isLast: true }].some((how) => putScene(context, parts, { limit: Infinity, ...how }));
+    const cells = ["cells", "cells dense", "cells dense tight"].map((cells) => ({ cells, isLast: true }));
+    return [...(count <= FEW ? [{ near: true }] : []), {}, { cells: "cells" }, ...cells].some((how) => putScene(context, parts, { limit: Infinity, ...how }));
 }
 
 // puts the first scene that fits on the stage; if none does, the last one, with so many words of large groups as fit. That of another
@@ -150,10 +151,10 @@ function showScene(context) {
     let [low, high] = [1, Math.max(1, ...parts.flatMap(({ groups }) => groups.map(({ words }) => words.length)))];
     while (low < high) {
         const middle = (low + high + 1) >> 1;
-        if (putScene(context, parts, { limit: middle, cells: true, isLast: true })) low = middle;
+        if (putScene(context, parts, { limit: middle, cells: "cells", isLast: true })) low = middle;
         else high = middle - 1;
     }
-    putScene(context, parts, { limit: low, cells: true });
+    putScene(context, parts, { limit: low, cells: "cells" });
 }
 
 // ---- rows
@@ -238,7 +239,7 @@ function partElements(context, part, number, how, used) {
     for (const one of head) setChildren(one, [...title, ...fold]);
     return [...head, ...part.groups.map((group, i) => {
         const id = `group-${number}-${i}`;
-        const element = withAttributes(byId(id) ?? make("div"), { id, class: group.isCells ? "group cells asked" : how.cells && !group.isPlain ? `group cells${how.isDense ? " dense" : ""}` : "group", role: "group", "aria-label": group.target ? counted(group.words.length, "word") : part.title || "words" });
+        const element = withAttributes(byId(id) ?? make("div"), { id, class: group.isCells ? "group cells asked" : how.cells && !group.isPlain ? `group ${how.cells}` : "group", role: "group", "aria-label": group.target ? counted(group.words.length, "word") : part.title || "words" });
         setChildren(element, groupRows(context, group, how, used));
         return element;
     })];

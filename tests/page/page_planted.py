@@ -83,9 +83,9 @@ class Found:
 
 
 def counts(page, path, count, same):
-    """The changed words of the last step are in view, or counted."""
+    """In a low window the changed words of the last step are in view, or counted."""
     page.load(path)
-    page.size(1366, 768)
+    page.size(1366, 600)
     page.open("#" + first(count))
     page.settle()
     seen = page.run(STEP)

@@ -311,8 +311,8 @@ return wait.answers.filter((key) => !seen(byId(key))).length <= more ? [] : wait
 """
 
 
-# a step that changes more words counts those that do not fit
-MOST = 60
+# a step that changes more words may count those that do not fit
+MOST = 108
 
 
 def whole_steps(page, count, same, what):
