@@ -572,6 +572,14 @@ def _name(data: bytes) -> str:
     return data.rstrip(b"\0").decode("latin-1")
 
 
+class _Names(Dict[bytes, str]):
+    """Names by their bytes, each decoded once."""
+
+    def __missing__(self, data: bytes) -> str:
+        self[data] = _name(data)
+        return self[data]
+
+
 def _object(number: int) -> Optional[int]:
     return None if number == _NO_OBJECT else number
 
@@ -607,12 +615,15 @@ class _Run:
 
     def mapped(self) -> Map:
         objects, limits = [*map(MapObject._make, self.records[0])], [MapLimit(kind, used, most) for used, most, kind in self.records[3]]
+        known = _Names()
         names = [
-            MapName(_name(name), _object(first), _object(further), _object(user), state, of, value)
+            MapName(known[name], _object(first), _object(further), _object(user), state, of, value)
             for name, first, further, user, state, of, value in self.records[1]
         ]
+        # there may be a use for each word: a tuple is made by its own call, which is faster than that of its class
+        new = tuple.__new__
         uses = [
-            MapUse(None if of == _NO_OBJECT else of, name, kind, address, offset, line, _name(label) if is_labelled else None, beyond)
+            new(MapUse, (None if of == _NO_OBJECT else of, name, kind, address, offset, line, known[label] if is_labelled else None, beyond))
             for address, of, name, label, kind, offset, line, beyond, is_labelled in self.records[2]
         ]
         head, program = self.head, None if self.head.fault else self.program()
