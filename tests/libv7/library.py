@@ -1,242 +1,274 @@
-"""The Python module of libv7: its docstrings come out as shown, its numbers are refused where they do not fit, a cut object is blamed itself, and a session keeps nothing of what was withdrawn or refused. Instructions are those of v7-explain(1):
-examples worked out by hand, and random files and words by the decoder of tests/oracles/disassembly.py.
+"""The Python module of libv7: an input for each fault, numbers and types that do not fit, edits of a session, the examples of its docstrings,
+and beside the programs the listings, conversions and remarks of examples. What is wanted is worked out from v7.h and docs/FORMAT.md.
 
 usage: LIBV7=build/libv7.so python3 -m tests.libv7.library
 """
 import doctest
-import random
+import glob
 import re
-import sys
+import struct
 import typing
+import unittest
 
 import v7
-from tests.lib.files import TOP, read
-from tests.oracles import disassembly
+from tests.lib.files import TOP, read, read_bytes, room, write
+from tests.lib.programs import program, ran
 
-FITS = 0o177777
-HINTED = "link link_findings make read take_apart nm check disassemble disassemble_words listing from_listing from_gnu remarks".split()
+# an object of 56 bytes: its relocation words begin at 24, its symbols at 32. And one in GNU's form: two symbols at 32, the strings at 48
+OBJECT = v7.make([(0o4767, v7.NUMBER), (0o177774, v7.refers_to(0) + v7.FROM_PC), (0o207, v7.NUMBER)], [(7, v7.NUMBER)], 4,
+                 [("_f", v7.EXTERNAL, 0), ("L1", v7.TEXT, 0)])
+GNU = struct.pack("<16H", 0o407, 6, 2, 4, 16, 0, 0, 0, 0o4767, 0o177774, 0o207, 7, 0, 0o11, 0, 0) + struct.pack(
+    "<2HBBH2HBBH2H", 0, 7, 0o40, 0, 0, 0, 4, 2, 0, 0, 0, 10) + b"L1\0_f\0"
+# those that the module cannot have: calls.c has them
+IN_C = {4, 7, 8, 9, 10, 50, 60}
+seen = set()
 
 
-def refused(call, *words):
-    """Whether a call refuses its words because a number does not fit."""
+def fault_of(call, *words, **named):
+    """The text of the fault that a call has, its word and its place, or nothing."""
     try:
-        call(*words)
-    except ValueError:
-        return True
-    return False
-
-
-def wrong_types():
-    """Whether each call of tests/libv7/wrong_types.py raises a TypeError."""
-    for call in re.findall("^v7.*", read(f"{TOP}/tests/libv7/wrong_types.py"), re.M):
-        try:
-            eval(call)
-            yield False
-        except TypeError:
-            yield True
-
-
-def numbers():
-    """Numbers that do not fit their places, one after another."""
-    yield refused(v7.make, [(FITS + 1, 0)])
-    yield refused(v7.make, [(-1, 0)])
-    yield refused(v7.make, (), [(0, FITS + 1)])
-    yield refused(v7.make, (), (), 1 << 32)
-    yield refused(v7.make, (), (), -2)
-    yield refused(v7.make, (), (), 0, [("_f", FITS + 1, 0)])
-    yield refused(v7.make, (), (), 0, [("_f", 0, FITS + 1)])
-    yield refused(v7.make, (), (), 0, [("_too_long", 0, 0)])
-    yield refused(v7.link, (), 1 << 32)
-    yield refused(v7.link, (), -1)
-    yield refused(v7.nm, v7.make(), 1 << 32)
-    yield refused(v7.disassemble_words, [FITS + 1])
-    yield refused(v7.disassemble_words, [-1])
-    yield refused(v7.disassemble_words, [0], FITS + 1)
-    yield refused(v7.disassemble_words, [0], -1)
-    yield refused(v7.refers_to, 4096)
-    yield refused(v7.refers_to, -1)
-    yield not refused(v7.make, [(FITS, v7.NUMBER)], (), 0, [("_f", v7.ABSOLUTE, FITS)])
-
-
-def blamed(objects, **words):
-    """The fault of a link, and the number of the object."""
-    try:
-        v7.link(objects, **words)
+        call(*words, **named)
     except v7.Fault as fault:
-        return fault.fault, fault.place
+        seen.add(fault.fault)
+        return v7.FAULTS[fault.fault], fault.word, fault.place
     return None
 
 
-def blames():
-    """Which object is blamed, one case after another."""
-    whole = v7.make(text=[(7, v7.NUMBER)])
-    yield blamed([whole, whole[:-1], whole]) == (14, 1)
-    yield blamed([whole[:9], whole]) == (11, 0)
-    yield blamed([whole, b"", whole]) == (11, 1)
-    yield blamed([whole, whole[:-1]], options=128) == (1, 0)
-    full = v7.make(text=[(0, v7.NUMBER)] * 32767)
-    yield blamed([full, whole, whole[:-1]]) == (31, 1)
-    yield blamed([whole + b"more", whole]) is None
-    yield v7.link([whole + b"more", whole]).file == v7.link([whole, whole]).file
-    yield v7.link_findings([whole + b"more", whole])[:2] == v7.link([whole, whole])[:2]
+def poked(data, *changes):
+    """Bytes with others at some places."""
+    data = bytearray(data)
+    for at, byte in changes:
+        data[at] = byte
+    return bytes(data)
 
 
-def parts():
-    """Which part is too long, one after another."""
-    most, few = [(0, v7.NUMBER)] * 32768, [("_f", 0, 0)] * 5462
-    for number, words in enumerate(((most, most), ((), most, 65536), ((), (), 65536, few), ((), (), 65535, few)), 1):
-        try:
-            v7.make(*words)
-            yield False
-        except v7.Fault as fault:
-            yield (fault.fault, fault.word) == (6, number)
-
-
-def refused_at(session, data):
-    """The fault of an addition and the number of its object, or with None that of a withdrawal; None if it is made."""
-    try:
-        session.withdraw() if data is None else session.add(data)
-    except v7.Fault as fault:
-        return fault.fault, fault.place
-    return None
-
-
-def refused_edits():
-    """What sessions say of additions that are not made and of withdrawals, and what they keep."""
-    one, full = v7.make(text=[(7, v7.NUMBER)]), v7.make(text=[(0, v7.NUMBER)] * 32767)
-    session = v7.Session([one])
-    yield [refused_at(session, data) for data in (full, one[:-2], one[:9], v7.strip(one))] == [(31, 1), (14, 1), (11, 1), (22, 1)]
-    yield session.link() == v7.link([one])
-    yield [refused_at(session, None) for _ in range(2)] == [None, (35, 0)]
-    yield session.link() == v7.link([])
-    yield refused_at(session, full + b"more") is None and refused_at(session, one) == (31, 1)
-    yield session.state()["objects"] == 1
-    yield blamed_in([one, one[:-2], one]) == (14, 1)
-    session = v7.Session()
-    for _ in range(100):
-        session.add(one)
-        session.withdraw()
-    yield session._kept == []
-    yield session.link() == v7.link([])
-
-
-def blamed_in(objects):
-    """The fault of a session of these objects, and the number of the object."""
-    try:
-        v7.Session(objects)
-    except v7.Fault as fault:
-        return fault.fault, fault.place
-    return None
-
-
-# words at an address, and the texts of their lines
-LINES = [
-    (0, "012700 000005", "mov $5,r0"),
-    (0, "016700 177774", "mov 0,r0"),
-    (2, "016767 000004 000004", "mov 12,14"),
-    (0, "012767 177777 000000", "mov $177777,6"),
-    (0, "013737 177560 177562", "mov *$177560,*$177562"),
-    (0, "017071 000000 000010", "mov *0(r0),*10(r1)"),
-    (0, "016061 177776 100000", "mov -2(r0),-100000(r1)"),
-    (0, "112100", "movb (r1)+,r0"),
-    (0, "000177 000004", "jmp *10"),
-    (0, "004737 001000", "jsr pc,*$1000"),
-    (0, "071027 000012", "div $12,r0"),
-    (0, "074203", "xor r2,r3"),
-    (0o1000, "000577", "br 1400"),
-    (0o1000, "000600", "br 402"),
-    (0, "000776", "br 177776"),
-    (0o177776, "000401", "br 2"),
-    (1, "000401", "br 5"),
-    (0o1000, "077077", "sob r0,604"),
-    (0, "104401", "sys 1"),
-    (0, "172400", "ldf fr0,fr0"),
-    (0, "172427 040200", "movf $40200,fr0"),
-    (0, "174105", "movf fr1,fr5"),
-    (0, "175401", "movfi fr0,r1"),
-    (0, "177467 000010", "movof 14,fr0"),
-    (0, "170406", "170406"),
-    (0, "000243", "clc|clv"),
-    (0, "000210", "000210"),
+# files: the fault, the word, and the bytes. The last ones are files, but not objects
+DAMAGED = [
+    ("short header", 0, OBJECT[:15]),
+    ("bad magic number", 0, poked(OBJECT, (0, 6))),
+    ("odd size", 0, poked(OBJECT, (2, 5))),
+    ("odd size", 0, poked(OBJECT, (4, 1))),
+    ("odd size", 0, poked(OBJECT, (6, 3))),
+    ("odd size", 0, poked(OBJECT, (8, 23))),
+    ("truncated", 0, OBJECT[:-1]),
+    ("not an object", 0, poked(OBJECT, (0, 8))),
+    ("no relocation", 0, poked(OBJECT, (14, 1))),
+    ("bad relocation", 0, poked(OBJECT, (24, 0o12))),
+    ("bad relocation", 2, poked(OBJECT, (28, 0o14))),
+    ("bad relocation", 3, poked(OBJECT, (30, 0o16))),
+    ("bad symbol number", 0, poked(OBJECT, (24, 0o31))),  # number 1 is local
+    ("bad symbol number", 1, poked(OBJECT, (40, 0o42))),  # number 0 is defined now
+    ("bad symbol number", 3, poked(OBJECT, (30, 0o50))),  # there is no number 2
+]
+# the kinds of remarks on them
+REMARKED = {"short header": v7.REMARK_SHORT_HEADER, "bad magic number": v7.REMARK_BAD_MAGIC, "odd size": v7.REMARK_ODD_SIZE, "truncated": v7.REMARK_TRUNCATED,
+            "bad relocation": v7.REMARK_BAD_RELOCATION, "bad symbol number": v7.REMARK_BAD_SYMBOL_NUMBER}
+# listings: the fault, the line and the column
+MISTAKES = [
+    ("a column is missing", 2, 7, "text\n000000\nx\n"),
+    ("not an octal number", 3, 9, "text\n000000 0 0\n000002  9 0\n"),
+    ("over 177777", 1, 5, "bss 200000"),
+    ("bad byte in a name", 2, 3, "symbols\n0 a\\8 42 0\n"),
+    ("the address does not follow", 2, 1, "data\n000002 0 0\n"),
+    ("the number does not follow", 2, 2, "symbols\n 1 a 42 0\n"),
+    ("more than 32767 words", 32769, 1, "text\n" + "".join(f"{2 * n % 65536:o} 0 0\n" for n in range(32768))),
+    ("more than 5461 symbols", 5463, 1, "symbols\n" + "".join(f"{n:o} a 0 0\n" for n in range(5462))),
+    ("text, data or symbols is missing", 1, 1, "000000 0 0\n"),
+    ("unknown word", 1, 1, "words 0\ntext\n"),
+    ("text, data and symbols are not in this order", 2, 1, "data\ntext\n"),
+    ("magic and flag come before text, data and symbols", 2, 1, "text\nmagic 407\n"),
+    ("only symbols can follow symbols", 2, 1, "symbols\nbss 0\n"),
+    ("no such magic number", 1, 7, "magic 406\n"),
+    ("odd size of bss", 3, 7, "/ a note\n\n  bss 1\n"),
+    ("more than 8 bytes in a name", 2, 3, "symbols\n0 _ninebyte 42 0\n"),
+    ("one number too many", 3, 7, "flag 1\ntext\n0 207 0\n"),
+    ("a control character", 2, 2, "text\n0\033 207 0\n"),
+    ("only comments can follow end", 2, 1, "end\ntext\n"),
+    ("the line end is missing: the listing was cut", 3, 1, "/ 000  000407  magic: normal\ntext\n"),
+]
+ALIKE = struct.pack("<8H", 0o407, 0, 0, 0, 16, 0, 0, 0) + struct.pack("<2HBBH2HBBH2H", 0, 4, 0o40, 0, 0, 0, 14, 0o40, 0, 0, 0, 24) + b"_2345678a\0_2345678b\0"
+MANY = struct.pack("<8H", 0o407, 0, 0, 0, 8 * 5462, 0, 0, 0) + 5462 * struct.pack("<2HBBH", 0, 0, 0o40, 0, 0) + b"\0\0\4\0"
+# objects in GNU's form: the fault, its word and its byte, and the options
+CONVERTED = [
+    ("no such option or form", 0, 0, 8, GNU),
+    ("short header", 0, 15, 0, GNU[:15]),
+    ("bad magic number", 0o410, 0, 0, poked(GNU, (0, 8))),
+    ("odd size", v7.TEXT_PART, 2, 0, poked(GNU, (2, 5))),
+    ("odd size", v7.DATA_PART, 4, 0, poked(GNU, (4, 3))),
+    ("odd size", v7.BSS_PART, 6, 0, poked(GNU, (6, 3))),
+    ("odd size", v7.SYMBOLS_PART, 8, 0, poked(GNU, (8, 12))),
+    ("truncated", 0, 47, 0, GNU[:47]),
+    ("truncated", 0, 57, 0, GNU[:57]),
+    ("the strings have a length under 4", 0, 48, 0, poked(GNU, (50, 3))),
+    ("a symbol belongs to an overlay", 1, 40, 0, poked(GNU, (45, 1))),
+    ("a symbol has its name at no place of the strings", 0, 32, 0, poked(GNU, (34, 10))),
+    ("a symbol is for a debugger", 1, 40, 0, poked(GNU, (44, 0o45))),
+    ("a symbol has a description, and is not for a debugger", 0, 32, 0, poked(GNU, (32, 1))),
+    ("a linked program", 2, 10, 0, poked(GNU[:24], (8, 0), (10, 2), (14, 1))),
+    ("two names are equal in eight bytes", 0, 24, 0, ALIKE),
+    ("too many symbols", 5462, 8, 0, MANY),
+    ("a word refers to a symbol for a debugger", 1, 26, v7.DROP_DEBUGGER, poked(GNU, (36, 0o100))),
+    ("a word refers to a local that is dropped", 0, 24, v7.DROP_LOCALS, poked(GNU, (24, 0o30))),
+    ("bad symbol number", 0, 24, v7.DROP_UNUSED, poked(GNU, (24, 0o30))),
+    ("bad relocation", 0, 24, 0, poked(GNU, (24, 0o12))),
+]
+LONG = "too many words, bytes of bss or symbols"
+WORD, WORDS, NAMES = (0, v7.NUMBER), [(0, v7.NUMBER)] * 32768, [("_f", 0, 0)] * 5462
+# parts: the fault, its word, and the parts
+PARTS = [
+    (LONG, v7.TEXT_PART, (WORDS,)),
+    (LONG, v7.DATA_PART, ((), WORDS)),
+    (LONG, v7.BSS_PART, ((), (), 65536)),
+    (LONG, v7.SYMBOLS_PART, ((), (), 0, NAMES)),
+    ("odd size", 0, ((), (), 65535)),
+    ("bad relocation", 2, ([WORD, WORD], [(0, 0o14)])),
+    ("bad symbol number", 1, ([WORD, (0, v7.refers_to(0))],)),
+]
+OPTIONS = "options exclude each other"
+# what is asked of a link: the fault, the place, and the call
+ASKED = [
+    ("no such option or form", 0, {"options": 128}),
+    (OPTIONS, 0, {"options": v7.RELOCATABLE | v7.STRIP}),
+    (OPTIONS, 0, {"options": v7.RELOCATABLE | v7.PURE}),
+    (OPTIONS, 0, {"options": v7.RELOCATABLE | v7.SPLIT}),
+    (OPTIONS, 0, {"options": v7.PURE | v7.SPLIT}),
+    ("the name of the entry point has more than 8 bytes", 0, {"entry": "_entry_pt"}),
+    ("more than 64 names are forced", 65, {"forced": ["_1", "_1", *(f"_{n}" for n in range(2, 66))]}),
 ]
 
 
-def row(address, words, text):
-    """A line in columns."""
-    return f"{address % (FITS + 1):06o}  {words:20}  {text}\n"
+def named(count, kind, start=0, **parts):
+    """An object with so many names, which begin with this number."""
+    return v7.make(symbols=[(f"{n:08}", kind, 0) for n in range(start, start + count)], **parts)
 
 
-def alone(words, address):
-    """The lines of words at an even address by the other decoder: of a text in which so many bytes precede them."""
-    place = address // 2
-    file, lines = disassembly.File([disassembly.NOP] * place + words, magic=0o405), []
-    file.knows_calls = False
-    while place < len(file.words):
-        length, text = file.line(place)
-        lines.append(row(2 * place, " ".join("%06o" % word for word in file.words[place : place + length]), text))
-        place += length
-    return "".join(lines)
+LOCAL, DEFINED = v7.ABSOLUTE, v7.ABSOLUTE + v7.EXTERNAL
+# limits: the fault, the number of the object, the objects, and the options
+LIMITS = [
+    ("text full", 1, [v7.make(WORDS[1:]), v7.make([WORD])], 0),
+    ("data full", 1, [v7.make((), WORDS[1:]), v7.make((), [WORD])], 0),
+    ("bss full", 1, [v7.make(bss=65534), v7.make(bss=2)], 0),
+    ("names full", 13, [*(named(5461, DEFINED, 5461 * n) for n in range(12)), named(3, DEFINED, 65532), named(1, DEFINED, 65535)], 0),
+    ("does not fit", 0, [v7.make([WORD], bss=65534)], 0),
+    ("too many symbols", 0, [named(5461, LOCAL), named(1, LOCAL)], 0),
+    ("symbol number too large", 0, [named(1, LOCAL), named(4096, v7.EXTERNAL, text=[(0, v7.refers_to(4095))])], v7.RELOCATABLE),
+]
 
 
-def instructions():
-    """Words and files as instructions, one after another."""
-    for address, words, text in LINES:
-        yield v7.disassemble_words([int(word, 8) for word in words.split()], address) == row(address, words, text)
-    yield v7.disassemble_words([0o12737, 1]) == row(0, "012737", "012737") + row(2, "000001", "wait")
-    yield v7.disassemble_words([]) == v7.disassemble(v7.make()) == ""
-    dice = random.Random(7)
-    for count in [*range(100), 40000]:
-        words, address = [dice.choice([dice.randrange(FITS + 1), 0o016767]) for _ in range(count)], 2 * dice.randrange(0o100000)
-        yield v7.disassemble_words(words, address) == alone(words, address)
-    for _ in range(300):
-        file = disassembly.random_file(dice)
-        file.knows_calls = False
-        yield v7.disassemble(file.encoded() + b"more").split("\n") == [*file.disassembly(), ""]
+class Faults(unittest.TestCase):
+    def test_files(self):
+        """Each call of a file, and of lists of them, blames the one that is damaged."""
+        for fault, word, data in DAMAGED:
+            is_file = fault not in ("short header", "bad magic number", "odd size", "truncated")
+            for call in (v7.check, v7.take_apart):
+                self.assertEqual(fault_of(call, data), (fault, word, 0))
+            for call in (v7.strip, v7.nm, v7.size, v7.disassemble, v7.listing, v7.read):
+                self.assertEqual(fault_of(call, data), None if is_file else (fault, word, 0))
+            for call in (v7.link, v7.link_findings, v7.link_places, v7.link_map, v7.Session):
+                self.assertEqual(fault_of(call, [OBJECT + b"more", data, OBJECT]), (fault, word, 1))
+            if fault in REMARKED:
+                first = v7.remarks(data)[0]
+                self.assertEqual(first.kind, REMARKED[fault])
+                self.assertTrue(not is_file or (first.byte, first.word) == (24 + 2 * word, word))
+
+    def test_listings(self):
+        for fault, line, column, listing in MISTAKES:
+            self.assertEqual(fault_of(v7.from_listing, listing), (fault, column, line))
+
+    def test_conversions(self):
+        for fault, word, place, options, data in CONVERTED:
+            self.assertEqual(fault_of(v7.from_gnu, data, options), (fault, word, place))
+        self.assertEqual(v7.from_gnu(GNU, v7.DROP_DEBUGGER), OBJECT)
+
+    def test_parts(self):
+        for fault, word, parts in PARTS:
+            self.assertEqual(fault_of(v7.make, *parts), (fault, word, 0))
+        self.assertEqual(len(v7.make(WORDS[1:], WORDS[1:], 65534, NAMES[1:])), 16 + 4 * 2 * 32767 + 12 * 5461)
+
+    def test_asked(self):
+        self.assertEqual(fault_of(v7.nm, OBJECT, 32), ("no such option or form", 0, 0))
+        for fault, place, asked in ASKED:
+            for call in (v7.link, v7.link_findings, v7.link_map):
+                self.assertEqual(fault_of(call, [OBJECT], **asked), (fault, 0, place))
+
+    def test_limits(self):
+        for fault, place, objects, options in LIMITS:
+            self.assertEqual(fault_of(v7.link, objects, options), (fault, 0, place))
+            self.assertEqual(v7.link_map(objects, options).fault, next(n for n, text in v7.FAULTS.items() if text == fault))
+            self.assertEqual(fault_of(lambda: v7.Session(objects).link(options)), (fault, 0, place))
+
+    def test_sessions(self):
+        """A refused edit changes nothing, and nothing of what was withdrawn is kept."""
+        session = v7.Session([OBJECT])
+        self.assertEqual(fault_of(session.add, OBJECT[:-1]), ("truncated", 0, 1))
+        self.assertEqual(fault_of(session.add, v7.strip(OBJECT)), ("no relocation", 0, 1))
+        self.assertEqual(session.link(), v7.link([OBJECT]))
+        for _ in range(100):
+            session.add(OBJECT)
+            session.withdraw()
+        session.withdraw()
+        self.assertEqual(fault_of(session.withdraw), ("nothing to withdraw", 0, 0))
+        self.assertEqual((session.link(), session._kept, session.state()["objects"]), (v7.link([]), [], 0))
+
+    @classmethod
+    def tearDownClass(cls):
+        if set(v7.FAULTS) - IN_C != seen:
+            raise AssertionError(f"no input has these faults: {sorted(set(v7.FAULTS) - IN_C - seen)}")
 
 
-def listings():
-    """Random files listed, and made of their listings again."""
-    dice = random.Random(8)
-    for _ in range(300):
-        data = disassembly.random_file(dice).encoded()
-        yield v7.from_listing(v7.listing(data + b"more")) == data
-    yield v7.from_listing("") == v7.from_listing("/ a note\n") == v7.make()
-    yield [(remark.kind, remark.byte) for remark in v7.remarks(v7.make() + b"more")] == [(v7.REMARK_BYTES_AFTER_TABLE, 16)]
-    yield v7.remarks(v7.make()) == []
+class Module(unittest.TestCase):
+    def test_numbers(self):
+        """Numbers that do not fit their places."""
+        for call, *words in ((v7.make, [(65536, 0)]), (v7.make, [(-1, 0)]), (v7.make, (), [(0, 65536)]), (v7.make, (), (), 1 << 32), (v7.make, (), (), -2),
+                             (v7.make, (), (), 0, [("_f", 65536, 0)]), (v7.make, (), (), 0, [("_f", 0, 65536)]), (v7.make, (), (), 0, [("_too_long", 0, 0)]),
+                             (v7.link, (), 1 << 32), (v7.link, (), -1), (v7.nm, OBJECT, 1 << 32), (v7.disassemble_words, [65536]),
+                             (v7.disassemble_words, [0], -1), (v7.refers_to, 4096), (v7.refers_to, -1)):
+            with self.subTest(call=call, words=words), self.assertRaises(ValueError):
+                call(*words)
+
+    def test_types(self):
+        for call in re.findall("^v7.*", read(f"{TOP}/tests/libv7/wrong_types.py"), re.M):
+            with self.subTest(call), self.assertRaises(TypeError):
+                eval(call)
+
+    def test_itself(self):
+        """The version, texts of faults, type hints, and the options of nm."""
+        self.assertEqual(len({*v7.FAULTS.values()}), len(v7.FAULTS))
+        self.assertIn(f'#define V7_VERSION "{v7.version()}"', read(f"{TOP}/include/v7.h").split("\n"))
+        self.assertEqual(v7.version(), v7.__version__)
+        self.assertTrue(all(typing.get_type_hints(getattr(v7, name)) for name in ("link", "make", "read", "remarks", "from_gnu")))
+        data = v7.make([WORD] * 2, symbols=[("_u", v7.EXTERNAL, 0), ("_t", v7.TEXT + v7.EXTERNAL, 2), ("b", v7.TEXT, 0)])
+        undefined, defined, local = "       U _u\n", "000002 T _t\n", "000000 t b\n"
+        for options, wanted in ((0, [defined, undefined, local]), (v7.NM_EXTERNAL, [defined, undefined]), (v7.NM_BY_VALUE, [undefined, local, defined]),
+                                (v7.NM_TABLE_ORDER, [undefined, defined, local]), (v7.NM_REVERSE, [local, undefined, defined]), (v7.NM_UNDEFINED, [undefined])):
+            self.assertEqual(v7.nm(data, options), "".join(wanted))
+
+    def test_words(self):
+        """Relocation words and types, as an object has them."""
+        data = v7.make([(0, v7.IN_TEXT), (0, v7.IN_DATA), (0, v7.IN_BSS)], symbols=[("a", v7.ABSOLUTE, 0), ("d", v7.DATA, 0), ("b", v7.BSS, 0)])
+        self.assertEqual(struct.unpack_from("<3H", data, 22), (2, 4, 6))
+        self.assertEqual([kind for _, kind, _ in struct.iter_unpack("<8sHH", data[28:])], [1, 3, 4])
+
+    def test_programs(self):
+        """Listings, conversions and remarks are those of the programs."""
+        with room():
+            for path in sorted(glob.glob(f"{TOP}/examples/*.o")):
+                data = read_bytes(path)
+                said = ran(program("v7-explain"), path).texts()[1]
+                listing = v7.listing(data)
+                self.assertEqual(listing.split("\n"), [line for line in said.split("\n") if not line.startswith("/")])
+                self.assertEqual([(str(it.byte), it.text) for it in v7.remarks(data)], re.findall(r"^/ (?:wrong|odd): byte 0[0-7]+ \((\d+)\): (.*)", said, re.M))
+                self.assertEqual(ran(program("v7-object"), write("x.lst", listing), "x.o").status, 0)
+                self.assertEqual(v7.from_listing(listing), read_bytes("x.o"))
+            for path in sorted(glob.glob(f"{TOP}/examples/*.gnu")):
+                self.assertEqual(ran(program("v7-from-gnu"), "-q", path, "x.o").status, 0)
+                self.assertEqual(v7.from_gnu(read_bytes(path)), read_bytes("x.o"))
 
 
-def cut_files():
-    """The faults of files without instructions."""
-    whole = v7.make(text=[(7, v7.NUMBER)])
-    for fault, data in ((11, b""), (11, whole[:15]), (12, b"\0" + whole[1:]), (13, whole[:2] + b"\3" + whole[3:]), (14, whole[:-1])):
-        try:
-            v7.disassemble(data)
-            yield False
-        except v7.Fault as refusal:
-            yield refusal.fault == fault
-
-
-def main():
-    wrong, header = doctest.testmod(v7).failed, f"{TOP}/include/v7.h"
-    checks = {
-        "the version": [f'#define V7_VERSION "{version}"' in read(header).split("\n") for version in (v7.version(), v7.__version__)],
-        "numbers": [*numbers()],
-        "types": [*wrong_types()],
-        "blame": [*blames()],
-        "parts": [*parts()],
-        "refused edits": [*refused_edits()],
-        "instructions": [*instructions()],
-        "cut files": [*cut_files()],
-        "listings": [*listings()],
-        "type hints": [typing.get_type_hints(getattr(v7, name)) != {} for name in HINTED],
-    }
-    for name, outcomes in checks.items():
-        if not outcomes or not all(outcomes):
-            print(f"{name}: wrong at {[number for number, is_right in enumerate(outcomes) if not is_right]}")
-            wrong += 1
-    print(f"{sum(map(len, checks.values()))} checks, and the docstrings")
-    return 1 if wrong else 0
+def load_tests(_loader, tests, _pattern):
+    tests.addTests(doctest.DocTestSuite(v7))
+    return tests
 
 
 if __name__ == "__main__":
-    sys.exit(main())
+    unittest.main()

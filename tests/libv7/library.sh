@@ -1,15 +1,13 @@
 #!/bin/sh
 # libv7 as a caller has it: installed into a folder, and found by pkg-config. Its two libraries must show the calls of v7.h and
-# nothing else, and the header must compile as C99, C++98 and C++17. tests/libv7/c/faults.c calls the library with an input for each fault of
-# each call. The examples in C, Python and Rust are compiled, link objects of examples/ as the program does, with the same
-# file, report and status, and run sessions, which compare by themselves. What is in C runs
-# under AddressSanitizer and valgrind too. The commands of docs/LIBRARY.md are run. The wheel of Python is installed into a fresh
-# environment.
-# What is missing of the compilers, Python and these two is skipped, and named.
+# nothing else, and the header must compile as C99, C++98 and C++17. tests/libv7/c/calls.c makes each call, and tests/libv7/library.py has
+# an input for each fault. The examples in C, Python and Rust are compiled, link objects of examples/ as the program does, with the same
+# file, report and status, and run sessions, which compare by themselves. Those in C run under valgrind too. The commands of
+# docs/LIBRARY.md are run. The wheel of Python is installed into a fresh environment. Tools that are missing are named.
 #
-# usage: CC=cc CXX=c++ CALLS=20000 tests/libv7/library.sh        with so many random calls
+# usage: CC=cc CXX=c++ tests/libv7/library.sh
 #
-# tier: check, 300 seconds; programs: v7 v7-explain v7-object v7-from-gnu libv7.so; for: Makefile crates/v7_c crates/library_calls include packaging docs/LIBRARY.md man/v7.3 tests/libv7 examples/c examples/python; needs: cc c++ pkg-config valgrind mypy venv rustc cargo
+# tier: check, 90 seconds; programs: v7 v7-explain v7-object v7-from-gnu libv7.so; for: Makefile crates/v7_c crates/library_calls include packaging docs/LIBRARY.md man/v7.3 tests/libv7 examples/c examples/python; needs: cc c++ pkg-config valgrind mypy venv rustc cargo
 set -u
 cd "$(dirname "$0")/../.."
 top=$PWD
@@ -61,27 +59,17 @@ for page in $(grep -o 'docs/[A-Z]*\.md' installed/include/v7.h); do
 done
 echo "$(wc -l <declared) calls shown by both libraries"
 
-# the header alone, as C and as C++. Each number of a fault has a text of its own, and the version is that of v7.pc
-cat >header.c <<END
+# the header alone, as C and as C++; its version is that of v7.pc
+cat >header.c <<'END'
 #include "v7.h"
 #include <stdio.h>
 #include <string.h>
 
 int main(void)
 {
-    static const unsigned faults[] = {$(sed -n '/^enum v7_fault/,/^}/s/^    \(V7_[A-Z_]*\) = .*/\1,/p' installed/include/v7.h | tr -d '\n') 90};
-    unsigned i, j;
-
-    if (V7_REFERS_TO(0) != 010 || V7_REFERS_TO(4095) != 0177770 || V7_REFERS_TO(1) + V7_FROM_PC != 031)
-        return 1;
-    for (i = 0; i < sizeof faults / sizeof *faults; i++)
-        for (j = 0; j < i; j++)
-            if (strcmp(v7_strerror(faults[i]), v7_strerror(faults[j])) == 0)
-                return 2;
     puts(V7_VERSION);
-    if (strcmp(v7_strerror(V7_NOTHING), "nothing to withdraw") != 0)
-        return 3;
-    return strcmp(v7_strerror(36), "unknown fault") != 0 || strcmp(v7_strerror(90), "unknown fault") != 0;
+    return V7_REFERS_TO(0) != 010 || V7_REFERS_TO(4095) != 0177770 || V7_REFERS_TO(1) + V7_FROM_PC != 031 ||
+           strcmp(v7_strerror(V7_NOTHING), "nothing to withdraw") != 0 || strcmp(v7_strerror(36), "unknown fault") != 0;
 }
 END
 cp header.c header.cpp
@@ -132,31 +120,9 @@ checks() {
     "$@" >said.txt 2>&1 && echo "$shown: $(tail -1 said.txt)" || { cat said.txt; fail "$shown differs"; }
 }
 
-# compiles the calls with each fault, with these further words for the compiler, as a program of this name
-faults() {
-    to=$1
-    shift
-    $CC -std=c99 -Wall -Wextra -Werror "$@" -o "$to" $compiles "$top/tests/libv7/c/faults.c" "$top/tests/libv7/c/calls.c" \
-        -Wl,--wrap=malloc -Wl,--wrap=realloc -Wl,--wrap=free "$archive" || exit 1
-}
-
-faults faults -O2
-checks C "each fault" ./faults
-$CC -std=c99 -O2 -Wall -Wextra -Werror -o random_calls $compiles "$top/tests/libv7/c/random_calls.c" \
-    -Wl,--wrap=malloc -Wl,--wrap=realloc -Wl,--wrap=free "$archive" || exit 1
-./random_calls "${CALLS:-20000}" || fail "a random call differs"
-# with a library that writes past the end of a short struct they fail
-${OBJCOPY:-objcopy} --redefine-sym v7_run=real_v7_run \
-    --redefine-sym v7_session_link=real_v7_session_link "$archive" planted.a
-$CC -std=c99 -O2 -Wall -Wextra -Werror -o random_planted $compiles "$top/tests/libv7/c/random_calls.c" "$top/tests/libv7/c/planted_records.c" \
-    -Wl,--wrap=malloc -Wl,--wrap=realloc -Wl,--wrap=free planted.a || exit 1
-PLANT=nothing ./random_planted 300 >planted.txt || { cat planted.txt; fail "a random call differs without a fault"; }
-for plant in short_result short_map short_kept; do
-    ! PLANT=$plant sh -c './random_planted 300; exit $?' >planted.txt 2>&1 || fail "$plant is not found"
-done
-# links, sessions and maps beside each other
-$CC -std=c99 -O2 -Wall -Wextra -Werror -o runs $compiles "$top/tests/libv7/c/runs.c" "$archive" || exit 1
-./runs "${RUNS:-20000}" main.o twice.o count.o a.o b.o c.o k.o l.o || fail "v7_run differs"
+$CC -std=c99 -O2 -Wall -Wextra -Werror -o calls $compiles "$top/tests/libv7/c/calls.c" -Wl,--wrap=malloc -Wl,--wrap=realloc -Wl,--wrap=free \
+    "$archive" || exit 1
+checks C "each call" ./calls
 $CC -std=c99 -O2 -Wall -Wextra -Werror -pthread -o stack $compiles "$top/tests/libv7/c/stack.c" "$archive" || exit 1
 ./stack >stack.txt && echo "32,768 bytes of stack: $(cat stack.txt)" || fail "a call needs more than 32,768 bytes of stack: $(cat stack.txt)"
 # the program of v7(3) lists what v7 nm lists, and refuses what is not a file
@@ -213,17 +179,7 @@ if has pkg-config; then
         has $program && run_shown $program
     done
 fi
-if $CC -g -fsanitize=address -o by_asan $compiles "$top/examples/c/link.c" "$archive" 2>/dev/null; then
-    $CC -g -fsanitize=address -o ran_by_asan $compiles "$top/examples/c/session.c" "$archive" || exit 1
-    faults faults_asan -g -fsanitize=address
-    checks "C with AddressSanitizer" "each fault" ./faults_asan
-    links "C with AddressSanitizer" ./by_asan
-    checks "C with AddressSanitizer" "a session" ./ran_by_asan
-else
-    echo "skipped: AddressSanitizer is not there"
-fi
 if has valgrind; then
-    checks "C with valgrind" "each fault" valgrind -q --error-exitcode=9 --leak-check=full ./faults
     links "C with valgrind" "valgrind -q --error-exitcode=9 --leak-check=full ./by_c"
     checks "C with valgrind" "a session" valgrind -q --error-exitcode=9 --leak-check=full ./ran_by_c
 fi
@@ -261,22 +217,7 @@ rm watched/count.o
 relinks
 kill $relinker
 echo "Python: a notebook, and a folder relinked"
-python3 -m tests.libv7.library || fail "Python: a check fails"
-python3 -m tests.libv7.library_programs "${CHANGED:-40}" ||
-    fail "a program and the library differ"
-# a library with a fault in one field of all records of a map, of findings, or of their objects
-$CC -std=c99 -O2 -Wall -Wextra -Werror -shared -fPIC -o planted.so $compiles "$top/tests/libv7/c/planted_records.c" -Wl,--whole-archive planted.a \
-    -Wl,--no-whole-archive || exit 1
-plants=$(grep -o 'FIELD([a-z_]*, [a-z_]*)' "$top/tests/libv7/c/planted_records.c" | sed -n '/(record, name)/d; s/FIELD(\(.*\), \(.*\))/\1.\2/p')
-# whether the model differs from it
-differs() {
-    ! LIBV7=./planted.so PLANT=$1 python3 -m tests.oracles.agree -l 60 0 60 >planted.txt 2>&1
-}
-! differs nothing || { cat planted.txt; fail "the model differs from the library without a fault in its records"; }
-for plant in $plants; do
-    differs "$plant" || fail "a fault in $plant is not found"
-done
-echo "a fault in each of $(echo "$plants" | wc -l) fields of the records of maps and findings is found"
+checks Python "each fault" python3 -m tests.libv7.library
 if has mypy; then
     MYPYPATH=$top/packaging/python mypy --strict --cache-dir="$room/mypy" "$top/packaging/python/v7.py" ||
         fail "Python: mypy does not take the type hints"

@@ -1,29 +1,27 @@
-/* Calls of libv7 for tests/libv7/c/faults.c, in rooms that are watched. The linker's option --wrap sends the library's calls of malloc,
- * realloc and free here, where requests for memory are counted and refused. */
+/* Makes each call of libv7 as v7.h describes it. What a call reads ends at a page that may not be touched, and may not be written; so does
+ * what it writes. The linker's option --wrap sends the library's calls of malloc, realloc and free here, where requests for memory are
+ * counted and refused. tests/libv7/library.sh compiles and runs it; tests/libv7/library.py has an input for each fault. */
+#define _DEFAULT_SOURCE
+#include <stddef.h>
 #include <stdio.h>
+#include <stdlib.h>
 #include <string.h>
+#include <sys/mman.h>
 
-#include "calls.h"
+#include "v7.h"
 
-enum { GUARD = 16, FILLER = 0xa5 };
+enum { PAGE = 4096, FILLER = 0xa5 };
 
-static const char *const names[CALLS] = {
-    "v7_check", "v7_strip", "v7_nm", "v7_size", "v7_disassemble", "v7_list", "v7_read", "v7_take_apart", "v7_disassemble_words",
-    "v7_from_listing", "v7_from_gnu", "v7_remarks", "v7_make", "v7_run", "v7_run for findings", "v7_session_link", "v7_session_state"};
+static unsigned compared, failures;
 
-/* rooms, aligned for words, symbols, findings and remarks */
-static union {
-    unsigned char bytes[ROOM + GUARD];
-    struct v7_word word;
-    struct v7_symbol symbol;
-    struct v7_finding finding;
-    struct v7_remark remark;
-} rooms[3];
-struct v7_answer answer;
-unsigned failures;
-static struct v7_counts counts;
-static struct v7_header header;
-static unsigned compared;
+static void is(int is_right, const char *call, const char *what)
+{
+    compared++;
+    if (!is_right) {
+        failures++;
+        printf("%s: %s: wrong\n", call, what);
+    }
+}
 
 /* ---- memory: requests from one number to another, counted from 1, are refused */
 
@@ -70,60 +68,149 @@ void __wrap_free(void *old)
     __real_free(old);
 }
 
-/* ---- calls */
+/* ---- pages, each between two that may not be touched */
 
-static uint32_t call_with_bytes(const struct request *r)
+enum { INPUTS = 4, ROOMS = 6 };
+
+static unsigned char *inputs[INPUTS], *rooms[ROOMS], *asking, *answering, *keeping, filled[PAGE];
+
+static unsigned char *new_page(void)
 {
-    const struct span *in = r->in;
-    const struct space *room = r->room;
+    unsigned char *all = mmap(NULL, 3 * PAGE, PROT_NONE, MAP_PRIVATE | MAP_ANONYMOUS, -1, 0);
 
-    switch (r->call) {
-    case CHECK:
-        return v7_check(in[0].at, in[0].size, &answer);
-    case STRIP:
-        return v7_strip(in[0].at, in[0].size, room[0].at, room[0].size, &answer);
-    case NM:
-        return v7_nm(r->option, in[0].at, in[0].size, room[0].at, room[0].size, &answer);
-    case SIZE:
-        return v7_size(in[0].at, in[0].size, room[0].at, room[0].size, &answer);
-    case DISASSEMBLE:
-        return v7_disassemble(in[0].at, in[0].size, room[0].at, room[0].size, &answer);
-    case LIST:
-        return v7_list(in[0].at, in[0].size, room[0].at, room[0].size, &answer);
-    case FROM_LISTING:
-        return v7_from_listing(in[0].at, in[0].size, room[0].at, room[0].size, &answer);
-    case FROM_GNU:
-        return v7_from_gnu(r->option, in[0].at, in[0].size, room[0].at, room[0].size, &answer);
-    case REMARKS:
-        return v7_remarks(in[0].at, in[0].size, room[0].at, room[0].size, room[1].at, room[1].size, &answer);
-    case READ:
-        return v7_read(in[0].at, in[0].size, &header, room[0].at, room[0].size, room[1].at, room[1].size, room[2].at,
-                       room[2].size, &counts, &answer);
-    default:
-        return v7_take_apart(in[0].at, in[0].size, room[0].at, room[0].size, room[1].at, room[1].size, room[2].at,
-                             room[2].size, &counts, &answer);
-    }
+    if (all == MAP_FAILED || mprotect(all + PAGE, PAGE, PROT_READ | PROT_WRITE))
+        exit(2);
+    return all + PAGE;
 }
 
-/* what a link or a session is asked for: the entry point but for a state, forced names and objects */
-static struct v7_request asked(const struct request *r)
+static void make_pages(void)
 {
-    const struct span *in = r->in;
-    struct v7_request asked = {.size = sizeof asked, .options = r->option, .wants = r->call == FINDINGS ? V7_FINDINGS : V7_REPORT};
+    int i;
 
-    if (r->call != STATE) {
-        asked.entry = (struct v7_slice){in->at, in->size};
-        in++;
-    }
-    asked.forced = (struct v7_slice){in[0].at, in[0].size};
-    asked.objects = in[1].at;
-    asked.object_count = in[1].size;
-    return asked;
+    for (i = 0; i < INPUTS; i++)
+        inputs[i] = new_page();
+    for (i = 0; i < ROOMS; i++)
+        rooms[i] = new_page();
+    asking = new_page();
+    answering = new_page();
+    keeping = new_page();
+    memset(filled, FILLER, PAGE);
 }
 
-/* Begins a session and adds the objects, up to a fault, and returns the status. */
-static uint32_t keep(struct v7_session *session, const struct v7_request *request)
+/* so many bytes at the end of a page, which is filled up */
+static void *room_in(unsigned char *page, size_t size)
 {
+    memset(page, FILLER, PAGE);
+    return page + PAGE - size;
+}
+
+/* a copy at the end of a page, which may not be written then */
+static const void *input_in(unsigned char *page, const void *bytes, size_t size)
+{
+    if (mprotect(page, PAGE, PROT_READ | PROT_WRITE))
+        exit(2);
+    if (size > 0)
+        memcpy(page + PAGE - size, bytes, size);
+    if (mprotect(page, PAGE, PROT_READ))
+        exit(2);
+    return page + PAGE - size;
+}
+
+/* whether a room of this size begins with these bytes, and nothing else of its page is written */
+static int has_alone(const unsigned char *page, size_t room, const void *bytes, size_t size)
+{
+    const unsigned char *at = page + PAGE - room;
+
+    return (size == 0 || memcmp(at, bytes, size) == 0) && memcmp(page, filled, PAGE - room) == 0 && memcmp(at + size, filled, room - size) == 0;
+}
+
+/* ---- calls by one form */
+
+enum call {
+    CHECK,
+    STRIP,
+    NM,
+    SIZE,
+    DISASSEMBLE,
+    LIST,
+    READ,
+    TAKE_APART,
+    FROM_LISTING,
+    FROM_GNU,
+    REMARKS,
+    DISASSEMBLE_WORDS,
+    MAKE,
+    LINK,
+    FINDINGS,
+    SESSION,
+    STATE,
+    CALLS
+};
+
+/* so many items of this size */
+struct span {
+    const void *at;
+    size_t count, unit;
+};
+
+/* A call: OPTIONS, FORM, BSS or ADDRESS, what it reads and how many items its rooms have, each in the order of the parameters, and what
+ * it answers and leaves in its rooms. LINK and FINDINGS are calls of v7_run: with its report as lines, or as a list and the objects
+ * of that. SESSION and STATE keep a session of the objects, and link it or show its state. */
+struct request {
+    const char *name;
+    enum call call;
+    uint32_t option;
+    struct span in[3];
+    size_t room[3];
+    uint32_t status;
+    struct v7_answer answer;
+    struct span out[3];
+    struct v7_counts counts;
+    struct v7_header header;
+};
+
+static struct v7_answer answer;
+static struct v7_counts counts;
+static struct v7_header header;
+
+/* what a link or a session is asked for: the entry point, forced names and objects */
+static const struct v7_request *asked(const struct request *r, const void *const *in)
+{
+    struct v7_request request = {.size = sizeof request, .options = r->option, .wants = r->call == FINDINGS ? V7_FINDINGS | V7_PLACES : V7_REPORT};
+
+    request.entry = (struct v7_slice){in[0], r->in[0].count};
+    request.forced = (struct v7_slice){in[1], r->in[1].count};
+    request.objects = in[2];
+    request.object_count = r->in[2].count;
+    return input_in(asking, &request, sizeof request);
+}
+
+/* the link of the objects, or of a session that keeps them, by the shortest result that it may have; with the result as an answer */
+static uint32_t run(const struct request *r, const struct v7_request *request, struct v7_session *session, void *const *room)
+{
+    size_t size = r->call == FINDINGS ? offsetof(struct v7_result, map) : offsetof(struct v7_result, finding_count);
+    struct v7_result all = {.size = size, .file = room[0], .file_room = r->room[0]}, *result = room_in(answering, size);
+    uint32_t status;
+
+    if (r->call == FINDINGS) {
+        all.findings = room[1];
+        all.finding_room = r->room[1];
+        all.places = room[2];
+        all.place_room = r->room[2];
+    } else {
+        all.report = room[1];
+        all.report_room = r->room[1];
+    }
+    memcpy(result, &all, size);
+    status = session ? v7_session_link(session, request, result) : v7_run(request, result);
+    answer = (struct v7_answer){result->fault, result->word, result->place, result->file_size, r->call == FINDINGS ? result->finding_count : result->report_size};
+    return status;
+}
+
+/* a session of the objects, up to a fault, whose place is the number of the object; and its link or its state */
+static uint32_t keep(const struct request *r, const struct v7_request *request, void *const *room)
+{
+    struct v7_session *session = memset(room_in(keeping, sizeof *session), 0, sizeof *session);
     uint32_t status = v7_session_new(session, request->forced.bytes, request->forced.size, &answer);
     size_t i;
 
@@ -131,159 +218,95 @@ static uint32_t keep(struct v7_session *session, const struct v7_request *reques
         status = v7_session_add(session, request->objects[i].bytes, request->objects[i].size, &answer);
         answer.place += i;
     }
+    if (status == 0)
+        status = r->call == SESSION ? run(r, request, session, room) : v7_session_state(session, r->option, room[0], r->room[0], &answer);
+    v7_session_free(session);
     return status;
 }
 
-/* the link of the objects, or of a session that keeps them, with its result as an answer */
-static uint32_t run(const struct request *r, const struct v7_request *request, struct v7_session *session)
+static uint32_t call(const struct request *r, const void *const *in, void *const *room)
 {
-    const struct space *room = r->room;
-    struct v7_result result = {.size = sizeof result, .file = room[0].at, .file_room = room[0].size};
-    uint32_t status;
-
-    if (r->call == FINDINGS) {
-        result.findings = room[1].at;
-        result.finding_room = room[1].size;
-    } else {
-        result.report = room[1].at;
-        result.report_room = room[1].size;
-    }
-    status = session ? v7_session_link(session, request, &result) : v7_run(request, &result);
-    answer = (struct v7_answer){result.fault, result.word, result.place, result.file_size, r->call == FINDINGS ? result.finding_count : result.report_size};
-    return status;
-}
-
-/* a session of the objects: its link or its state */
-static uint32_t run_kept(const struct request *r, const struct v7_request *request)
-{
-    struct v7_session session = {0};
-    uint32_t status = keep(&session, request);
-
-    if (status == 0 && r->call == SESSION)
-        status = run(r, request, &session);
-    else if (status == 0)
-        status = v7_session_state(&session, r->option, r->room[0].at, r->room[0].size, &answer);
-    v7_session_free(&session);
-    return status;
-}
-
-static uint32_t call(const struct request *r)
-{
-    const struct span *in = r->in;
-    const struct space *room = r->room;
-    const struct v7_request request = asked(r);
+    const size_t size = r->in[0].count, *most = r->room;
 
     switch (r->call) {
+    case CHECK:
+        return v7_check(in[0], size, &answer);
+    case STRIP:
+        return v7_strip(in[0], size, room[0], most[0], &answer);
+    case NM:
+        return v7_nm(r->option, in[0], size, room[0], most[0], &answer);
+    case SIZE:
+        return v7_size(in[0], size, room[0], most[0], &answer);
+    case DISASSEMBLE:
+        return v7_disassemble(in[0], size, room[0], most[0], &answer);
+    case LIST:
+        return v7_list(in[0], size, room[0], most[0], &answer);
+    case READ:
+        return v7_read(in[0], size, &header, room[0], most[0], room[1], most[1], room[2], most[2], &counts, &answer);
+    case TAKE_APART:
+        return v7_take_apart(in[0], size, room[0], most[0], room[1], most[1], room[2], most[2], &counts, &answer);
+    case FROM_LISTING:
+        return v7_from_listing(in[0], size, room[0], most[0], &answer);
+    case FROM_GNU:
+        return v7_from_gnu(r->option, in[0], size, room[0], most[0], &answer);
+    case REMARKS:
+        return v7_remarks(in[0], size, room[0], most[0], room[1], most[1], &answer);
     case DISASSEMBLE_WORDS:
-        return v7_disassemble_words((uint16_t)r->option, in[0].at, in[0].size, room[0].at, room[0].size, &answer);
+        return v7_disassemble_words((uint16_t)r->option, in[0], size, room[0], most[0], &answer);
     case MAKE:
-        return v7_make(in[0].at, in[0].size, in[1].at, in[1].size, r->option, in[2].at, in[2].size, room[0].at,
-                       room[0].size, &answer);
+        return v7_make(in[0], size, in[1], r->in[1].count, r->option, in[2], r->in[2].count, room[0], most[0], &answer);
     case LINK:
     case FINDINGS:
-        return run(r, &request, NULL);
-    case SESSION:
-    case STATE:
-        return run_kept(r, &request);
+        return run(r, asked(r, in), NULL, room);
     default:
-        return call_with_bytes(r);
+        return keep(r, asked(r, in), room);
     }
-}
-
-/* the size of what a room counts */
-static size_t unit(enum call kind, int i)
-{
-    if (kind == TAKE_APART || kind == READ)
-        return i < 2 ? sizeof(struct v7_word) : sizeof(struct v7_symbol);
-    if (kind == REMARKS && i == 1)
-        return sizeof(struct v7_remark);
-    return kind == FINDINGS && i == 1 ? sizeof(struct v7_finding) : 1;
-}
-
-/* the bytes of a room, and those after it that have to stay as they are */
-static size_t watched(const struct request *r, int i)
-{
-    return r->room[i].size * unit(r->call, i) + GUARD;
 }
 
 /* the status of the call, with all that it may write to filled up before */
-uint32_t status_of(const struct request *r)
+static uint32_t status_of(const struct request *r)
 {
+    const void *in[3];
+    void *room[3];
     int i;
 
-    for (i = 0; i < 3; i++)
-        if (r->room[i].at)
-            memset(r->room[i].at, FILLER, watched(r, i));
+    for (i = 0; i < 3; i++) {
+        in[i] = r->in[i].at ? input_in(inputs[i], r->in[i].at, r->in[i].count * r->in[i].unit) : NULL;
+        room[i] = r->out[i].unit ? room_in(rooms[i], r->room[i] * r->out[i].unit) : NULL;
+    }
     memset(&answer, FILLER, sizeof answer);
     memset(&counts, FILLER, sizeof counts);
     memset(&header, FILLER, sizeof header);
     requests = 0;
-    return call(r);
+    return call(r, in, room);
 }
 
-/* whether a room has this, and else what it had before the call */
-static int has_alone(const struct request *r, int i, struct span out)
+/* The call has to answer this, and to give its memory back; with a fault it writes nothing. */
+static void expect(const char *what, const struct request *r)
 {
-    const unsigned char *bytes = r->room[i].at;
-    size_t n;
+    const struct v7_answer *a = &r->answer;
+    int is_right = status_of(r) == r->status && held == 0, i;
 
-    if (!bytes)
-        return 1;
-    for (n = out.size; n < watched(r, i); n++)
-        if (bytes[n] != FILLER)
-            return 0;
-    return out.size == 0 || memcmp(bytes, out.at, out.size) == 0;
+    for (i = 0; i < 3; i++)
+        is_right &= !r->out[i].unit || has_alone(rooms[i], r->room[i] * r->out[i].unit, r->out[i].at, a->fault ? 0 : r->out[i].count * r->out[i].unit);
+    is_right &= answer.fault == a->fault && answer.word == a->word && answer.place == a->place && answer.size == a->size && answer.report_size == a->report_size;
+    if (r->call == READ)
+        is_right &= memcmp(&header, &r->header, sizeof header) == 0;
+    if (r->call == READ || r->call == TAKE_APART)
+        is_right &= memcmp(&counts, &r->counts, sizeof counts) == 0;
+    is(is_right, r->name, what);
 }
 
-static int is_answered(const struct request *r, const struct wanted *w)
+/* The call has to have this fault, and no sizes. */
+static void expect_fault(const char *what, const struct request *r, uint32_t fault, size_t place)
 {
-    const struct v7_answer *a = &w->answer;
-    const struct v7_counts *c = &w->counts;
+    struct request other = *r;
 
-    if (answer.fault != a->fault || answer.word != a->word || answer.place != a->place || answer.size != a->size ||
-        answer.report_size != a->report_size)
-        return 0;
-    if (r->call == READ && memcmp(&header, &w->header, sizeof header) != 0)
-        return 0;
-    if ((r->call == TAKE_APART || r->call == READ) && (counts.text != c->text || counts.data != c->data || counts.symbols != c->symbols ||
-                                                       counts.bss != c->bss))
-        return 0;
-    return has_alone(r, 0, w->out[0]) && has_alone(r, 1, w->out[1]) && has_alone(r, 2, w->out[2]);
-}
-
-/* whether the call answers this, and gives all memory back */
-static int answers(const struct request *r, const struct wanted *w)
-{
-    uint32_t status = status_of(r);
-
-    compared++;
-    return status == w->status && is_answered(r, w) && held == 0;
-}
-
-void expect(const char *what, const struct request *r, const struct wanted *w)
-{
-    if (answers(r, w))
-        return;
-    failures++;
-    printf("%s, %s: fault %u, word %u, place %zu, sizes %zu and %zu\n  and not %u, word %u, place %zu, sizes %zu and %zu;"
-           " or another status, more written, or memory kept\n",
-           names[r->call], what, (unsigned)answer.fault, (unsigned)answer.word, answer.place, answer.size,
-           answer.report_size, (unsigned)w->answer.fault, (unsigned)w->answer.word, w->answer.place, w->answer.size,
-           w->answer.report_size);
-}
-
-void expect_fault(const char *what, const struct request *r, uint32_t fault, uint32_t word, size_t place)
-{
-    const struct wanted w = {.status = 2, .answer = {.fault = fault, .word = word, .place = place}};
-
-    expect(what, r, &w);
-}
-
-void expect_fault_without_memory(const char *what, const struct request *r, uint32_t fault, uint32_t word, size_t place)
-{
-    refuse(1, (size_t)-1);
-    expect_fault(what, r, fault, word, place);
-    refuse(0, 0);
+    other.status = 2;
+    other.answer = (struct v7_answer){fault, 0, place, 0, 0};
+    memset(&other.counts, 0, sizeof other.counts);
+    memset(&other.header, 0, sizeof other.header);
+    expect(what, &other);
 }
 
 /* ---- for each call one that gives something: an object, which calls _f and has two symbols, and another that defines _f */
@@ -291,45 +314,32 @@ void expect_fault_without_memory(const char *what, const struct request *r, uint
 #define W(n) (n) & 255, (n) >> 8
 #define NAME(a, b) a, b, 0, 0, 0, 0, 0, 0
 #define CONTENTS W(04767), W(0177774), W(0207), W(7)
-#define OBJECT                                                                                                \
-    W(0407), W(6), W(2), W(4), W(24), W(0), W(0), W(0), CONTENTS, W(0), W(011), W(0), W(0), NAME('_', 'f'), W(040), \
-        W(0), NAME('L', '1'), W(2), W(0)
-#define DEFINITION \
-    W(0407), W(4), W(0), W(0), W(12), W(0), W(0), W(0), W(0240), W(0207), W(0), W(0), NAME('_', 'f'), W(042), W(2)
+#define OBJECT                                                                                                          \
+    W(0407), W(6), W(2), W(4), W(24), W(0), W(0), W(0), CONTENTS, W(0), W(011), W(0), W(0), NAME('_', 'f'), W(040), W(0), \
+        NAME('L', '1'), W(2), W(0)
 
-const unsigned char object[56] = {OBJECT};
-static const unsigned char more[] = {OBJECT, 1, 2, 3, 4, 5};
+static const unsigned char object[] = {OBJECT}, more[] = {OBJECT, 1, 2, 3, 4, 5};
+static const unsigned char definition[] = {W(0407), W(4), W(0), W(0), W(12), W(0), W(0), W(0), W(0240), W(0207), W(0), W(0), NAME('_', 'f'), W(042), W(2)};
 static const unsigned char stripped[] = {W(0407), W(6), W(2), W(4), W(0), W(0), W(0), W(1), CONTENTS};
-static const unsigned char linked[] = {W(0407), W(10), W(2), W(4), W(24), W(8), W(0), W(1),
-                                       W(04767), W(4), W(0207), W(0240), W(0207), W(7),
+static const unsigned char linked[] = {W(0407), W(10), W(2), W(4), W(24), W(8), W(0), W(1), W(04767), W(4), W(0207), W(0240), W(0207), W(7),
                                        NAME('_', 'x'), W(040), W(0), NAME('_', 'f'), W(042), W(8)};
-static const char state[] = "  text 000000  004767     a number\n"
-                            "  text 000002  000004 pc  text\n"
-                            "  text 000004  000207     a number\n"
-                            "  text 000006  000240     a number\n"
-                            "  text 000010  000207     a number\n"
-                            "  data 000000  000007     a number\n"
-                            "  bss 4 bytes\n"
-                            "  name _x: undefined\n"
-                            "  name _f: text 000010\n"
-                            "  mark _f was undefined\n"
-                            "  mark text 000002 was 177774 pc  waits for _f\n";
-static const unsigned char definition[] = {DEFINITION};
+/* its strings begin with their length, 10, the high word first; L1 is at 4, and _f at 7 */
+static const unsigned char gnu_object[] = {W(0407), W(6), W(2), W(4), W(16), W(0), W(0), W(0), CONTENTS, W(0), W(011), W(0), W(0),
+                                           W(0), W(7), W(040), W(0), W(0), W(4), W(2), W(0), W(0), W(10), 'L', '1', 0, '_', 'f', 0};
 static const struct v7_slice both[] = {{more, sizeof more}, {definition, sizeof definition}};
 static const struct v7_finding findings[] = {{"_x", V7_UNDEFINED_NAME}};
-static const struct v7_word text[] = {{04767, 0}, {0177774, 011}, {0207, 0}}, data[] = {{7, 0}};
-static const struct v7_symbol symbols[] = {{"_f", 040, 0}, {"L1", 02, 0}};
+static const struct v7_finding_place places[] = {{SIZE_MAX, SIZE_MAX}};
+static const struct v7_word text[] = {{04767, V7_NUMBER}, {0177774, V7_REFERS_TO(0) + V7_FROM_PC}, {0207, V7_NUMBER}}, data[] = {{7, V7_NUMBER}};
+static const struct v7_symbol symbols[] = {{"_f", V7_UNDEFINED + V7_EXTERNAL, 0}, {"L1", V7_TEXT, 0}};
+static const struct v7_word linked_text[] = {{04767, 0}, {4, 0}, {0207, 0}, {0240, 0}, {0207, 0}};
+static const struct v7_symbol linked_symbols[] = {{"_x", V7_UNDEFINED + V7_EXTERNAL, 0}, {"_f", V7_TEXT + V7_EXTERNAL, 8}};
+/* the address after the first instruction is 0 */
+static const uint16_t at_end[] = {0401, 012767, 0177777, 0};
 static const char instructions[] = "L1:\n"
                                    "000000  004767 177774         jsr pc,_f\n"
                                    "000004  000207                rts pc\n";
-/* the last instruction is cut, so that its first word is plain; and the address after the first is 0 */
-static const uint16_t at_end[] = {0401, 012767, 0177777, 0, 012737};
 static const char plain[] = "177776  000401                br 2\n"
-                            "000000  012767 177777 000000  mov $177777,6\n"
-                            "000006  012737                012737\n";
-static const struct v7_word linked_text[] = {{04767, 0}, {4, 0}, {0207, 0}, {0240, 0}, {0207, 0}};
-static const struct v7_symbol linked_symbols[] = {{"_x", 040, 0}, {"_f", 042, 8}};
-
+                            "000000  012767 177777 000000  mov $177777,6\n";
 static const char listing[] = "text\n"
                               "L1:\n"
                               "000000  004767     0  jsr pc,_f\n"
@@ -342,188 +352,262 @@ static const char listing[] = "text\n"
                               "0     _f         40  000000  U\n"
                               "1     L1          2  000000  t\n"
                               "end\n";
-/* its strings begin with their length, 10, the high word first; L1 is at 4, and _f at 7 */
-const unsigned char gnu_object[58] = {W(0407), W(6), W(2), W(4), W(16), W(0), W(0), W(0), CONTENTS, W(0), W(011), W(0), W(0),
-                                      W(0), W(7), W(040), W(0), W(0), W(4), W(2), W(0), W(0), W(10), 'L', '1', 0, '_', 'f', 0};
 static const char remark_text[] = "05 (5) bytes after the symbol table are not read";
 static const struct v7_remark remarks[] = {{56, 0, sizeof remark_text - 1, V7_REMARK_BYTES_AFTER_TABLE, 0, 0}};
+static const char state[] = "  text 000000  004767     a number\n"
+                            "  text 000002  000004 pc  text\n"
+                            "  text 000004  000207     a number\n"
+                            "  text 000006  000240     a number\n"
+                            "  text 000010  000207     a number\n"
+                            "  data 000000  000007     a number\n"
+                            "  bss 4 bytes\n"
+                            "  name _x: undefined\n"
+                            "  name _f: text 000010\n"
+                            "  mark _f was undefined\n"
+                            "  mark text 000002 was 177774 pc  waits for _f\n";
 
-#define STRING(s) {s, sizeof s - 1}
-#define BYTES(a) {a, sizeof a}
-#define LIST(a) {a, sizeof a / sizeof *a}
-#define SPACE(i, n) {rooms[i].bytes, n}
+#define STRING(s) {s, sizeof s - 1, 1}
+#define ITEMS(a) {a, sizeof a / sizeof *a, sizeof *a}
 #define FORCED STRING("_x\0\0\0\0\0\0")
 #define REPORT STRING("Undefined:\n_x\n")
+#define LINKED(n) .answer = {0, 0, 0, 52, n}
+#define LENGTH(s) .room = {sizeof s - 1}, .answer = {.size = sizeof s - 1}, .out = {STRING(s)}
+#define SIZED(a) .room = {sizeof a}, .answer = {.size = sizeof a}, .out = {ITEMS(a)}
 
-const struct request good[CALLS] = {
-    {CHECK, 0, {BYTES(more)}, {{0}}},
-    {STRIP, 0, {BYTES(more)}, {SPACE(0, 24)}},
-    {NM, V7_NM_REVERSE, {BYTES(more)}, {SPACE(0, 24)}},
-    {SIZE, 0, {BYTES(more)}, {SPACE(0, 19)}},
-    {DISASSEMBLE, 0, {BYTES(more)}, {SPACE(0, sizeof instructions - 1)}},
-    {LIST, 0, {BYTES(more)}, {SPACE(0, sizeof listing - 1)}},
-    {READ, 0, {BYTES(linked)}, {SPACE(0, 5), SPACE(1, 1), SPACE(2, 2)}},
-    {TAKE_APART, 0, {BYTES(more)}, {SPACE(0, 3), SPACE(1, 1), SPACE(2, 2)}},
-    {DISASSEMBLE_WORDS, 0177776, {LIST(at_end)}, {SPACE(0, sizeof plain - 1)}},
-    {FROM_LISTING, 0, {STRING(listing)}, {SPACE(0, 56)}},
-    {FROM_GNU, V7_DROP_DEBUGGER, {BYTES(gnu_object)}, {SPACE(0, 56)}},
-    {REMARKS, 0, {BYTES(more)}, {SPACE(0, sizeof remark_text - 1), SPACE(1, 1)}},
-    {MAKE, 4, {LIST(text), LIST(data), LIST(symbols)}, {SPACE(0, 56)}},
-    {LINK, V7_NOT_L, {STRING("_f"), FORCED, LIST(both)}, {SPACE(0, 52), SPACE(1, 14)}},
-    {FINDINGS, V7_NOT_L, {STRING("_f"), FORCED, LIST(both)}, {SPACE(0, 52), SPACE(1, 1)}},
-    {SESSION, V7_NOT_L, {STRING("_f"), FORCED, LIST(both)}, {SPACE(0, 52), SPACE(1, 14)}},
-    {STATE, V7_LINES, {FORCED, LIST(both)}, {SPACE(0, sizeof state - 1)}},
-};
-static const struct wanted given[CALLS] = {
-    {0, {0, 0, 0, 56, 0}, {0}, {{0}}, {0}},
-    {0, {0, 0, 0, 24, 0}, {0}, {BYTES(stripped)}, {0}},
-    {0, {0, 0, 0, 24, 0}, {0}, {STRING("       U _f\n000000 t L1\n")}, {0}},
-    {0, {0, 0, 0, 19, 0}, {0}, {STRING("6+2+4 = 12b = 014b\n")}, {0}},
-    {0, {0, 0, 0, sizeof instructions - 1, 0}, {0}, {STRING(instructions)}, {0}},
-    {0, {0, 0, 0, sizeof listing - 1, 0}, {0}, {STRING(listing)}, {0}},
-    {0, {0, 0, 0, 0, 0}, {5, 1, 2, 4}, {BYTES(linked_text), BYTES(data), BYTES(linked_symbols)}, {0407, 10, 2, 4, 24, 8, 0, 1}},
-    {0, {0, 0, 0, 0, 0}, {3, 1, 2, 4}, {BYTES(text), BYTES(data), BYTES(symbols)}, {0}},
-    {0, {0, 0, 0, sizeof plain - 1, 0}, {0}, {STRING(plain)}, {0}},
-    {0, {0, 0, 0, 56, 0}, {0}, {BYTES(object)}, {0}},
-    {0, {0, 0, 0, 56, 0}, {0}, {BYTES(object)}, {0}},
-    {0, {0, 0, 0, sizeof remark_text - 1, 1}, {0}, {STRING(remark_text), {remarks, sizeof remarks}}, {0}},
-    {0, {0, 0, 0, 56, 0}, {0}, {BYTES(object)}, {0}},
-    {1, {0, 0, 0, 52, 14}, {0}, {BYTES(linked), REPORT}, {0}},
-    {1, {0, 0, 0, 52, 1}, {0}, {BYTES(linked), BYTES(findings)}, {0}},
-    {1, {0, 0, 0, 52, 14}, {0}, {BYTES(linked), REPORT}, {0}},
-    {0, {0, 0, 0, sizeof state - 1, 0}, {0}, {STRING(state)}, {0}},
+static const struct request good[CALLS] = {
+    {"v7_check", CHECK, 0, {ITEMS(more)}, .answer = {.size = sizeof object}},
+    {"v7_strip", STRIP, 0, {ITEMS(more)}, SIZED(stripped)},
+    {"v7_nm", NM, V7_NM_REVERSE, {ITEMS(more)}, LENGTH("       U _f\n000000 t L1\n")},
+    {"v7_size", SIZE, 0, {ITEMS(more)}, LENGTH("6+2+4 = 12b = 014b\n")},
+    {"v7_disassemble", DISASSEMBLE, 0, {ITEMS(more)}, LENGTH(instructions)},
+    {"v7_list", LIST, 0, {ITEMS(more)}, LENGTH(listing)},
+    {"v7_read", READ, 0, {ITEMS(linked)}, {5, 1, 2}, .out = {ITEMS(linked_text), ITEMS(data), ITEMS(linked_symbols)}, .counts = {5, 1, 2, 4},
+     .header = {0407, 10, 2, 4, 24, 8, 0, 1}},
+    {"v7_take_apart", TAKE_APART, 0, {ITEMS(more)}, {3, 1, 2}, .out = {ITEMS(text), ITEMS(data), ITEMS(symbols)}, .counts = {3, 1, 2, 4}},
+    {"v7_from_listing", FROM_LISTING, 0, {STRING(listing)}, SIZED(object)},
+    {"v7_from_gnu", FROM_GNU, V7_DROP_DEBUGGER, {ITEMS(gnu_object)}, SIZED(object)},
+    {"v7_remarks", REMARKS, 0, {ITEMS(more)}, {sizeof remark_text - 1, 1}, .answer = {0, 0, 0, sizeof remark_text - 1, 1},
+     .out = {STRING(remark_text), ITEMS(remarks)}},
+    {"v7_disassemble_words", DISASSEMBLE_WORDS, 0177776, {ITEMS(at_end)}, LENGTH(plain)},
+    {"v7_make", MAKE, 4, {ITEMS(text), ITEMS(data), ITEMS(symbols)}, SIZED(object)},
+    {"v7_run", LINK, V7_NOT_L, {STRING("_f"), FORCED, ITEMS(both)}, {52, 14}, 1, LINKED(14), .out = {ITEMS(linked), REPORT}},
+    {"v7_run for findings", FINDINGS, V7_NOT_L, {STRING("_f"), FORCED, ITEMS(both)}, {52, 1, 1}, 1, LINKED(1),
+     .out = {ITEMS(linked), ITEMS(findings), ITEMS(places)}},
+    {"v7_session_link", SESSION, V7_NOT_L, {STRING("_f"), FORCED, ITEMS(both)}, {52, 14}, 1, LINKED(14), .out = {ITEMS(linked), REPORT}},
+    {"v7_session_state", STATE, V7_LINES, {STRING(""), FORCED, ITEMS(both)}, LENGTH(state)},
 };
 
 /* a room that is too small by one, and rooms of size 0 */
-static void check_rooms(enum call kind)
+static void check_rooms(const struct request *r)
 {
-    const struct wanted w = {.status = 2,
-                             .answer = {V7_NO_ROOM, 0, 0, given[kind].answer.size, given[kind].answer.report_size},
-                             .counts = given[kind].counts,
-                             .header = given[kind].header};
-    struct request none = good[kind];
+    struct request none = *r;
     int i;
 
-    for (i = 0; i < 3 && good[kind].room[i].at; i++) {
-        struct request short_one = good[kind];
+    none.status = 2;
+    none.answer.fault = V7_NO_ROOM;
+    for (i = 0; i < 3 && r->room[i] > 0; i++) {
+        struct request short_one = none;
 
-        short_one.room[i].size--;
-        expect("a room too small", &short_one, &w);
-        none.room[i].size = 0;
+        memcpy(short_one.room, r->room, sizeof r->room);
+        short_one.room[i]--;
+        expect("a room too small", &short_one);
+        none.room[i] = 0;
     }
     if (i > 0)
-        expect("no room", &none, &w);
+        expect("no room", &none);
 }
 
-/* Each request for memory refused, and all after it; and each alone, where the call may do with a smaller one. The place
- * is that of an object, or 0. */
-static void check_memory(enum call kind)
+/* Each request for memory refused, and all after it; and each alone, where the call may do with a smaller one. The place is that of an
+ * object, or 0. */
+static void check_memory(const struct request *r)
 {
-    static const size_t last_place[CALLS] = {[LINK] = 1, [FINDINGS] = 1, [SESSION] = 1, [STATE] = 1};
-    const struct request *r = &good[kind];
     size_t all = (status_of(r), requests), n;
 
+    is(all > 0, r->name, "requests for memory");
     for (n = 1; n <= all; n++) {
         refuse(n, (size_t)-1);
         status_of(r);
-        expect_fault("memory refused", r, V7_NO_MEMORY, 0, answer.place <= last_place[kind] ? answer.place : 0);
+        expect_fault("memory refused", r, V7_NO_MEMORY, r->call >= LINK && answer.place < 2 ? answer.place : 0);
         refuse(n, n);
-        if (status_of(r) != given[kind].status)
-            expect_fault("memory refused once", r, V7_NO_MEMORY, 0, answer.place <= last_place[kind] ? answer.place : 0);
+        if (status_of(r) == r->status)
+            expect("less memory", r);
         else
-            expect("less memory", r, &given[kind]);
+            expect_fault("memory refused once", r, V7_NO_MEMORY, r->call >= LINK && answer.place < 2 ? answer.place : 0);
     }
     refuse(0, 0);
-    if (all == 0) {
-        printf("%s: no memory was asked for\n", names[kind]);
-        failures++;
-    }
 }
 
-/* ---- exchanged: each two parameters of one type, of each call that has two; the answer has to be another */
-
-static void differ(const struct request *r, int i, int j)
+/* what is refused before memory is wanted */
+static void check_without_memory(const struct request *r)
 {
-    if (answers(r, &given[r->call])) {
-        printf("%s: parameters %d and %d of one type exchanged, and the same answer\n", names[r->call], i, j);
-        failures++;
+    static const struct v7_slice cut[] = {{object, 15}};
+    struct request other = *r;
+
+    refuse(1, (size_t)-1);
+    if (r->call <= TAKE_APART || r->call == FROM_GNU) {
+        other.in[0].count = 15;
+        status_of(&other);
+        expect_fault("a short file", &other, V7_SHORT_HEADER, r->call == FROM_GNU ? 15 : 0);
+    } else if (r->call == LINK || r->call == FINDINGS) {
+        other.in[1].count = 7;
+        expect_fault("forced names", &other, V7_CUT_NAMES, 0);
+        other.in[1].count = 0;
+        other.in[2] = (struct span){cut, 1, sizeof *cut};
+        expect_fault("a short object", &other, V7_SHORT_HEADER, 0);
+        other.option = V7_RELOCATABLE | V7_STRIP;
+        expect_fault("options", &other, V7_EXCLUDED, 0);
+    } else if (r->call == SESSION || r->call == STATE) {
+        other.in[1].count = 7;
+        expect_fault("forced names", &other, V7_CUT_NAMES, 0);
     }
+    refuse(0, 0);
 }
 
-static void exchange_spans(enum call kind, int count)
+/* Null pointers, where there are no bytes. The link of no objects has a header alone. */
+static void check_null(void)
 {
-    int i, j;
+    static unsigned char header_alone[16] = {W(0407)};
+    struct request r = {"null pointers", MAKE, 0, {{0}}, SIZED(header_alone)};
 
-    for (i = 0; i < count; i++)
-        for (j = i + 1; j < count; j++) {
-            struct request r = good[kind];
+    expect("parts", &r);
+    header_alone[14] = 1;
+    for (r.call = LINK; r.call <= SESSION; r.call++)
+        expect("a link", &r);
+    r.call = CHECK;
+    r.room[0] = r.out[0].unit = 0;
+    expect_fault("bytes", &r, V7_SHORT_HEADER, 0);
+    r.call = DISASSEMBLE_WORDS;
+    r.answer.size = 0;
+    expect("words", &r);
+}
 
-            r.in[i] = good[kind].in[j];
-            r.in[j] = good[kind].in[i];
-            differ(&r, i, j);
+/* ---- structs of each size, right before a page that may not be touched: what a struct lacks is not touched. A session has neither places
+ * nor a map */
+
+enum { ANSWERED = offsetof(struct v7_result, file) };
+
+static uint32_t link_by(struct v7_session *session, const void *request, struct v7_result *result)
+{
+    return session ? v7_session_link(session, request, result) : v7_run(request, result);
+}
+
+static void check_short_structs(const char *name, struct v7_session *session)
+{
+    static const size_t least[] = {offsetof(struct v7_result, finding_count), offsetof(struct v7_result, place_count), offsetof(struct v7_result, map),
+                                   sizeof(struct v7_result)};
+    struct v7_request request = {.size = sizeof request};
+    struct v7_result *result;
+    size_t size, there, want;
+
+    for (want = 0; want < 4; want++)
+        for (size = 0; size <= sizeof *result; size++) {
+            uint32_t fault = session && want >= 2 ? V7_NO_WANT : size < least[want] ? V7_SHORT_STRUCT : V7_NO_ROOM;
+
+            request.wants = 1u << want;
+            there = size < ANSWERED ? ANSWERED : (size + 7) / 8 * 8;
+            result = room_in(answering, there);
+            memset(result, 0, size < sizeof size ? sizeof size : size);
+            result->size = size;
+            is(link_by(session, input_in(asking, &request, sizeof request), result) == 2 && result->fault == fault && result->size == size &&
+                   (size < ANSWERED || memcmp((unsigned char *)result + size, filled, there - size) == 0),
+               name, "a result of each size");
         }
-}
-
-static void exchange_rooms(enum call kind, int count)
-{
-    int i, j;
-
-    for (i = 0; i < count; i++)
-        for (j = i + 1; j < count; j++) {
-            struct request r = good[kind];
-
-            r.room[i] = good[kind].room[j];
-            r.room[j] = good[kind].room[i];
-            differ(&r, i, j);
-        }
-}
-
-static void check_exchanged(void)
-{
-    exchange_spans(MAKE, 2);
-    exchange_spans(LINK, 2);
-    exchange_spans(FINDINGS, 2);
-    exchange_spans(SESSION, 2);
-    exchange_rooms(READ, 2);
-    exchange_rooms(TAKE_APART, 2);
-    exchange_rooms(LINK, 2);
-    exchange_rooms(SESSION, 2);
-}
-
-/* an object read as a file, also if its first relocation word is wrong */
-static void check_object_read(void)
-{
-    unsigned char bytes[sizeof more];
-    struct request r = good[READ];
-    struct wanted w = given[TAKE_APART];
-    struct v7_word wrong[3];
-
-    memcpy(bytes, more, sizeof more);
-    memcpy(wrong, text, sizeof text);
-    r.in[0] = (struct span){bytes, sizeof bytes};
-    w.header = (struct v7_header){0407, 6, 2, 4, 24, 0, 0, 0};
-    expect("an object", &r, &w);
-    bytes[24] = 016;
-    wrong[0].reloc = 016;
-    w.out[0].at = wrong;
-    expect("an object with a wrong relocation word", &r, &w);
-}
-
-void check_good(void)
-{
-    int kind;
-
-    for (kind = 0; kind < CALLS; kind++) {
-        expect("a good call", &good[kind], &given[kind]);
-        check_rooms((enum call)kind);
-        check_memory((enum call)kind);
+    for (size = sizeof size; size < sizeof request; size += sizeof size) {
+        request.size = size;
+        result = room_in(answering, sizeof *result);
+        result->size = sizeof *result;
+        is(link_by(session, input_in(asking, &request, size), result) == 2 && result->fault == V7_SHORT_STRUCT, name, "a request of each size");
     }
-    check_exchanged();
-    check_object_read();
 }
 
-int all_right(void)
+/* ---- a session: what a withdrawal leaves is what was there */
+
+static void check_session(void)
 {
-    printf("%u calls compared\n", compared);
-    return failures == 0;
+    struct v7_session session = {0}, other = {0};
+    struct v7_request request = {.size = sizeof request, .wants = V7_REPORT, .objects = both, .object_count = 1};
+    struct v7_result kept = {.size = sizeof kept}, left = {.size = sizeof left};
+    static unsigned char files[2][PAGE], shown[2][PAGE];
+    const char *name = "a session";
+
+    is(v7_session_add(&session, object, sizeof object, &answer) == 2 && answer.fault == V7_NO_SESSION, name, "an addition before it");
+    is(v7_session_withdraw(&session, &answer) == 2 && answer.fault == V7_NO_SESSION, name, "a withdrawal before it");
+    is(v7_session_state(&session, V7_LINES, NULL, 0, &answer) == 2 && answer.fault == V7_NO_SESSION, name, "a state before it");
+    is(v7_session_link(&session, &request, &kept) == 2 && kept.fault == V7_NO_SESSION, name, "a link before it");
+    is(v7_session_new(&session, NULL, 0, &answer) == 0 && session.is_open == 1, name, "its beginning");
+    is(v7_session_new(&session, NULL, 0, &answer) == 2 && answer.fault == V7_SESSION_OPEN, name, "a second beginning");
+    is(v7_session_withdraw(&session, &answer) == 2 && answer.fault == V7_NOTHING, name, "a withdrawal of nothing");
+    check_short_structs(name, &session);
+    v7_session_new(&other, NULL, 0, &answer);
+    v7_session_add(&other, more, sizeof more, &answer);
+    is(v7_session_add(&session, more, sizeof more, &answer) == 0, name, "an addition");
+    is(v7_session_add(&session, definition, sizeof definition, &answer) == 0, name, "a second addition");
+    is(v7_session_add(&session, object, 55, &answer) == 2 && answer.fault == V7_TRUNCATED && answer.place == 0, name, "an addition that is refused");
+    is(v7_session_withdraw(&session, &answer) == 0, name, "a withdrawal");
+    v7_session_state(&session, V7_JSON, shown[0], PAGE, &answer);
+    v7_session_state(&other, V7_JSON, shown[1], PAGE, &answer);
+    is(answer.fault == 0 && shown[0][0] == '{' && memcmp(shown[0], shown[1], PAGE) == 0, name, "the state after a withdrawal");
+    is(v7_session_state(&session, 2, shown[0], PAGE, &answer) == 2 && answer.fault == V7_NO_OPTION, name, "a form that there is not");
+    kept.file = kept.report = files[0];
+    left.file = left.report = files[1];
+    kept.file_room = left.file_room = PAGE / 2;
+    kept.report += PAGE / 2;
+    left.report += PAGE / 2;
+    kept.report_room = left.report_room = PAGE / 2;
+    is(v7_session_link(&session, &request, &kept) == v7_run(&request, &left) && kept.fault == 0 && kept.file_size == left.file_size &&
+           memcmp(files[0], files[1], PAGE) == 0,
+       name, "the link after a withdrawal");
+    is(v7_session_free(&session) == 0 && session.is_open == 0 && session.state == NULL && v7_session_free(&session) == 0, name, "its end");
+    v7_session_free(&other);
+    is(held == 0, name, "memory");
+}
+
+/* ---- a map: its sizes, its records in rooms that just hold them, and a room that is too small */
+
+static void check_map(void)
+{
+    struct v7_request request = {.size = sizeof request, .wants = V7_MAP, .forced = {(const unsigned char *)"_x\0\0\0\0\0\0", 8}, .objects = both, .object_count = 2};
+    struct v7_result result = {.size = sizeof result};
+    struct v7_map *map = &result.map;
+    const char *name = "a map";
+
+    is(v7_run(&request, &result) == 2 && result.fault == V7_NO_ROOM && map->object_count == 2 && map->name_count == 2 && map->use_count == 4 && map->limit_count == 6,
+       name, "its sizes");
+    result.file = room_in(rooms[0], result.file_room = result.file_size);
+    map->objects = room_in(rooms[1], (map->object_room = map->object_count) * sizeof *map->objects);
+    map->names = room_in(rooms[2], (map->name_room = map->name_count) * sizeof *map->names);
+    map->uses = room_in(rooms[3], (map->use_room = map->use_count) * sizeof *map->uses);
+    map->limits = room_in(rooms[4], (map->limit_room = map->limit_count) * sizeof *map->limits);
+    map->limit_room--;
+    is(v7_run(&request, &result) == 2 && result.fault == V7_NO_ROOM && memcmp(rooms[4], filled, PAGE) == 0 && memcmp(rooms[1], filled, PAGE) == 0, name, "a room too small");
+    map->limit_room++;
+    is(v7_run(&request, &result) == 1 && map->head.text_end == 10 && map->head.data_end == 12 && map->head.bss_end == 16 && map->head.magic == 0407, name, "its head");
+    is(map->objects[1].text == 6 && map->objects[0].bss_size == 4 && map->names[0].definer == 1 && map->names[0].value == 8 && map->names[0].user == 0 &&
+           map->names[1].state == V7_NAME_IS_PLACED + V7_NAME_IS_UNDEFINED && map->limits[0].kind == V7_LIMIT_TEXT && map->limits[0].used == 10,
+       name, "its records");
+    is(map->uses[0].kind == V7_WANTS && map->uses[1].kind == V7_TEXT_WORD && map->uses[1].address == 2 && memcmp(map->uses[1].label, "L1\0", 3) == 0 &&
+           map->uses[2].kind == V7_DEFINES && map->uses[3].kind == V7_FORCES && map->uses[3].object == SIZE_MAX,
+       name, "its uses");
+    is(held == 0, name, "memory");
+}
+
+int main(void)
+{
+    const struct request *r;
+
+    make_pages();
+    for (r = good; r < good + CALLS; r++) {
+        expect("a good call", r);
+        check_rooms(r);
+        check_memory(r);
+        check_without_memory(r);
+    }
+    check_null();
+    check_short_structs("v7_run", NULL);
+    check_session();
+    check_map();
+    is(v7_version() == V7_VERSION_NUMBER, "v7_version", "that of the header");
+    is(v7_most(5, 17) == 16 + 5 + 24 && v7_most(SIZE_MAX - 16, 7) == SIZE_MAX && v7_most(SIZE_MAX, 0) == SIZE_MAX && v7_most(0, SIZE_MAX) == SIZE_MAX, "v7_most", "sizes");
+    printf("%u comparisons, %u failed\n", compared, failures);
+    return failures != 0;
 }

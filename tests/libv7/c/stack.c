@@ -3,7 +3,6 @@
 #include <pthread.h>
 #include <stdio.h>
 #include <stdlib.h>
-#include <string.h>
 
 #include "v7.h"
 
@@ -14,43 +13,38 @@ static struct v7_symbol symbols[SYMBOLS];
 static struct v7_slice slices[COUNT];
 static struct v7_finding findings[SYMBOLS];
 static struct v7_finding_place places[SYMBOLS];
-static unsigned char *objects, *room, *more;
+static unsigned char objects[ROOM], room[ROOM], more[ROOM];
 static size_t objects_size, count;
+static struct v7_answer answer;
 static unsigned calls, results;
 
-static void called(uint32_t status, const struct v7_answer *answer)
+static void called(uint32_t status)
 {
     calls++;
     results += status != 2;
-    if (answer->fault == V7_NO_ROOM || answer->fault == V7_NO_MEMORY)
-        exit(3);
 }
 
-static struct v7_request asked(uint32_t options)
+static struct v7_result rooms(void)
 {
-    struct v7_request request = {sizeof request, options, V7_REPORT | V7_FINDINGS | V7_PLACES | V7_MAP, {0, 0}, {0, 0}, slices, count};
+    struct v7_result result = {.size = sizeof result, .file = room, .file_room = ROOM, .report = more, .report_room = ROOM,
+                               .findings = findings, .finding_room = SYMBOLS, .places = places, .place_room = SYMBOLS};
 
-    return request;
+    return result;
 }
 
 /* the link with its map, by two calls: for how many records there are, and for them */
 static void run(uint32_t options)
 {
-    struct v7_request request = asked(options);
-    struct v7_result result = {.size = sizeof result, .file = room, .file_room = ROOM, .report = more, .report_room = ROOM,
-                               .findings = findings, .finding_room = SYMBOLS, .places = places, .place_room = SYMBOLS};
+    struct v7_request request = {sizeof request, options, V7_REPORT | V7_FINDINGS | V7_PLACES | V7_MAP, {0, 0}, {0, 0}, slices, count};
+    struct v7_result result = rooms();
     struct v7_map *map = &result.map;
-    struct v7_answer answer = {0, 0, 0, 0, 0};
-    uint32_t status;
 
     v7_run(&request, &result);
     map->objects = malloc((map->object_room = map->object_count) * sizeof *map->objects);
     map->names = malloc((map->name_room = map->name_count) * sizeof *map->names);
     map->uses = malloc((map->use_room = map->use_count) * sizeof *map->uses);
     map->limits = malloc((map->limit_room = map->limit_count) * sizeof *map->limits);
-    status = v7_run(&request, &result);
-    answer.fault = result.fault;
-    called(status, &answer);
+    called(v7_run(&request, &result));
     free(map->objects);
     free(map->names);
     free(map->uses);
@@ -61,55 +55,44 @@ static void run(uint32_t options)
 static void keep(void)
 {
     struct v7_session session = {0, NULL};
-    struct v7_request request = asked(0);
-    struct v7_result result = {.size = sizeof result, .file = room, .file_room = ROOM, .report = more, .report_room = ROOM,
-                               .findings = findings, .finding_room = SYMBOLS};
-    struct v7_answer answer;
-    uint32_t status;
+    struct v7_request request = {.size = sizeof request, .wants = V7_REPORT | V7_FINDINGS};
+    struct v7_result result = rooms();
     size_t i;
 
-    called(v7_session_new(&session, NULL, 0, &answer), &answer);
+    called(v7_session_new(&session, NULL, 0, &answer));
     for (i = 0; i < count; i++)
         if (v7_session_add(&session, slices[i].bytes, slices[i].size, &answer) != 0)
             exit(3);
-    request.wants = V7_REPORT | V7_FINDINGS;
-    status = v7_session_link(&session, &request, &result);
-    answer.fault = result.fault;
-    called(status, &answer);
-    called(v7_session_state(&session, V7_LINES, room, ROOM, &answer), &answer);
-    called(v7_session_state(&session, V7_JSON, room, ROOM, &answer), &answer);
-    called(v7_session_withdraw(&session, &answer), &answer);
-    answer.fault = V7_NO_FAULT;
-    called(v7_session_free(&session), &answer);
+    called(v7_session_link(&session, &request, &result));
+    called(v7_session_state(&session, V7_LINES, room, ROOM, &answer));
+    called(v7_session_state(&session, V7_JSON, room, ROOM, &answer));
+    called(v7_session_withdraw(&session, &answer));
+    called(v7_session_free(&session));
 }
 
 static void *call_all(void *unused)
 {
-    struct v7_answer answer;
     struct v7_counts counts;
     struct v7_header header;
     uint32_t option;
 
-    called(v7_check(objects, objects_size, &answer), &answer);
-    called(v7_strip(objects, objects_size, room, ROOM, &answer), &answer);
-    called(v7_nm(V7_NM_BY_VALUE, objects, objects_size, room, ROOM, &answer), &answer);
-    called(v7_size(objects, objects_size, room, ROOM, &answer), &answer);
-    called(v7_disassemble(objects, objects_size, room, ROOM, &answer), &answer);
-    called(v7_list(objects, objects_size, more, ROOM, &answer), &answer);
-    called(v7_from_listing(more, answer.size, room, ROOM, &answer), &answer);
-    called(v7_from_gnu(0, objects, objects_size, room, ROOM, &answer), &answer);
-    /* all remarks are made, and then their sizes told */
-    if (v7_remarks(objects, objects_size, more, 0, NULL, 0, &answer) == 2 && answer.fault != V7_NO_ROOM)
-        exit(3);
-    calls++;
-    results++;
-    called(v7_disassemble_words(0, (const uint16_t *)objects, objects_size / 2, room, ROOM, &answer), &answer);
+    called(v7_check(objects, objects_size, &answer));
+    called(v7_strip(objects, objects_size, room, ROOM, &answer));
+    called(v7_nm(V7_NM_BY_VALUE, objects, objects_size, room, ROOM, &answer));
+    called(v7_size(objects, objects_size, room, ROOM, &answer));
+    called(v7_disassemble(objects, objects_size, room, ROOM, &answer));
+    called(v7_list(objects, objects_size, more, ROOM, &answer));
+    called(v7_from_listing(more, answer.size, room, ROOM, &answer));
+    called(v7_disassemble_words(0, (const uint16_t *)objects, objects_size / 2, room, ROOM, &answer));
     for (option = 0; option < 128; option = 2 * option + (option == 0))
         run(option);
     keep();
-    called(v7_read(objects, objects_size, &header, text, WORDS, data, WORDS, symbols, SYMBOLS, &counts, &answer), &answer);
-    called(v7_take_apart(objects, objects_size, text, WORDS, data, WORDS, symbols, SYMBOLS, &counts, &answer), &answer);
-    called(v7_make(text, counts.text, data, counts.data, counts.bss, symbols, counts.symbols, room, ROOM, &answer), &answer);
+    called(v7_read(objects, objects_size, &header, text, WORDS, data, WORDS, symbols, SYMBOLS, &counts, &answer));
+    called(v7_take_apart(objects, objects_size, text, WORDS, data, WORDS, symbols, SYMBOLS, &counts, &answer));
+    called(v7_make(text, counts.text, data, counts.data, counts.bss, symbols, counts.symbols, room, ROOM, &answer));
+    /* these two end with a fault: it is no object in GNU's form, and the remarks are made before there is no room for them */
+    v7_from_gnu(0, objects, objects_size, room, ROOM, &answer);
+    v7_remarks(objects, objects_size, more, 0, NULL, 0, &answer);
     return unused;
 }
 
@@ -126,7 +109,6 @@ static void call_in_thread(void)
 /* an object with so many words that refer to its symbols in turn, appended to the objects */
 static void append(size_t words, size_t names, unsigned number)
 {
-    struct v7_answer answer;
     size_t i;
 
     for (i = 0; i < words; i++) {
@@ -146,11 +128,6 @@ static void append(size_t words, size_t names, unsigned number)
 
 int main(void)
 {
-    objects = malloc(ROOM);
-    room = malloc(ROOM);
-    more = malloc(ROOM);
-    if (!objects || !room || !more)
-        return 2;
     count = 1;
     append(WORDS, SYMBOLS, 0);
     call_in_thread();
@@ -159,5 +136,5 @@ int main(void)
         append(150, 25, (unsigned)count);
     call_in_thread();
     printf("%u calls, %u with a result\n", calls, results);
-    return calls != 54 || results < 52;
+    return calls != 50 || results != calls;
 }
