@@ -15,6 +15,8 @@ import subprocess
 import sys
 import tempfile
 
+from tests.lib.files import read
+
 ENVIRONMENT = {"GLIBC_TUNABLES": "glibc.cpu.x86_rep_movsb_threshold=0x10000000:glibc.cpu.x86_rep_stosb_threshold=0x10000000"}
 
 
@@ -32,21 +34,14 @@ def valgrind(words, folder=None, script=""):
     return subprocess.run(["valgrind", *words], cwd=folder, input=script, env=environment, capture_output=True, text=True, check=False)
 
 
-def profiled(command, folder=None, script="", options=()):
-    """Runs a command under callgrind; the run, and the profile as text."""
-    with tempfile.TemporaryDirectory() as own:
-        path = f"{own}/counts"
-        run = valgrind(["--tool=callgrind", f"--callgrind-out-file={path}", *options, *command], folder, script)
-        if not os.path.exists(path):
-            sys.exit(f"valgrind does not run {command[0]}: {run.stderr}")
-        with open(path, encoding="utf-8") as file:
-            return run, file.read()
-
-
 def counted(command, folder=None, script=""):
     """Runs a command under callgrind; the run, and how many instructions it took."""
-    run, profile = profiled(command, folder, script)
-    return run, int(re.search(r"^summary: (\d+)", profile, re.M)[1])
+    with tempfile.TemporaryDirectory() as own:
+        path = f"{own}/counts"
+        run = valgrind(["--tool=callgrind", f"--callgrind-out-file={path}", *command], folder, script)
+        if not os.path.exists(path):
+            sys.exit(f"valgrind does not run {command[0]}: {run.stderr}")
+        return run, int(re.search(r"^summary: (\d+)", read(path), re.M)[1])
 
 
 def ended(command, folder=None):

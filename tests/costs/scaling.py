@@ -1,7 +1,5 @@
 """Counts by valgrind how the instructions of the programs grow with what they are given, and prints an exponent for each.
 
-The last line has what it takes to decode 65,534 bytes of text and to list them, the most that a file can have.
-
 A kind of work is done at four sizes, the largest at least 16 times the smallest. What the same command takes without that
 work, its start and the files before it, is subtracted. The exponent is the slope, by least squares, of the logarithm of the
 instructions over that of the size: 1.00 if twice as much takes twice as long, 2.00 if it takes four times as long.
@@ -13,18 +11,17 @@ usage: python3 -m tests.costs.scaling [KIND ..]
 import functools
 import math
 import os
-import re
 import sys
 import tempfile
 from concurrent.futures import ThreadPoolExecutor
 
-from tests.costs.counting import counted, is_installed, profiled
+from tests.costs.counting import counted, is_installed
 from tests.lib.files import write
-from tests.lib.objects import gnu_named, pack
+from tests.lib.objects import pack
 from tests.lib.programs import program
 
 MOST_SYMBOLS = 5461
-DEFINED, WANTED, LOCAL = 0o42, 0o40, 0o2
+DEFINED, WANTED = 0o42, 0o40
 PLAIN = [(7, 0)] * 100
 MOST_WORDS = 32767
 # of the hasher of names
@@ -34,17 +31,11 @@ CODE = [
     [0o016500, 4], [0o012746, 0o1000], [0o004767, 0o2000], [0o005726], [0o005700], [0o001403], [0o060401], [0o016567, 6, 0o300],
     [0o110211], [0o000766], [0o020027, 0o177], [0o103402], [0o005204], [0o072027, 2], [0o000207], [0o010446],
 ]
-DECODE = "instructions::line::decode"
 
 
 def names(first, count, kind=DEFINED):
     """So many symbols with names of their own."""
     return [(f"n{number:05d}", kind, 0) for number in range(first, first + count)]
-
-
-def long_names(first, count, kind=DEFINED):
-    """The same with names that are cut at eight bytes."""
-    return [(f"{name}_long", kind, value) for name, kind, value in names(first, count, kind)]
 
 
 @functools.cache
@@ -74,18 +65,12 @@ class Work:
     """What a command does, in a folder of its own."""
 
     def __init__(self, programs, folder):
-        self.v7, self.explain, self.from_gnu, self.to_object, self.lesson = programs
+        self.v7, self.explain, self.lesson = programs
         self.folder = folder
 
     def object(self, name, words=(), symbols=()):
         """Writes an object: its text, each word with its relocation word, and its symbols, each with type word and value."""
         write(f"{self.folder}/{name}", pack(words, symbols=[(symbol.encode(), kind, value) for symbol, kind, value in symbols]))
-        return name
-
-    def gnu_object(self, name, words, symbols):
-        """Writes an object in GNU's form with the same."""
-        rows = [(symbol.encode(), kind, value) for symbol, kind, value in symbols]
-        write(f"{self.folder}/{name}", gnu_named([word for word, _ in words], [reloc for _, reloc in words], rows))
         return name
 
     def of_names(self, count, most):
@@ -95,10 +80,6 @@ class Work:
     def of_words(self, count):
         """One object more, each of 100 words and 10 names."""
         return [self.object(f"o{number}.o", PLAIN, names(10 * number, 10)) for number in range(count + 1)]
-
-    def convert(self, *files, options=("-q",)):
-        os.mkdir(f"{self.folder}/converted")
-        return [self.from_gnu, *options, "-o", "converted", *files], ""
 
     def link(self, *files):
         return [self.v7, "ld", "-s", "-o", "out", *files], ""
@@ -135,13 +116,6 @@ class Work:
         path = self.object("added.o", [reference(0), (2, 2)], names(0, 1, WANTED))
         return self.session([f"add {path}", "withdraw"] * size)
 
-    def refused(self, size):
-        """Adds an object with so many new names to a session of 65,532 names, which refuses it."""
-        lines = [f"add {file}" for file in self.of_names(12 * MOST_SYMBOLS, MOST_SYMBOLS)]
-        if size > 0:
-            lines.append(f"add {self.object('refused.o', [], names(70000, size))}")
-        return self.session(lines)
-
     def nm(self, size):
         """Lists so many symbols by name."""
         return [self.v7, "nm", self.object("table.o", [], names(0, size)[::-1])], ""
@@ -155,19 +129,6 @@ class Work:
         """Lists so many words of instructions."""
         return [self.explain, self.object("text.o", text(size))], ""
 
-    def inventory(self, size):
-        """Says in a line what a file of so many words of instructions is."""
-        return [self.explain, "-l", self.object("text.o", text(size))], ""
-
-    def rows(self, size):
-        """Shows so many words in rows."""
-        return [self.explain, "-s", self.object("text.o", text(size))], ""
-
-    def labels(self, size):
-        """Lists so many labels with six words of instructions each."""
-        symbols = [(name, kind, 12 * number) for number, (name, kind, _) in enumerate(names(0, size))]
-        return [self.explain, self.object("labels.o", text(6 * size), symbols)], ""
-
     def maps(self, size):
         """Maps the link of so many objects of 100 words and 10 names."""
         return [self.explain, "-m", *self.of_words(size)], ""
@@ -180,47 +141,9 @@ class Work:
         symbols = [(name, *((WANTED, 0) if number % 2 else (DEFINED, 2 * number))) for number, (name, _, _) in enumerate(names(0, size))]
         return [self.explain, "-m", self.object("mapped.o", words, symbols)], ""
 
-    def converted(self, size):
-        """Converts so many objects in GNU's form, of 100 words and 10 names, each of which refers to a name of the one before."""
-        files = []
-        for number in range(size + 1):
-            symbols = [*long_names(10 * number, 10), *long_names(10 * max(number - 1, 0), 1, WANTED)]
-            files.append(self.gnu_object(f"o{number}.o", [*PLAIN[1:], reference(10)], symbols))
-        return self.convert(*files)
-
-    def symbols(self, size, options=("-q",)):
-        """Converts an object in GNU's form of so many symbols, each second one a local, and three words for each. A word refers to
-        one of the others, of the first 4,096 symbols."""
-        rows = [(name, *((LOCAL, 2 * number) if number % 2 else (WANTED, 0))) for number, (name, _, _) in enumerate(long_names(0, size))]
-        most = min(size, 4096) // 2
-        words = [reference(2 * (7 * number % most)) for number in range(3 * size)]
-        return self.convert(self.gnu_object("symbols.o", words, rows), options=options)
-
-    def locals(self, size):
-        """The same with -X, which keeps a local only if a word refers to it, and with what there is to say of names."""
-        return self.symbols(size, ("-X",))
-
-    def nested(self, size):
-        """Says what the file in the innermost of folders one in another is. Their paths have so many bytes in all."""
-        path = "folder"
-        os.mkdir(f"{self.folder}/{path}")
-        for _ in range(math.isqrt(size)):
-            path += "/f"
-            os.mkdir(f"{self.folder}/{path}")
-        self.object(f"{path}/in.o", PLAIN)
-        return [self.explain, "-l", "-R", "folder"], ""
-
     def steps(self, size):
         """Shows what each step of a lesson changes, with so many objects of 100 words and 10 names."""
         return [self.lesson, "-c", *self.of_words(size)], ""
-
-    def read_back(self, size):
-        """Makes an object of the listing of so many words, each of which refers to a name of its own, up to 4,096."""
-        wanted = names(0, min(size, 4096), WANTED)
-        words = [f"{2 * number:o} 0 {reference(number % 4096)[1]:o}" for number in range(size)]
-        symbols = [f"{number:o} {name} {kind:o} 0" for number, (name, kind, _) in enumerate(wanted)]
-        write(f"{self.folder}/listing", "\n".join(["text", *words, "symbols", *symbols, ""]))
-        return [self.to_object, "listing", "read.o"], ""
 
 
 KINDS = {
@@ -230,24 +153,15 @@ KINDS = {
     "references": [2000, 8000, 16000, 32000],
     "chains": [2000, 8000, 16000, 32000],
     "scripts": [200, 800, 1600, 3200],
-    "refused": [341, 1365, 2730, 5456],
     "nm": [341, 1365, 2730, 5456],
     "listings": [512, 2048, 4096, 8192],
     "texts": [2047, 8191, 16383, MOST_WORDS],
-    "inventory": [2047, 8191, 16383, MOST_WORDS],
-    "rows": [2047, 8191, 16383, MOST_WORDS],
-    "labels": [341, 1365, 2730, MOST_SYMBOLS],
     "maps": [20, 80, 160, 320],
     "mapped": [341, 1365, 2730, MOST_SYMBOLS],
-    "converted": [20, 80, 160, 320],
-    "symbols": [341, 1365, 2730, MOST_SYMBOLS],
-    "locals": [341, 1365, 2730, MOST_SYMBOLS],
-    "nested": [16384, 65536, 131072, 262144],
     "steps": [3, 12, 24, 48],
-    "read_back": [512, 2048, 8192, MOST_WORDS],
 }
-# their status is 1: an addition is refused, or names stay undefined
-REPORTS = ("refused", "mapped")
+# its status is 1, as names stay undefined
+REPORTS = ("mapped",)
 
 
 def count(programs, kind, size):
@@ -258,18 +172,6 @@ def count(programs, kind, size):
         if run.returncode != (1 if kind in REPORTS and size > 0 else 0):
             sys.exit(f"{kind} of size {size} ended with status {run.returncode}: {run.stderr}")
         return instructions
-
-
-def decoding(programs):
-    """How many instructions it takes to decode the longest text once, by what each call of `decode` takes; None without such calls."""
-    with tempfile.TemporaryDirectory() as folder:
-        path = Work(programs, folder).object("text.o", text(MOST_WORDS))
-        run, profile = profiled([programs[1], "-d", path], folder, options=["--compress-strings=no"])
-        calls = re.findall(rf"^cfn={DECODE}\ncalls=(\d+).*\n\S+ (\d+)$", profile, re.M)
-    # a line without a slash in front is a line of the text
-    lines = sum(not line.startswith("/") for line in run.stdout.splitlines())
-    made, cost = (sum(int(it[at]) for it in calls) for at in (0, 1))
-    return cost * lines // made if made else None
 
 
 def slope(points):
@@ -289,14 +191,11 @@ def line(programs, kind):
 def main(*kinds):
     if not is_installed():
         return
-    programs = [program(name) for name in ("v7", "v7-explain", "v7-from-gnu", "v7-object", "v7-lesson")]
+    programs = [program(name) for name in ("v7", "v7-explain", "v7-lesson")]
     print("how instructions grow: the exponent, and the instructions at four sizes")
     with ThreadPoolExecutor(os.cpu_count()) as pool:
         for row in pool.map(lambda kind: line(programs, kind), kinds or KINDS):
             print(row, flush=True)
-    if not kinds:
-        listed = count(programs, "texts", MOST_WORDS) - count(programs, "texts", 0)
-        print(f"{2 * MOST_WORDS:,} bytes of text: {decoding(programs) or 'unknown'} instructions to decode, {listed:,} to list")
 
 
 if __name__ == "__main__":

@@ -8,8 +8,6 @@ from tests.lib.files import read
 # the head of a function: what is before it, whether it is public, and its name
 FUNCTION = re.compile(r'^( *)(pub(?:\(\w+\))? )?(?:const |unsafe |extern "C" )*fn (\w+)', re.M)
 CLAUSE = re.compile(r"\s*(?:ensures|requires|invariant)\b")
-# what a source gives a name: an item, or a clause
-NAMED = re.compile(r"\b(?:fn|struct|enum|trait|type|mod|const|static) ([A-Za-z_]\w*)|\b(?:ensures|requires|invariant) (\w+) \{")
 TEXT = re.compile(r'"(?:\\.|[^"\\])*"|\'(?:\\.[^\']*|[^\'\\])\'')
 # a definition: what says of which kind it is, its name, and what follows; and a constructor or a field
 STATED = re.compile(r"^((?:(?:abbrev|unfoldable|record|data|def|rec|pub) +)*)([^\s({:]+)(.*)$")

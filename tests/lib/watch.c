@@ -8,7 +8,6 @@
  * stdout and stderr.
  */
 #define _GNU_SOURCE
-#include <dlfcn.h>
 #include <errno.h>
 #include <fcntl.h>
 #include <stdarg.h>
@@ -31,9 +30,8 @@ struct file {
 static struct file files[FILES] = {{.name = "stdin"}, {.name = "stdout"}, {.name = "stderr"}};
 static const char *plan = "";
 static int list = -1;
-/* the requests for memory so far; and the library whose requests alone count, if it is not null */
+/* the requests for memory so far */
 static size_t requests;
-static const void *library;
 
 static void say(const char *text, size_t size)
 {
@@ -101,13 +99,6 @@ static int ask(const char *word, const char *name)
     return is_refused;
 }
 
-/* the base of the file that a place of the code is in */
-static const void *base_of(const void *place)
-{
-    Dl_info found;
-    return dladdr(place, &found) ? found.dli_fbase : NULL;
-}
-
 /* the number that digits begin with */
 static size_t number_at(const char *digits)
 {
@@ -117,11 +108,11 @@ static size_t number_at(const char *digits)
     return number;
 }
 
-/* counts a request for memory, by the code at a place: whether it is refused */
-static int asks_memory(const void *place)
+/* counts a request for memory: whether it is refused */
+static int asks_memory(void)
 {
     char request[32];
-    if (library ? base_of(place) != library : list < 0)
+    if (list < 0)
         return 0;
     snprintf(request, sizeof request, "memory %zu", ++requests);
     const char *digits = planned("refuse", "memory");
@@ -134,33 +125,23 @@ static int asks_memory(const void *place)
     return is_refused;
 }
 
-/* From here on another plan counts, for the requests for memory by the library that a place is in: how many it made before. */
-size_t watch_library(const void *place, const char *text)
-{
-    size_t made = requests;
-    library = base_of(place);
-    plan = text;
-    requests = 0;
-    return made;
-}
-
 void *__libc_malloc(size_t);
 void *__libc_calloc(size_t, size_t);
 void *__libc_realloc(void *, size_t);
 
 void *malloc(size_t size)
 {
-    return asks_memory(__builtin_return_address(0)) ? NULL : __libc_malloc(size);
+    return asks_memory() ? NULL : __libc_malloc(size);
 }
 
 void *calloc(size_t count, size_t size)
 {
-    return asks_memory(__builtin_return_address(0)) ? NULL : __libc_calloc(count, size);
+    return asks_memory() ? NULL : __libc_calloc(count, size);
 }
 
 void *realloc(void *old, size_t size)
 {
-    return asks_memory(__builtin_return_address(0)) ? NULL : __libc_realloc(old, size);
+    return asks_memory() ? NULL : __libc_realloc(old, size);
 }
 
 /* of so many bytes, how many may be moved after those that were */

@@ -25,7 +25,7 @@ def compiled():
         folder = tempfile.mkdtemp()
         atexit.register(shutil.rmtree, folder)
         path = os.path.join(folder, "watch.so")
-        words = [os.environ.get("CC") or "cc", "-O1", "-shared", "-fPIC", "-o", path, SOURCE, "-ldl"]
+        words = [os.environ.get("CC") or "cc", "-O1", "-shared", "-fPIC", "-o", path, SOURCE]
         try:
             ran = subprocess.run(words, stdout=subprocess.PIPE, stderr=subprocess.STDOUT, check=False)
         except OSError as error:

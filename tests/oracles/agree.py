@@ -1,18 +1,17 @@
 """Compares v7, and libv7, with the second linker, tests/oracles/model.py, on random files.
 
-usage: python3 -m tests.oracles.agree [LINKS SESSIONS DAMAGED]
-       python3 -m tests.oracles.agree -l LINKS SESSIONS MAPS
+usage: python3 -m tests.oracles.agree [KIND NUMBER]       all cases, or one, as `link 17`, which leaves its files in build/differs
+       python3 -m tests.oracles.agree -l LINKS SESSIONS
 tier: check, 60 seconds; programs: v7; for: crates/aout_core crates/link_session crates/link_out crates/symtools crates/command_words crates/v7tools docs/LINK.md
-tier: check, 30 seconds; programs: libv7.so; words: -l 500 1000 500; for: crates/library_calls crates/link_maps crates/v7_c
+tier: check, 20 seconds; programs: libv7.so; words: -l 500 1000; for: crates/library_calls crates/v7_c
 
 A case is some files and some commands, which both run in a folder of their own. After each
 command the status, standard output, standard error and every byte of every file are compared.
-The number of a case gives its files and commands, so each run is the same. At the first
-difference the files are kept under build/differs, and the command is printed.
+The number of a case gives its files and commands, so each run is the same.
 
 With -l it compares what libv7 gives. For a link that is the status, every byte of the file, and the report as lines, as a list, and as a
 list with objects, or the fault, its object and its word. For a session it is also what each edit gives and the names that are shown.
-Maps of links, some of them over a limit, are compared with tests/oracles/map_model.py, record by record.
+map.py compares maps.
 """
 import io
 import multiprocessing
@@ -22,18 +21,16 @@ import re
 import shlex
 import shutil
 import struct
-import subprocess
 import sys
-import tempfile
 from collections import Counter
 from dataclasses import dataclass
-from itertools import zip_longest
-from pathlib import Path
 
-from tests.lib.compare import notices, same
+from tests.lib.compare import Differs, notices, same
+from tests.lib.files import TOP, read_bytes, room, write
 from tests.lib.objects import pack
-from tests.lib.programs import program, v7 as library
-from tests.oracles import map_model, model
+from tests.lib.programs import program, ran
+from tests.lib.programs import v7 as library
+from tests.oracles import model
 
 RESERVED = [b'_etext', b'_edata', b'_end']
 NAMES = RESERVED + [b'_main', b'_a', b'_b', b'_c', b'_d', b'_longname', b'_longname2', b'L1',
@@ -42,15 +39,14 @@ MENTION, ABSOLUTE, TEXT, DATA, BSS, EXTERNAL = 0, 1, 2, 3, 4, 0o40
 KINDS = (0, 0, 0, 2, 4, 6)
 NUMBERS = (0, 1, 2, 5, 0o20000, 0o77776, 0o100000, 0o177776, 0o177777)
 
-TIME_LIMIT = 100
-
-# What has to occur at least once in a whole run; it is printed how many cases have it.
+COUNTS = {'link': 2000, 'session': 500, 'damaged': 500}
+# What has to occur at least once in a whole run
 LOADS = ['cannot open', 'read error', 'short header', 'bad magic number', 'odd size', 'truncated']
 OBJECTS = ['not an object', 'no relocation', 'bad relocation at word N', 'bad symbol number at word N']
-LIMITS = ['text full', 'data full', 'bss full', 'names full', 'does not fit', 'too many symbols', 'symbol number too large']
+LIMITS = ['text full', 'data full', 'bss full', 'does not fit', 'too many symbols', 'symbol number too large']
 REPORTS = ['Multiply defined', 'Entry point not in text', 'Undefined:']
 ANSWERS = ['added', 'withdrew', 'linked 0', 'linked 1', 'bad command', 'nothing to withdraw',
-           'cannot create', 'write error', 'line too long', 'too many lines', 'usage']
+           'cannot create', 'write error', 'line too long', 'usage']
 EXPECTED = {
     'link': [*REPORTS, *LOADS, *OBJECTS, *LIMITS, 'usage', 'cannot create', 'write error'],
     'session': [*ANSWERS, *REPORTS, *LOADS, *OBJECTS, *LIMITS],
@@ -212,8 +208,6 @@ def nm_options(rng):
 def link_case(rng, number):
     if number % 8 == 0:
         return limit_case(rng, number // 8)
-    if number % 100 == 50:
-        return usage_case(rng)
     names = rng.sample(NAMES, rng.choice([2, 3, 5, 8]))
     files = {f'{place}.o': object_of(rng, names) for place in range(rng.choice([1, 2, 2, 3, 3, 4, 5]))}
     paths = list(files)
@@ -240,20 +234,6 @@ def link_case(rng, number):
     return Case(files, [(command, b'') for command in commands])
 
 
-def usage_case(rng):
-    """Arguments that are not a command, or nearly one."""
-    commands = [[], [''], ['foo'], ['LD', '0.o'], ['-s', 'ld', '0.o'], ['ld'], ['ld', '-s'],
-                ['strip'], ['strip', '-s', '0.o'], ['size', '-g', '0.o'], ['nm', '-s', '0.o'],
-                ['nm', '-g-', '0.o'], ['nm', '-gnopru', '0.o', '0.o'], ['nm', '--', '-g'],
-                ['nm', '0.o', '--', '0.o'], ['nm', '-g', '--', '--'], ['size', '-'],
-                ['size', '', '0.o'], ['ld', '-o'], ['ld', '0.o', '-o'], ['ld', '0.o', '-e'],
-                ['ld', '-o', '-', '0.o'], ['size', b'\xff'], ['ld', '0.o', '-o', '--', 'out'],
-                ['ld', '-so', 'out', '0.o'], ['session', '0.o'], ['session', '-o', 'out'],
-                ['ld', '-os', '0.o'], ['ld', '-o=', '0.o'], ['strip', '--']]
-    commands = [*rng.sample(commands, 6), *rng.sample(commands, 6)]
-    return Case({'0.o': object_of(rng, NAMES[:5])}, [(command, b'') for command in commands])
-
-
 def bad_file_of(rng, names):
     """A file that is often no object."""
     return rng.choice([bad_object_of, program_of, damaged_object])(rng, names)
@@ -278,8 +258,7 @@ def near(rng, number):
 
 def limit_case(rng, number):
     """Objects that come near a limit, or pass one or two."""
-    make = [full_case, fit_case, fit_case, symbols_case, numbers_case][number % 5]
-    objects, options = names_case(rng, number // 40) if number % 40 == 3 else make(rng)
+    objects, options = [full_case, fit_case, fit_case, symbols_case, numbers_case][number % 5](rng)
     files = {f'{place}.o': contents for place, contents in enumerate(objects)}
     if rng.random() < 0.15:
         files[f'{len(files)}.o'] = rng.choice([b'short', bad_file_of(rng, NAMES)])
@@ -337,24 +316,7 @@ def numbers_case(rng):
     return objects, [rng.choice(['-r', '-r', '-rd', '-rx', '-rX'])]
 
 
-def names_case(rng, number):
-    """65,532 names of twelve objects, and two to four more; from number 3 on bss is full too."""
-    objects = [pack(symbols=many(b'_%x.' % place, 5461)) for place in range(12)]
-    more = 2 + number % 3
-    forced = [f'-u_f{number}' for number in range(rng.randrange(more))]
-    objects.append(pack(bss=2, symbols=many(b'_0.', 10) + many(b'_y', more - len(forced))))
-    return [pack(bss=0xfffe if number > 2 else 0), *objects], ['-s', *forced]
-
-
-def session_case(rng, number):
-    if number in (300, 301, 302):
-        script = b'x\n' * (999699 + number) + b'x' * (4097 if number == 301 else 1)
-        return Case({}, [(['session'], script)])
-    if number == 200:
-        files = {f'{place}.o': contents for place, contents in enumerate(names_case(rng, 0)[0])}
-        files['last.o'] = pack(symbols=many(b'_z', 10))
-        lines = [*(f'add {path}' for path in files), 'withdraw', 'add last.o', 'link out']
-        return Case(files, [(['session', '-s'], '\n'.join(lines).encode())])
+def session_case(rng, _number):
     names = rng.sample(NAMES, rng.choice([3, 5, 8]))
     files = {f'{place}.o': object_of(rng, names) for place in range(rng.randint(2, 6))}
     good = list(files)
@@ -423,59 +385,8 @@ def case_of(kind, number):
 
 # Comparison
 
-def contents(folder):
-    return {path.name: None if path.is_dir() else path.read_bytes() for path in folder.iterdir()}
-
-
-def fill(folder, files):
-    folder.mkdir(parents=True)
-    for name, data in files.items():
-        if data is None:
-            (folder / name).mkdir()
-        else:
-            (folder / name).write_bytes(data)
-
-
-def run_v7(v7, folder, arguments, script):
-    try:
-        done = subprocess.run([v7, *arguments], cwd=folder, input=script, capture_output=True, timeout=TIME_LIMIT)
-    except subprocess.TimeoutExpired:
-        return f'no end in {TIME_LIMIT} seconds', b'', b''
-    return done.returncode, done.stdout, done.stderr
-
-
-def run_model(folder, arguments, script):
-    os.chdir(folder)
-    try:
-        return model.run(arguments, io.BytesIO(script))
-    except Exception as failure:        # the model itself is wrong: this differs from any status
-        return repr(failure), b'', b''
-
-
-def differences(results, folders):
-    """What differs, as lines."""
-    lines = []
-    if results[0][0] != results[1][0]:
-        lines.append(f'status: v7 {results[0][0]}, model {results[1][0]}')
-    for name, *written in zip(('standard output', 'standard error'), *(r[1:] for r in results)):
-        pairs = zip_longest(*(text.split(b'\n') for text in written))
-        for number, (ours, theirs) in enumerate(pairs, 1):
-            if ours != theirs:
-                lines.append(f'{name}, line {number}: v7 {ours}, model {theirs}')
-                break
-    for name in sorted({**folders[0], **folders[1]}):
-        ours, theirs = (folder.get(name, 'not there') for folder in folders)
-        if isinstance(ours, bytes) and isinstance(theirs, bytes) and ours != theirs:
-            same = len(os.path.commonprefix([ours, theirs]))
-            lines.append(f'file {name}: {len(ours)} and {len(theirs)} bytes, {same} equal')
-        elif ours != theirs:
-            lines.append(f'file {name}: v7 and model do not both have it')
-    return lines
-
-
-def texts_of(tool, result):
+def texts_of(tool, output, error):
     """The texts of EXPECTED that a command wrote."""
-    _, output, error = result
     for line in (error + (output if tool in ('ld', 'session') else b'')).splitlines():
         line = re.sub(r'word \d+$', 'word N', line.decode(errors='replace'))
         answer = re.match(r'(added|withdrew|linked) .*?( [01])?$', line)
@@ -485,56 +396,50 @@ def texts_of(tool, result):
             yield line.rpartition(': ')[2]
 
 
-def compare(v7, case, root=None):
-    """The statuses and texts of the case; and what differs: lines, command, files before."""
-    statuses, texts = Counter(), set()
-    with tempfile.TemporaryDirectory(dir=root) as parent:
-        folders = [Path(parent, 'v7'), Path(parent, 'model')]
-        for folder in folders:
-            fill(folder, case.files)
-        before = case.files
-        for arguments, script in case.commands:
-            results = [run_v7(v7, folders[0], arguments, script), run_model(folders[1], arguments, script)]
-            after = [contents(folder) for folder in folders]
-            lines = differences(results, after)
-            if lines:
-                return statuses, texts, (lines, arguments, script, before, *after)
-            statuses[results[0][0]] += 1
-            texts.update(texts_of(arguments[0] if arguments else '', results[0]))
-            before = after[0]
-        os.chdir('/')
-    return statuses, texts, None
+def contents(folder):
+    return {name: read_bytes(f'{folder}/{name}') if os.path.isfile(f'{folder}/{name}') else None for name in sorted(os.listdir(folder))}
 
 
-def planted(v7):
+def compare(case, top):
+    """Plays a case by v7 and by the model, each in its folder below this one. The texts of EXPECTED that come."""
+    folders, texts = (f'{top}/v7', f'{top}/model'), set()
+    for folder in folders:
+        os.makedirs(folder)
+        for name, data in case.files.items():
+            os.mkdir(f'{folder}/{name}') if data is None else write(f'{folder}/{name}', data)
+    for words, script in case.commands:
+        done = ran(program('v7'), *words, given=script, seconds=100, cwd=folders[0])
+        os.chdir(folders[1])
+        status, out, err = model.run(words, io.BytesIO(script))
+        what = shlex.join(map(os.fsdecode, words))
+        same(f'{what}: status and errors', (done.status, done.err), (status, err))
+        same(f'{what}: output', done.out.split(b'\n'), out.split(b'\n'))
+        files, wanted = map(contents, folders)
+        same(f'{what}: files', [*files], [*wanted])
+        for name, data in files.items():
+            same(f'{what}: {name}', data, wanted[name])
+        texts.update(texts_of(words[0], done.out, done.err))
+    return texts
+
+
+def planted():
     """The model's answers have a byte more."""
     asked = model.run
     model.run = lambda words, script: (lambda status, out, err: (status, out + b".", err))(*asked(words, script))
     try:
-        same('planted', compare(v7, case_of('link', 0))[2], None)
+        with room() as folder:
+            compare(case_of('link', 0), folder)
     finally:
         model.run = asked
 
 
 def work(job):
-    v7, root, kind, number = job
-    return (kind, number), compare(v7, case_of(kind, number), root)
-
-
-def show(v7, kind, number, difference):
-    """Keeps the files, and prints the command and what differs."""
-    lines, arguments, script, before, *after = difference
-    kept = Path('build/differs', f'{kind}-{number}')
-    shutil.rmtree(kept, ignore_errors=True)
-    for name, files in zip(('before', 'again', 'v7', 'model'), (before, before, *after)):
-        fill(kept / name, files)
-    (kept / 'script').write_bytes(script)
-    words = [os.path.relpath(v7, kept / 'again'), *map(os.fsdecode, arguments)]
-    print(f'{kind} {number} differs:')
-    print(f'    cd {kept}/again &&', ' '.join(map(shlex.quote, words)), '<../script')
-    print(f'The files before this are in {kept}/before, and those after it in v7 and model there:')
-    for line in lines:
-        print(f'    {line}')
+    """The texts of a case, or what differs."""
+    with room() as folder:
+        try:
+            return job, compare(case_of(*job), folder), None
+        except Differs as difference:
+            return job, set(), difference
 
 
 # libv7
@@ -561,51 +466,41 @@ def text(data):
     return data.decode("latin-1")
 
 
-class Placed:
+def placed(merged, link):
     """The findings of a link with their objects, by the model."""
-
-    def __init__(self, merged, link):
-        self.symbols = [(place, symbol) for place, file in enumerate(merged.objects) for symbol in file.symbols if symbol.type & model.EXTERNAL]
-        externals = merged.externals
-        reserved = [name for name in model.RESERVED if name in externals and not externals[name].is_undefined]
-        entry = [] if link.entry is None or link.has_entry else [link.entry]
-        undefined = [] if "r" in link.letters else merged.undefined()
-        self.rows = [self.row(name, library.MULTIPLY_DEFINED, place) for name, place in zip(merged.multiples, merged.further)]
-        for kind, names in ((library.RESERVED_NAME, reserved), (library.ENTRY_NOT_IN_TEXT, entry), (library.UNDEFINED_NAME, undefined)):
-            self.rows += [self.row(name, kind, None) for name in names]
-
-    def row(self, name, kind, further):
-        uses = [(place, symbol) for place, symbol in self.symbols if symbol.name == name]
-        definitions = [place for place, symbol in uses if symbol.kind != model.UNDEFINED]
-        first = [*definitions, *(place for place, _ in uses), None][0]
-        return library.Finding(text(name), kind, first, further)
+    mentions, definitions, externals = {}, {}, merged.externals
+    for place, file in enumerate(merged.objects):
+        for symbol in file.symbols:
+            if symbol.type & model.EXTERNAL:
+                mentions.setdefault(symbol.name, place)
+                if symbol.kind != model.UNDEFINED:
+                    definitions.setdefault(symbol.name, place)
+    rows = [(name, library.MULTIPLY_DEFINED, place) for name, place in zip(merged.multiples, merged.further)]
+    rows += [(name, library.RESERVED_NAME, None) for name in model.RESERVED if name in externals and not externals[name].is_undefined]
+    rows += [] if link.entry is None or link.has_entry else [(link.entry, library.ENTRY_NOT_IN_TEXT, None)]
+    rows += [] if "r" in link.letters else [(name, library.UNDEFINED_NAME, None) for name in merged.undefined()]
+    return [library.Finding(text(name), kind, definitions.get(name, mentions.get(name)), further) for name, kind, further in rows]
 
 
-def linked(merged, arguments):
-    """What the model gives for objects that are read: the status, the file and the report; and the findings with their objects."""
-    link = model.Link(merged, arguments)
-    report = text(b"".join(line + b"\n" for line in link.report))
-    return (1 if link.report else 0, model.write_file(link.file), report), Placed(merged, link).rows
-
-
-def by_all_calls(given):
-    """What the three calls of a link have to give: lines, names, and names with objects; or why there is no link."""
-    lines, placed = given
-    return [lines, lines, placed]
-
-
-def by_model(objects, arguments):
-    """What each call has to give for a link."""
-    merged = model.Merged([], arguments.forced)
+def merged_of(objects, forced):
+    """Objects as the model merges them; or why one is refused, and its number."""
+    merged = model.Merged([], forced)
     for place, data in enumerate(objects):
         try:
-            merged = model.Merged([*merged.objects, model.read_object(data)], merged.forced)
+            merged.append(model.read_object(data))
         except model.Refused as refused:
-            return [(str(refused), place)] * 3
+            return None, (str(refused), place)
+    return merged, None
+
+
+def by_model(merged, arguments):
+    """What three calls have to give for a link: the status, the file and the report's lines, the same, and its names with their objects."""
     try:
-        return by_all_calls(linked(merged, arguments))
+        link = model.Link(merged, arguments)
     except model.Refused as refused:
         return [(str(refused), 0)] * 3
+    lines = 1 if link.report else 0, model.write_file(link.file), text(b"".join(line + b"\n" for line in link.report))
+    return [lines, lines, placed(merged, link)]
 
 
 def fault_of(fault):
@@ -645,14 +540,13 @@ def each_call(*calls):
     return given
 
 
-def by_library(objects, arguments):
-    """What the library gives for a link, by the call that gives the report's lines, by the one that gives its names, and by the one that
-    gives the names with their objects."""
-    asked, options = asked_of(arguments), options_of(arguments)
+def by_library(by, *given, **asked):
+    """What the library, or a session of it, gives for a link, by the calls that give the report as lines, as names, and as names with their
+    objects."""
     return each_call(
-        lambda: tuple(library.link(objects, options, **asked)),
-        lambda: found_lines(library.link_findings(objects, options, **asked)),
-        lambda: library.link_places(objects, options, **asked),
+        lambda: by.link(*given, **asked),
+        lambda: found_lines(by.link_findings(*given, **asked)),
+        lambda: by.link_places(*given, **asked),
     )
 
 
@@ -664,53 +558,29 @@ def given_of(kind, number):
 
 
 def library_link(number):
-    """What model and library give for a link, the library by three calls."""
+    """What model and library give for a link."""
     _, _, arguments, objects = given_of("link", number)
-    return by_model(objects, arguments), by_library(objects, arguments)
+    merged, refused = merged_of(objects, arguments.forced)
+    return [refused] * 3 if refused else by_model(merged, arguments), by_library(library, objects, options_of(arguments), **asked_of(arguments))
 
 
-def library_map(number):
-    """What model and library give for the map of a link."""
-    _, _, arguments, objects = given_of("link", number)
-    # one of these does not fit, and two of them pass the limit of bss
-    objects += [library.make(text=[(0, library.NUMBER)] * 13000, bss=40000)] * max(0, number % 5 - 2)
-    try:
-        came = library.link_map(objects, options_of(arguments), **asked_of(arguments))
-    except library.Fault as fault:
-        came = fault_of(fault)
-    return [map_model.map_of(objects, arguments)], [came]
-
-
-def model_edit(states, edit):
-    """What the model gives for an edit: nothing, or why it is not made."""
-    if edit is None and len(states) == 1:
-        return "nothing to withdraw"
+def model_edit(states, forced, edit):
+    """What the model gives for an edit of a session, which has a list of objects for each state: nothing, or why it is not made."""
     if edit is None:
+        if len(states) == 1:
+            return "nothing to withdraw"
         states.pop()
         return None
-    try:
-        states.append(model.Merged([*states[-1].objects, model.read_object(edit)], states[-1].forced))
-        return None
-    except model.Refused as refused:
-        return str(refused)
+    _, refused = merged_of([*states[-1], edit], forced)
+    if not refused:
+        states.append([*states[-1], edit])
+    return refused and refused[0]
 
 
 def library_edit(session, edit):
     """What the library gives for an edit: nothing, or its fault."""
-    try:
-        session.withdraw() if edit is None else session.add(edit)
-        return None
-    except library.Fault as fault:
-        return fault_of(fault)[0]
-
-
-def by_session(session, options):
-    """What the library gives for a session, by the same calls."""
-    return each_call(
-        lambda: tuple(session.link(options)),
-        lambda: found_lines(session.link_findings(options)),
-        lambda: session.link_places(options),
-    )
+    [given] = each_call(session.withdraw if edit is None else lambda: session.add(edit))
+    return given[0] if isinstance(given, tuple) else None
 
 
 def library_session(number):
@@ -718,70 +588,45 @@ def library_session(number):
     rng, names, arguments, objects = given_of("session", number)
     objects = objects or [object_of(rng, names)]
     edits = [rng.choice([None, *objects]) for _ in range(rng.randrange(12))]
-    states, session = [model.Merged([], arguments.forced)], library.Session(**asked_of(arguments))
+    states, session = [[]], library.Session(**asked_of(arguments))
     ours = [library_edit(session, edit) for edit in edits]
-    theirs = [model_edit(states, edit) for edit in edits]
+    theirs = [model_edit(states, arguments.forced, edit) for edit in edits]
+    merged, _ = merged_of(states[-1], arguments.forced)
     shown = [external["name"] for external in session.state()["externals"]]
-    known = [text(name) for name in states[-1].externals]
-    try:
-        expected = by_all_calls(linked(states[-1], arguments))
-    except model.Refused as refused:
-        expected = [(str(refused), 0)] * 3
-    return (theirs, known, expected), (ours, shown, by_session(session, options_of(arguments)))
+    return ((theirs, [text(name) for name in merged.externals], by_model(merged, arguments)),
+            (ours, shown, by_library(session, options_of(arguments))))
 
 
-def kind_of(outcome):
-    """What to count: the status of a link, or that it was refused."""
-    links = outcome[-1] if isinstance(outcome, tuple) else outcome
-    return "refused" if isinstance(links[0][0], str) else f"status {links[0][0]}"
-
-
-def by_calls(links, sessions, maps):
-    """Compares libv7: at the first difference prints the case."""
-    for name, case, count in (("links", library_link, links), ("sessions", library_session, sessions), ("maps", library_map, maps)):
-        kinds = Counter()
+def by_calls(links, sessions):
+    """Compares libv7."""
+    for case, count in ((library_link, links), (library_session, sessions)):
         for number in range(count):
             expected, came = case(number)
-            if expected != came:
-                print(f"{name}, number {number}:\n  the model: {expected}\n  libv7:     {came}")
-                return 1
-            kinds[kind_of(expected)] += 1
-        print(f"libv7: {count} {name} as the model: " + ", ".join(f"{kinds[kind]} {kind}" for kind in sorted(kinds)))
-    return 0
+            same(f"{case.__name__} {number}", came, expected)
+    print(f"libv7: {links} links and {sessions} sessions as the model")
 
 
 def main():
     if sys.argv[1:2] == ['-l']:
         return by_calls(*map(int, sys.argv[2:]))
-    v7 = program("v7")
-    given = [int(count) for count in sys.argv[1:]]
-    notices(planted, v7)
-    counts = dict(zip(CASES, given or [2000, 500, 500]))
-    seen, statuses = ({kind: Counter() for kind in counts} for _ in range(2))
-    with tempfile.TemporaryDirectory(prefix='agree.') as root, multiprocessing.Pool() as pool:
-        jobs = [(v7, root, kind, number) for kind in counts for number in range(counts[kind])]
-        jobs.sort(key=lambda job: job[-1] / counts[job[-2]])        # the kinds take turns
-        results = pool.imap(work, jobs, chunksize=4)
-        for compared, ((kind, number), (ended, texts, difference)) in enumerate(results, 1):
+    if len(sys.argv) == 3:
+        shutil.rmtree('build/differs', ignore_errors=True)
+        return print(*compare(case_of(sys.argv[1], int(sys.argv[2])), f'{TOP}/build/differs'), sep='\n')
+    notices(planted)
+    seen = {kind: Counter() for kind in COUNTS}
+    jobs = [(kind, number) for kind, count in COUNTS.items() for number in range(count)]
+    jobs.sort(key=lambda job: job[1] / COUNTS[job[0]])        # the kinds take turns
+    with multiprocessing.Pool() as pool:
+        for (kind, number), texts, difference in pool.imap(work, jobs, chunksize=4):
             if difference:
-                show(v7, kind, number, difference)
-                print(f'after {compared} cases')
-                pool.terminate()
-                pool.join()
-                return 1
+                sys.exit(f'{kind} {number} differs: python3 -m tests.oracles.agree {kind} {number} leaves its files in build/differs\n{difference}')
             seen[kind].update(texts)
-            statuses[kind].update(ended)
-    missing = []
-    for kind, count in counts.items():
-        print(f'{count} {kind} cases agree, in {sum(statuses[kind].values())} commands:',
-              ', '.join(f'{number} with status {status}'
-                        for status, number in sorted(statuses[kind].items())))
-        print('   ', ', '.join(f'{text} {seen[kind][text]}' for text in EXPECTED[kind]))
-        missing += [f'{kind}: {text}' for text in EXPECTED[kind] if not seen[kind][text]]
-    if missing and not given:
-        print('never seen:', ', '.join(missing))
-        return 1
-    return 0
+    for kind, count in COUNTS.items():
+        print(f'{count} {kind} cases agree:', ', '.join(f'{text} {seen[kind][text]}' for text in EXPECTED[kind]))
+    missing = [f'{kind}: {text}' for kind in COUNTS for text in EXPECTED[kind] if not seen[kind][text]]
+    if missing:
+        sys.exit(f'never seen: {", ".join(missing)}')
+    return None
 
 
 if __name__ == '__main__':

@@ -549,21 +549,6 @@ def random_file(dice):
     return File(words, relocation, symbols, magic, data, [some() if relocated and dice.randrange(2) else 0 for _ in data], bss)
 
 
-def random_string(dice):
-    """A text of two functions with a string between them, and the address of the second."""
-    string = bytes(dice.choice(b"abcdefghijklmnopqrstuvwxyz %\\n,.") for _ in range(dice.randrange(1, 30))) + b"\0"
-    words = [0o000207, *struct.unpack("<%dH" % (-(-len(string) // 2)), string + b"\0" * (len(string) % 2)), 0o012700, 0o000005, 0o000207]
-    return File(words, [0] * len(words), [(b"_one\0\0\0\0", 0o42, 0), (b"_two\0\0\0\0", 0o42, 2 * len(words) - 6)])
-
-
-def compare_strings(dice, folder):
-    """Compares 200 of them: the second function's first line has its label before it, and is an instruction."""
-    for number in range(200):
-        made = random_string(dice)
-        compare(made, folder, "string %d" % number)
-        same("the lines after string %d" % number, made.disassembly()[-3:-1], ["_two:", "%06o  %-20s  mov $5,r0" % (made.symbols[1][2], "012700 000005")])
-
-
 def assembled(text, assembler, folder):
     """Whether GNU's assembler makes these words of a text, the floating instructions aside: these are given to it as words."""
     file, lines, place = File(text), [], 0
@@ -614,8 +599,6 @@ def main():
             count += compare(made, folder, "made file %d" % number)
             listed += compare_listing(made, folder, "listing of made file %d" % number)
         print("400 made files are shown as computed, %d lines with their labels, and %d of their listings" % (count, listed))
-        compare_strings(dice, folder)
-        print("200 strings in text end before the label that follows them")
         assembler = next((name for name in ("pdp11-aout-as", "pdp11-dec-aout-as") if shutil.which(name)), None)
         if assembler is None:
             print("not assembled back, as GNU's assembler for the PDP-11 is not installed")

@@ -1,6 +1,7 @@
-"""The map of a link by the second linker, tests/oracles/model.py: what `link_map` of the module v7 has to give. The lines of text are those of
-tests/oracles/disassembly.py."""
+"""The map of a link by the second linker, tests/oracles/model.py, from v7(3) and v7-explain(1): what `link_map` of the module v7 has to give,
+and the text of `v7-explain -m`. Instructions are those of tests/oracles/disassembly.py."""
 import functools
+import itertools
 
 from tests.lib.programs import v7
 from tests.oracles import disassembly, model
@@ -39,23 +40,29 @@ class Laid:
         return sizes[model.TEXT], data, data + sizes[model.DATA], self.start[model.BSS], self.common_start + self.bss
 
 
-def line_starts(file):
-    """For each byte of an object's text, where its line begins."""
+def text_of(file):
+    """The text of an object, for its instructions."""
     words, relocation = map(list, zip(*file.words[model.TEXT])) if file.words[model.TEXT] else ([], [])
     symbols = [(symbol.name.ljust(8, b"\0"), symbol.type, symbol.value) for symbol in file.symbols]
-    shown, starts, place = disassembly.File(words, relocation, symbols), {}, 0
-    while place < len(words):
-        length = shown.line(place)[0]
+    data, data_relocation = map(list, zip(*file.words[model.DATA])) if file.words[model.DATA] else ([], [])
+    return disassembly.File(words, relocation, symbols, model.NORMAL, data, data_relocation, file.bss)
+
+
+def line_starts(text):
+    """For each byte of an object's text, where its line begins."""
+    starts, place = {}, 0
+    while place < len(text.words):
+        length = text.line(place)[0]
         for offset in range(2 * place, 2 * (place + length)):
             starts[offset] = 2 * place
         place += length
     return starts
 
 
-def label_before(file, segment, address):
+def label_before(symbols, segment, address):
     """The nearest label up to an address, and the bytes beyond it; in text that of a function before others."""
     best, best_is_function = None, False
-    for symbol in file.symbols:
+    for symbol in symbols:
         if symbol.segment != segment or symbol.value > address:
             continue
         is_function = segment == model.TEXT and bool(symbol.type & model.EXTERNAL or symbol.name.startswith(b"_"))
@@ -89,15 +96,15 @@ def lead_of(file, starts, segment, place):
     return model.TEXT, text_target([word for word, _ in file.words[model.TEXT]], starts[2 * place] // 2, place)
 
 
-def words_of(file, object_number, name_number, number, at):
+def words_of(file, starts, object_number, name_number, number, at):
     """The words of an object that lead to the symbol of this number."""
-    starts, symbol = line_starts(file), file.symbols[number]
+    symbol = file.symbols[number]
     aims = (model.NAMED, number), (symbol.kind, symbol.value)
     for segment, kind in ((model.TEXT, v7.TEXT_WORD), (model.DATA, v7.DATA_WORD)):
         for place in range(len(file.words[segment])):
             if lead_of(file, starts, segment, place) in aims:
                 line = starts[2 * place] if segment == model.TEXT else 2 * place
-                label, beyond = label_before(file, segment, (line + file.start(segment)) % model.WORD)
+                label, beyond = label_before(file.symbols, segment, (line + file.start(segment)) % model.WORD)
                 yield v7.MapUse(object_number, name_number, kind, at[segment] + 2 * place, 2 * place, line, label, beyond)
 
 
@@ -110,8 +117,8 @@ def kind_of(symbol):
 class Names:
     """The names and the uses of a map."""
 
-    def __init__(self, files, forced, places, merged, laid):
-        self.files, self.places, self.merged, self.laid = files, places, merged, laid
+    def __init__(self, files, starts, forced, places, merged, laid):
+        self.files, self.starts, self.places, self.merged, self.laid = files, starts, places, merged, laid
         self.uses_of = {name: [(None, None, model.Symbol(name, model.EXTERNAL, 0))] for name in forced}
         for place, file in enumerate(files):
             for number, symbol in enumerate(file.symbols):
@@ -141,7 +148,7 @@ class Names:
             kind = v7.FORCES if place is None else kind_of(symbol)
             yield v7.MapUse(place, number, kind, 0, symbol.value, 0, None, 0)
             if place is not None:
-                yield from words_of(self.files[place], place, number, symbol_number, self.places[place])
+                yield from words_of(self.files[place], self.starts[place], place, number, symbol_number, self.places[place])
 
 
 def limits_of(files, arguments, merged, laid):
@@ -158,38 +165,235 @@ def limits_of(files, arguments, merged, laid):
     return [v7.MapLimit(*row) for row in rows]
 
 
+class Mapped:
+    """The map of a link of files: as `found`, what `link_map` gives, and as lines."""
+
+    def __init__(self, files, arguments, paths=()):
+        self.files, self.arguments, self.paths = files, arguments, paths
+        self.merged, fault, refused_at = model.Merged([], arguments.forced), 0, 0
+        for place, file in enumerate(files):
+            try:
+                self.merged = model.Merged([*self.merged.objects, file], arguments.forced)
+            except model.Refused as refused:
+                fault, refused_at = fault_numbers()[str(refused)], place
+                break
+        self.laid = laid = None if fault else Laid(self.merged, arguments)
+        at, self.places = dict(laid.start) if laid else dict.fromkeys(model.SEGMENTS, 0), []
+        for file in files:
+            self.places.append(dict(at))
+            for segment in model.SEGMENTS:
+                at[segment] += file.size(segment)
+        self.texts = [*map(text_of, files)]
+        self.starts = [*map(line_starts, self.texts)]
+        names = Names(files, self.starts, arguments.forced, self.places, self.merged, laid)
+        rows = [v7.MapObject(*(place[segment] for segment in model.SEGMENTS), len(file.symbols), *(file.size(segment) for segment in model.SEGMENTS))
+                for file, place in zip(files, self.places)]
+        known = rows, names.names, names.uses, limits_of(files, arguments, self.merged, laid)
+        link = laid and laid.link
+        if not link:
+            segments = laid.segments(self.merged.sizes) if laid else (0,) * 5
+            self.found = v7.Map(1, laid.fault if laid else fault, refused_at, segments, 0, 0, None, *known, None)
+            return
+        entry = text(link.entry) if link.entry is not None and not link.has_entry else None
+        status, report = 1 if link.report else 0, "".join(line.decode("latin-1") + "\n" for line in link.report)
+        program = v7.Program(status, model.write_file(link.file), report)
+        self.found = v7.Map(status, 0, 0, laid.segments(self.merged.sizes), link.magic, link.file.entry, entry, *known, program)
+
+    # the text
+
+    @functools.cached_property
+    def uses(self):
+        """For each name its symbols, each with the words that lead to it."""
+        of = [[] for _ in self.found.names]
+        for use in self.found.uses:
+            if use.kind in (v7.TEXT_WORD, v7.DATA_WORD):
+                of[use.name][-1][1].append(use)
+            else:
+                of[use.name].append((use, []))
+        return of
+
+    def head(self):
+        """What becomes of the link."""
+        found, count = self.found, len(self.files)
+        title = f"Link of {count} object{'s' * (count != 1)}: "
+        if not self.laid:
+            refused = f"{title}refused, {v7.FAULTS[found.fault]} at"
+            return [refused, f"  {self.paths[found.place]}", "  (addresses below count from 0 in each segment)"]
+        if found.fault:
+            return [f"{title}refused, {v7.FAULTS[found.fault]}"]
+        entry = [] if found.entry_name is None else [f"  entry point not in text: {shown(found.entry_name)}"]
+        return [f"{title}made, with {'something' if found.status else 'nothing'} to report",
+                f"  magic 0{found.magic:o}, entry point {found.entry_point:06o}", *entry]
+
+    def sizes(self):
+        """The limits, the largest objects of a link that is refused, and the segments."""
+        titles = ["text", "data", "bss", "end of bss", "symbols", "symbol number", "externals"]
+        lines = ["", "Limits              used      of    left"]
+        for kind, used, most in self.found.limits:
+            lines.append(f"  {titles[kind - 1]:<14}{used:>8}{most:>8}{abs(most - used):>8}{' over' * (used > most)}")
+        if not self.found.program:
+            lines += ["", "Largest objects", "     text    data     bss     all  symbols"]
+            rows = [(*row[4:], sum(row[4:]), row.symbols, path) for row, path in zip(self.found.objects, self.paths)]
+            for *sizes, path in sorted(rows, key=lambda row: -row[3])[:10]:
+                lines.append("  {:>7}{:>8}{:>8}{:>8}{:>9}  ".format(*sizes) + path)
+        if self.laid:
+            text_end, *ends = self.found.segments
+            lines += ["", "Segments    from     end   bytes"]
+            for name, start, end in zip(("text", "data", "commons", "bss"), (0, *ends), (text_end, *ends[1:])):
+                lines.append(f"  {name:8}{start:06o}  {end:06o}{end - start:>8}")
+        return lines
+
+    def objects(self, places):
+        """The objects with these numbers."""
+        lines = ["", "Objects", "    text  bytes    data  bytes     bss  bytes"]
+        for place in places:
+            row = self.found.objects[place]
+            pairs = (row.text, row.text_size), (row.data, row.data_size), (row.bss, row.bss_size)
+            lines.append("".join(f"  {start:06o}{size:>7}" for start, size in pairs) + f"  {self.paths[place]}")
+        return lines
+
+    def word(self, segment, address, label, line, of):
+        """A word of an object, in the segment and at the address: of text with the place and the text of its line."""
+        name, beyond = label
+        before = "" if name is None else f"  {shown(name)}" + f"+{beyond:o}" * bool(beyond)
+        if segment == "text":
+            before = (before or f"  {self.found.objects[of].text + line:06o}") + f": {self.texts[of].whole_line(line // 2)[1]}"
+        return f"                {segment} {address:06o}{before}"
+
+    def title_of(self, number):
+        """The line of a name, as nm has it; without an address if the link has none."""
+        name = self.found.names[number]
+        if name.state & v7.NAME_IS_PLACED:
+            return model.symbol_line(model.Symbol(b"", name.type, name.value)).decode() + shown(name.name)
+        symbols = [symbol for file in self.files for symbol in file.symbols if symbol.type & model.EXTERNAL and text(symbol.name) == name.name]
+        best = sorted(symbols, key=lambda symbol: (symbol.kind == model.UNDEFINED, symbol.is_undefined))[:1] or [model.Symbol(b"", 0o40, 0)]
+        return "      " + model.symbol_line(best[0])[6:9].decode() + shown(name.name)
+
+    def name_lines(self, number, has_sources=True, has_users=True):
+        """The line of a name, the objects that have it, and those that use it with their words."""
+        lines, definers, commons, users = [self.title_of(number)], [], [], []
+        for use, words in self.uses[number]:
+            path = "-u" if use.object is None else self.paths[use.object]
+            if use.kind == v7.DEFINES:
+                definers.append(f"    {'again' if definers else 'defined'} in".ljust(16) + path)
+            if use.kind == v7.MAKES_COMMON:
+                commons.append(f"    common in   {path} ({use.offset})")
+            if use.kind != v7.DEFINES or words:
+                users.append(f"    used in     {path}" + f" ({len(words)})" * (use.object is not None))
+                users += [self.word("text" if word.kind == v7.TEXT_WORD else "data", word.address, (word.label, word.beyond), word.line, use.object)
+                          for word in words]
+        return lines + (definers + commons) * has_sources + users * has_users
+
+    def section(self, title, has_name, **parts):
+        """The names of a part, after its title; nothing if there is none."""
+        lines = [line for number in range(len(self.found.names)) if has_name(number) for line in self.name_lines(number, **parts)]
+        return ["", title, *lines] if lines else []
+
+    def has_state(self, bit):
+        return lambda number: self.found.names[number].state & bit
+
+    def is_unused(self, number):
+        """Whether an object defines a name that nothing uses, and that is not in text at the entry point."""
+        name = self.found.names[number]
+        used = any(use.kind != v7.DEFINES or words for use, words in self.uses[number])
+        at_entry = (name.type, name.value) == (0o42, self.found.entry_point)
+        return self.found.program and name.definer is not None and not used and not at_entry
+
+    def is_call(self, word):
+        """Whether a word is the operand word of jsr or jmp by modes 37 and 67."""
+        if word.kind != v7.TEXT_WORD or word.line == word.offset:
+            return False
+        first = self.files[word.object].words[model.TEXT][word.line // 2][0]
+        return first & 0o77 in (0o37, 0o67) and (first & 0o177000 == 0o4000 or first & 0o177700 == 0o100)
+
+    def odd_of(self, number):
+        """What is odd of a name: the calls of it if it is of data, and whether it may be two that are cut to eight bytes."""
+        name, symbols = self.found.names[number], self.uses[number]
+        definition = next((symbol for use, _ in symbols if use.kind == v7.DEFINES for symbol in self.files[use.object].symbols
+                           if symbol.type & model.EXTERNAL and symbol.kind and text(symbol.name) == name.name), None)
+        is_common = any(use.kind == v7.MAKES_COMMON for use, _ in symbols)
+        if definition.kind in (model.DATA, model.BSS) if definition else is_common:
+            for use, words in symbols:
+                for word in words if use.kind != v7.DEFINES else ():
+                    if self.is_call(word):
+                        yield f"  {shown(name.name)}: data, and called at text {word.address:06o} in {self.paths[use.object]}"
+        of = [(use.object, use.kind, use.offset) for use, _ in symbols]
+        if len(name.name) == 8 and any(
+                one == other and one is not None or kind == next_kind and (kind == v7.DEFINES or kind == v7.MAKES_COMMON and value != next_value)
+                for (one, kind, value), (other, next_kind, next_value) in itertools.combinations(of, 2)):
+            yield f"  {shown(name.name)}: perhaps two names, cut to eight bytes"
+
+    def odd(self):
+        """What no object shows alone."""
+        missing = {name.name for name in self.found.names if name.state & v7.NAME_IS_UNDEFINED}
+        there = {self.found.names[use.name].name for use in self.found.uses if use.kind in (v7.DEFINES, v7.MAKES_COMMON)}
+        lines = []
+        for number, name in enumerate(self.found.names):
+            other = ("_" + name.name)[:8]
+            pairs = ((name.name, other), (other, name.name))
+            lines += self.odd_of(number)
+            lines += [f"  {shown(one)}: undefined; there is {shown(two)}" for one, two in pairs if one in missing and two in there]
+        return ["", "Odd", *lines] if lines else []
+
+    def whole(self):
+        """The lines of the map."""
+        return [*self.head(), *self.sizes(), *self.section("Undefined", self.has_state(v7.NAME_IS_UNDEFINED)),
+                *self.section("Multiply defined", self.has_state(v7.NAME_IS_MULTIPLE)), *self.odd(),
+                *([] if "r" in self.arguments.letters else self.section("Unused", self.is_unused)),
+                *self.objects(range(len(self.files))), *self.section("Externals", lambda number: True)]
+
+    def at_address(self, address):
+        """What the link has at an address."""
+        lines = []
+        for place, (file, row) in enumerate(zip(self.files, self.found.objects)):
+            for segment, name, begin in zip(model.SEGMENTS, ("text", "data", "bss"), row[:3]):
+                offset = address - begin
+                if 0 <= offset < file.size(segment):
+                    line = self.starts[place][offset] if segment == model.TEXT else offset
+                    label = label_before(file.symbols, segment, file.start(segment) + line)
+                    lines += [f"    in          {self.paths[place]}", self.word(name, address, label, line, place)]
+        if self.laid and self.found.segments[2] <= address < self.found.segments[3]:
+            rows = map(self.laid.symbol_of, self.merged.externals.values()) if self.laid.is_placed else ()
+            lines += ["    in          commons", self.word("commons", address, label_before(rows, model.BSS, address), 0, None)]
+        return lines
+
+    def asked(self, wanted):
+        """The lines of the map for what is wanted: names, paths and addresses in octal. Whether all are there, too."""
+        known = [name.name for name in self.found.names]
+        names, paths, addresses, absent = set(), [], [], []
+        for word in wanted:
+            if word[:8] in known:
+                names.add(word[:8])
+            elif word in self.paths:
+                paths.append(word)
+            elif lines := self.at_address(int(word, 8)) if word.isdigit() else []:
+                addresses += lines
+            else:
+                absent.append(f"  {word}: not mentioned")
+        lines = self.head() + ["", "Addresses", *addresses] * bool(addresses)
+        for place in (place for path in paths for place, one in enumerate(self.paths) if one == path):
+            lines += self.objects([place])
+            lines += self.section("Defines", lambda number: self.has_symbol(number, place, True), has_sources=False)
+            lines += self.section("Needs", lambda number: self.has_symbol(number, place, False), has_users=False)
+        asked = self.section("Externals", lambda number: known[number] in names) or ["", "Externals"] * bool(absent)
+        return lines + asked + absent, not absent
+
+    def has_symbol(self, number, place, defines):
+        """Whether an object has a symbol of a name, which defines it or does not."""
+        return any(use.object == place and (use.kind == v7.DEFINES) == defines for use, _ in self.uses[number])
+
+
+def shown(name):
+    """A name in a map: as in a listing, but that an empty one is nothing."""
+    return name and disassembly.in_listing(name.encode("latin-1"))
+
+
 def map_of(objects, arguments):
-    """The map of a link, or why there is none and the number of the object."""
+    """What `link_map` has to give for a link, or why it has no map, and the number of the object."""
     files = []
     for place, data in enumerate(objects):
         try:
             files.append(model.read_object(data))
         except model.Refused as refused:
             return str(refused), place
-    merged, fault, refused_at = model.Merged([], arguments.forced), 0, 0
-    for place, file in enumerate(files):
-        try:
-            merged = model.Merged([*merged.objects, file], merged.forced)
-        except model.Refused as refused:
-            fault, refused_at = fault_numbers()[str(refused)], place
-            break
-    laid = None if fault else Laid(merged, arguments)
-    at, places = dict(laid.start) if laid else dict.fromkeys(model.SEGMENTS, 0), []
-    for file in files:
-        places.append(dict(at))
-        for segment in model.SEGMENTS:
-            at[segment] += file.size(segment)
-    found = Names(files, arguments.forced, places, merged, laid)
-    rows = [v7.MapObject(*(place[segment] for segment in model.SEGMENTS), len(file.symbols), *(file.size(segment) for segment in model.SEGMENTS))
-            for file, place in zip(files, places)]
-    limits = limits_of(files, arguments, merged, laid)
-    if not laid:
-        return v7.Map(1, fault, refused_at, (0,) * 5, 0, 0, None, rows, found.names, found.uses, limits, None)
-    segments = laid.segments(merged.sizes)
-    if not laid.link:
-        return v7.Map(1, laid.fault, 0, segments, 0, 0, None, rows, found.names, found.uses, limits, None)
-    link = laid.link
-    entry = text(link.entry) if link.entry is not None and not link.has_entry else None
-    status, report = 1 if link.report else 0, "".join(line.decode("latin-1") + "\n" for line in link.report)
-    program = v7.Program(status, model.write_file(link.file), report)
-    return v7.Map(status, 0, 0, segments, link.magic, link.file.entry, entry, rows, found.names, found.uses, limits, program)
+    return Mapped(files, arguments).found

@@ -1,10 +1,9 @@
 """Plants mistakes of assemblers in right objects, and compares what v7-explain says of them with tests/oracles/suspicions.py.
 
-tier: check, 120 seconds; programs: v7-explain v7-object v7-from-gnu; for: crates/suspicions crates/findings
+tier: check, 120 seconds; programs: v7-explain v7-object; for: crates/suspicions crates/findings
 
-The right objects are those of examples/ and of the page, 300 that are made here, and the idioms of tests/oracles/data and right. If
-GNU's assembler for the PDP-11 is installed, it makes the last anew. `-c` may say nothing sure of any of them, and no line at all of one
-that a compiler wrote, with `-t` too.
+The right objects are those of examples/ and of the page, 300 that are made here, and the idioms of tests/oracles/data and right. `-c` may
+say nothing sure of any of them, and no line at all of one that a compiler wrote, with `-t` too.
 
 Each kind of mistake has a row. It says in how many objects the mistake was planted. For `-c`, and then for `-c -t`, it counts the objects
 in which the mistake is found, those with only lines that say "if", and those with no line. The last number is that of the objects in whose
@@ -17,7 +16,6 @@ most half of the mistakes in instructions.
 import glob
 import os
 import re
-import shutil
 import struct
 
 from tests.lib.compare import notices, same
@@ -30,7 +28,6 @@ from tests.oracles.planting import BSS, DATA, EXTERNAL, MAY_BE_RIGHT, MISTAKES, 
 from tests.oracles.suspicions import KINDS, surely_wrong
 
 EXPLAIN = program("v7-explain")
-ASSEMBLER = shutil.which("pdp11-aout-as")
 # so many lines at most are said of a file
 MOST_LINES = 16
 # mistakes are planted in so many objects of each kind
@@ -155,23 +152,10 @@ def objects_of(*patterns):
                 yield file
 
 
-def assembled():
-    """The right objects of tests/oracles/right, by GNU's assembler."""
-    for source in sorted(glob.glob(os.path.join(TOP, "tests/oracles/right/*.s"))):
-        same(source, ran(ASSEMBLER, "-o", "gnu.o", source).status, 0)
-        same(source, ran(program("v7-from-gnu"), "gnu.o", "ours.o").status, 0)
-        yield file_in(read_bytes("ours.o"))
-
-
 def idioms():
     """Text that has data too."""
-    if ASSEMBLER:
-        yield from assembled()
-    for path in RIGHT:
+    for path in [*RIGHT, *map(made_idiom, IDIOMS), DATA_IN_TEXT]:
         yield file_in(read_bytes(path))
-    for path in IDIOMS:
-        yield file_in(read_bytes(made_idiom(path)))
-    yield file_in(read_bytes(DATA_IN_TEXT))
 
 
 # what is said

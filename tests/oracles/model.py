@@ -132,20 +132,25 @@ class Merged:
     """
 
     def __init__(self, objects, forced):
-        self.objects, self.forced, self.before, self.multiples = objects, forced, [], []
+        self.objects, self.forced, self.before, self.multiples = [], forced, [], []
         # for each of these the number of the object
         self.further = []
         self.sizes = dict.fromkeys(SEGMENTS, 0)
         self.externals = {name: Symbol(name, EXTERNAL, 0) for name in forced}
         for file in objects:
-            self.before.append(dict(self.sizes))
-            for symbol in file.symbols:
-                if symbol.type & EXTERNAL:
-                    self.mention(file, symbol)
-            for segment, name in SEGMENTS.items():
-                self.sizes[segment] += file.size(segment)
-                if self.sizes[segment] > SEGMENT_LIMIT:
-                    raise Refused(f'{name} full')
+            self.append(file)
+
+    def append(self, file):
+        """One object more. If it is refused nothing can follow."""
+        self.objects.append(file)
+        self.before.append(dict(self.sizes))
+        for symbol in file.symbols:
+            if symbol.type & EXTERNAL:
+                self.mention(file, symbol)
+        for segment, name in SEGMENTS.items():
+            self.sizes[segment] += file.size(segment)
+            if self.sizes[segment] > SEGMENT_LIMIT:
+                raise Refused(f'{name} full')
         if len(self.externals) > NAMES_LIMIT:
             raise Refused('names full')
 
@@ -291,8 +296,8 @@ def load(path, read):
 
 
 def add_object(merged, path):
-    """The objects and, after them, that at the path."""
-    return load(path, lambda contents: Merged([*merged.objects, read_object(contents)], merged.forced))
+    """Adds the object at the path."""
+    load(path, lambda contents: merged.append(read_object(contents)))
 
 
 def store(path, file, write_error='write error'):
@@ -357,7 +362,7 @@ def ld(given, lines, _script):
             os.close(os.open(path, os.O_RDONLY))
     merged = Merged([], arguments.forced)
     for path in arguments.paths:
-        merged = add_object(merged, path)
+        add_object(merged, path)
     link = Link(merged, arguments)
     store((arguments.values['o'] or ['a.out'])[0], link.file)
     lines += link.report
@@ -429,7 +434,9 @@ class Session:
             return [str(refusal).encode()]
 
     def add(self, path):
-        self.states.append(add_object(self.states[-1], path))
+        merged = Merged(self.states[-1].objects, self.arguments.forced)
+        add_object(merged, path)
+        self.states.append(merged)
         self.paths.append(path)
         return [f'added {path}'.encode()]
 

@@ -2,31 +2,28 @@
 v7-explain(1). What is odd of instructions is left to mistakes.py; here `-c` has to say of it what the listing says. A session of v7
 has to add what is called an object, and to answer what is noted of another file.
 
-tier: check, 150 seconds; programs: v7-explain v7 v7-object; for: crates/findings crates/suspicions crates/explanations crates/v7_explain docs/FORMAT.md man/v7-explain.1
+tier: check, 100 seconds; programs: v7-explain v7 v7-object; for: crates/findings crates/suspicions crates/explanations crates/v7_explain docs/FORMAT.md man/v7-explain.1
 
 The files are made, the same in each run: objects whose numbers are at the edges of their ranges and beside them, and one file cut
 at each byte. There are objects with 15 to 18 bad relocation words, files with other magic numbers, flags and sizes, files of other forms,
-objects of instructions, those of examples/ and of agree.py, and these with bytes changed, cut or put in. The program has little memory
-and time for each. Of 200 files that are cut, a listing has to have all words and symbols before the cut.
+objects of instructions, those of examples/ and of agree.py, and these with bytes changed, cut or put in. Of 200 files that are cut, a
+listing has to have all words and symbols before the cut.
 """
 import glob
 import os
 import random
 import re
-import resource
 import struct
 
-from tests.cases.cases import is_script
 from tests.lib.compare import notices, same
 from tests.lib.files import TOP, read_bytes, room, write
 from tests.lib.programs import program, ran
 from tests.oracles import agree
 from tests.oracles.disassembly import FOUND, SYS, File as Text, has_word
+from tests.oracles.disassembly import in_listing as shown
 
 PROGRAMS = {0o405: "an overlay", 0o407: "a program", 0o410: "a program, pure text", 0o411: "a program, separate text and data"}
 KINDS = {0o405: "overlay", 0o407: "program 0407", 0o410: "program 0410", 0o411: "program 0411"}
-MAGICS = {0o405: "overlay", 0o407: "normal, data after text", 0o410: "text can be shared, data at a multiple of 020000",
-          0o411: "text and data in spaces of their own"}
 # the first bytes of other files, what is said of them, and their kinds in an inventory
 MEMBERS = "take its members out with the ar of its system"
 FORMS = [(b"\x7fELF", "this is an ELF file, of another system", "ELF"),
@@ -43,22 +40,18 @@ TYPES = (0, 1, 2, 3, 4, 0o24, 0o37)
 MOST = 16
 # what is odd of instructions; and what is said if more is odd than is shown
 SUSPICIOUS = re.compile(r"the first word of the|the pc bit of|an instruction leads to|is cut by the end of|the branch at|the word at \d+ (?:counts|is of a call|adds|leads to|jumps)|is of the last instruction of text")
+# the words of the header, which the cases of listings show
+HEADER = re.compile(r"0[01][0246]  [0-7]{6}  ")
 DOUBT = ", if this is"
 # what right objects may have too
 MEANT = ": a mistake, if this is not meant"
 COMMON = "rounded up to even"
 # what a session answers to a whole file that is not an object
 PROGRAMS_SAID = ("not an object", "no relocation")
-SECONDS, BYTES = 60, 1 << 28
 # so many files are cut
 CUTS = 200
 MORE = re.compile(r"and (\d+) more that are odd$")
 dice = random.Random(42)
-
-
-def shown(name):
-    """A name as notes have it."""
-    return "".join(chr(c) if 32 < c < 127 and c != 92 else "\\%03o" % c for c in name) or "\\000"
 
 
 class File:
@@ -201,16 +194,6 @@ def has_no_magic(data):
     return len(data) < 16 or File(data).magic not in PROGRAMS
 
 
-def header_said(data):
-    """The words of a header by name."""
-    file = File(data)
-    words = [(file.magic, "magic: " + MAGICS.get(file.magic, "none that a file begins with"))]
-    sizes = (("text", file.text), ("data", file.data_size), ("bss", file.bss), ("the symbol table", file.table))
-    words += [(size, f"size of {part}: {size} bytes") for part, size in sizes]
-    words += [(file.entry, "entry point"), (file.unused, "unused"), (file.flag, f"flag: {'no relocation' if file.flag else 'relocation is present'}")]
-    return [f"{2 * place:03o}  {word:06o}  {said}" for place, (word, said) in enumerate(words)]
-
-
 def odd_header(file):
     if file.entry and file.flag == 0:
         yield 10, f"the entry point of an object, {file.entry:06o}, is ignored"
@@ -334,8 +317,8 @@ def odd_notes(data):
 
 
 def without_suspicious(notes):
-    """Notes without those on instructions, and without how many more things are odd."""
-    return [note for note in notes if not SUSPICIOUS.search(note) and not MORE.match(note)]
+    """Notes without those on instructions and on the header, and without how many more things are odd."""
+    return [note for note in notes if not SUSPICIOUS.search(note) and not MORE.match(note) and not HEADER.match(note)]
 
 
 def odd_count(notes):
@@ -344,14 +327,8 @@ def odd_count(notes):
 
 
 def lines_of(path, data):
-    """All notes of a listing: the path with the size, what the file is, its header, and the others."""
-    notes, _ = notes_of(data)
-    title = f"{path}: 0{len(data):o} ({len(data)}) bytes"
-    if wrong(data)[1] is None:
-        known = has_no_magic(data) and form(data)[0]
-        return [title] + (header_said(data) if len(data) >= 16 and not known else []) + notes
-    first = 0 if notes and notes[0].startswith(("wrong", "odd")) else 1
-    return [title, *notes[:first], *header_said(data), *notes[first:]]
+    """The notes of a listing but for those of the header: the path with the size, what the file is, and what is wrong or odd."""
+    return [f"{path}: 0{len(data):o} ({len(data)}) bytes", *notes_of(data)[0]]
 
 
 def inventory_of(path, data, odd):
@@ -526,10 +503,6 @@ def damaged(data):
     return data
 
 
-def limits():
-    resource.setrlimit(resource.RLIMIT_AS, (BYTES, BYTES))
-
-
 def answered(status, *words):
     """What v7-explain writes, which has to end with this status."""
     came = ran(EXPLAIN, *words).texts()
@@ -589,7 +562,7 @@ def main():
     notices(compare, paths[0], datas[0], found[0], [*found[0], ""])
     added = sessions(paths)
     notices(compare_session, paths[0], datas[0], found[0], added[paths[0]] + " planted")
-    count = 0
+    count, doubted = 0, []
     for path, data, notes, line in zip(paths, datas, found, inventory):
         expected, why = lines_of(path, data), notes_of(data)[1]
         count += len(expected)
@@ -599,13 +572,11 @@ def main():
         odd = [note.removeprefix("odd: ") for note in notes if note.startswith("odd: ") and not note.endswith(COMMON)]
         if not added[path] and odd_count(notes) <= MOST:
             compare(f"-c {path} and its listing", data, refused[path], odd)
-        sure = [note for note in refused[path] if DOUBT not in note and not MORE.match(note)]
-        # what make quick compiles needs more memory for its own checks
-        alone = ran(EXPLAIN, "-c", path, seconds=SECONDS, preexec_fn=None if is_script("v7-explain") else limits).status
         # one that is sure may not be shown
-        if sure or len(refused[path]) <= MOST:
-            compare(f"-c {path}", data, [alone], [1 if sure else 0])
+        if all(DOUBT in note for note in refused[path]) and len(refused[path]) <= MOST:
+            doubted.append(path)
         compare(f"-l {path}", data, [line], [inventory_of(path, data, odd_count(notes))])
+    answered(0, "-c", *doubted)
     compare_cuts()
     print(f"{count} notes of {len(datas)} files compared, {len(datas)} lines of an inventory, and what is there of {CUTS} files that end early")
 

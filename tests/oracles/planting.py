@@ -5,6 +5,8 @@ import random
 from tests.oracles.disassembly import FOUND, SYS, has_word
 
 TEXT, DATA, BSS, EXTERNAL = 2, 4, 6, 0o10
+# types of externals that are defined
+DEFINED = (0o42, 0o43, 0o44)
 dice = random.Random(63)
 
 
@@ -130,6 +132,9 @@ def value_plus(number):
     return with_symbol(lambda file, name, kind, value: (name, kind, (value + number) % 65536))
 
 
+without_040 = with_symbol(lambda file, name, kind, value: (name, kind - 0o40, value))
+
+
 def set_pc_bit(file, at):
     file.relocation[at] |= 1
 
@@ -154,36 +159,26 @@ def insert(file, at):
     del file.words[-1], file.relocation[-1]
 
 
-def early(file):
-    moved = file.relocation[1:] + [0]
-    is_other, file.relocation = moved != file.relocation, moved
-    return is_other
-
-
-def late(file):
-    moved = [0] + file.relocation[:-1]
-    is_other, file.relocation = moved != file.relocation, moved
-    return is_other
-
-
-def early_in_data(file):
-    moved = file.data_relocation[1:] + [0]
-    is_other, file.data_relocation = moved != file.data_relocation, moved
-    return is_other
+def moved(column, is_early):
+    """Relocation words are one word early or late."""
+    def plant(file):
+        before = getattr(file, column)
+        after = before[1:] + [0] if is_early else [0] + before[:-1]
+        setattr(file, column, after)
+        return after != before
+    return plant
 
 
 def exchange_bytes(words):
     return [word >> 8 | (word & 0o377) << 8 for word in words]
 
 
-def text_high_byte_first(file):
-    file.words, before = exchange_bytes(file.words), file.words
-    return file.words != before
-
-
-def relocation_high_byte_first(file):
-    file.relocation, before = exchange_bytes(file.relocation), file.relocation
-    return file.relocation != before
+def high_byte_first(column):
+    def plant(file):
+        before = getattr(file, column)
+        setattr(file, column, exchange_bytes(before))
+        return getattr(file, column) != before
+    return plant
 
 
 def strings_high_byte_first(file):
@@ -243,11 +238,12 @@ def kind_of_words(before, after):
     return plant
 
 
-def not_relocated_in_data(file):
-    at = one_of(at for at, low in enumerate(file.data_relocation) if low)
-    if at is not None:
-        file.data_relocation[at] = 0
-    return at is not None
+def relocated_data(file):
+    return [at for at, low in enumerate(file.data_relocation) if low]
+
+
+def not_relocated_in_data(file, at):
+    file.data_relocation[at] = 0
 
 
 # symbols
@@ -281,54 +277,27 @@ def number_of_a_local(file):
     return True
 
 
-def common_added(file):
+def words_of_commons(file):
+    return [at for at, low in enumerate(file.relocation) if low & 0o16 == EXTERNAL and low >> 4 in commons(file)]
+
+
+def common_added(file, at):
     """The value of a common, its size, is added to a word that refers to it."""
-    at = one_of(at for at, low in enumerate(file.relocation) if low & 0o16 == EXTERNAL and low >> 4 in commons(file))
-    if at is not None:
-        file.words[at] = (file.words[at] + file.symbols[file.relocation[at] >> 4][2]) % 65536
-    return at is not None
+    file.words[at] = (file.words[at] + file.symbols[file.relocation[at] >> 4][2]) % 65536
 
 
-def without_underscore(file, at):
-    name, kind, value = file.symbols[at]
-    if not name.startswith(b"_"):
-        return False
-    file.symbols[at] = (name[1:] + b"\0", kind, value)
-    return True
+def without_underscore(_file, name, kind, value):
+    return (name[1:] + b"\0", kind, value) if name.startswith(b"_") else None
 
 
-def garbage_after_name(file, at):
-    name, kind, value = file.symbols[at]
+def garbage_after_name(_file, name, kind, value):
     end = name.find(b"\0")
-    if not 0 < end < 7:
-        return False
-    file.symbols[at] = (name[:end + 1] + b"x" * (7 - end), kind, value)
-    return True
+    return (name[:end + 1] + b"x" * (7 - end), kind, value) if 0 < end < 7 else None
 
 
-def named_twice(file):
+def named_twice(file, at):
     """A name is put into the table once more, undefined, where it is used."""
-    at = one_of(symbols(file, 0o42, 0o43, 0o44))
-    if at is not None:
-        file.symbols.append((file.symbols[at][0], 0o40, 0))
-    return at is not None
-
-
-def absolute_text(file):
-    """All symbols of text are absolute."""
-    places = symbols(file, 2, 0o42)
-    for at in places:
-        name, kind, value = file.symbols[at]
-        file.symbols[at] = (name, kind - 1, value)
-    return bool(places)
-
-
-def all_local(file):
-    places = symbols(file, 0o42, 0o43, 0o44)
-    for at in places:
-        name, kind, value = file.symbols[at]
-        file.symbols[at] = (name, kind - 0o40, value)
-    return bool(places)
+    file.symbols.append((file.symbols[at][0], 0o40, 0))
 
 
 # instructions
@@ -444,51 +413,28 @@ def index_by_pc(file, at):
 # the header, which is made of the file: what is wrong with it is put on top of its bytes
 
 
-class Header:
-    """A mistake in the header: its words, in place of those that are right."""
-
-    def __init__(self, change):
-        self.change = change
-
-    def __call__(self, file):
-        header = [file.magic, text_size(file), 2 * len(file.data), file.bss, 12 * len(file.symbols), 0, 0, 0]
-        before = list(header)
-        self.change(header)
-        file.header = header
-        return header != before
+def header(**changes):
+    """Some words of the header are others than those that are right."""
+    def plant(file):
+        right = {"magic": file.magic, "text": text_size(file), "data": 2 * len(file.data), "bss": file.bss, "table": 12 * len(file.symbols),
+                 "entry": 0, "unused": 0, "flag": 0}
+        wrong = {**right, **{name: change(right[name]) for name, change in changes.items()}}
+        file.header = list(wrong.values())
+        return wrong != right
+    return plant
 
 
-def sizes_in_words(header):
-    header[1], header[2], header[3] = header[1] // 2, header[2] // 2, header[3] // 2
-
-
-def table_in_symbols(header):
-    header[4] //= 12
-
-
-def flag_set(header):
-    header[7] = 1
-
-
-def no_bss(header):
-    header[3] = 0
-
-
-def odd_bss(header):
-    header[3] += 1
-
-
-def entry_given(header):
-    header[5] = 2
+def half(size):
+    return size // 2
 
 
 # a kind has a star if nothing was said of most such objects when this was written
 MISTAKES = {
     "the pc bit forgotten": at_one(from_pc, clear_pc_bit),
     "the pc bit set at an address": at_one(lambda file: addresses(file, (3, 6, 7)), set_pc_bit),
-    "relocation words one word early": early,
-    "relocation words one word late": late,
-    "relocation words with exchanged bytes": relocation_high_byte_first,
+    "relocation words one word early": moved("relocation", True),
+    "relocation words one word late": moved("relocation", False),
+    "relocation words with exchanged bytes": high_byte_first("relocation"),
     "an addend of -2 in place of -4 *": at_one(lambda file: from_pc(file, EXTERNAL), word_plus(2)),
     "an addend of 0 in place of -4 *": at_one(lambda file: from_pc(file, EXTERNAL), word_plus(4)),
     "the second operand counted from the first *": at_one(second_operands, word_plus(2)),
@@ -499,8 +445,8 @@ MISTAKES = {
     "no relocation on $N *": at_one(lambda file: addresses(file, (2, 3)), low_bits(0)),
     "no relocation on N(r) *": at_one(lambda file: addresses(file, (6, 7)), low_bits(0)),
     "no relocation on an argument of sys": at_one(arguments, low_bits(0)),
-    "no relocation in data *": not_relocated_in_data,
-    "relocation of data one word early": early_in_data,
+    "no relocation in data *": at_one(relocated_data, not_relocated_in_data),
+    "relocation of data one word early": moved("data_relocation", True),
     "data counted from 0 *": all_from_0,
     "symbols of data counted from 0": symbols_from_0,
     "words that refer to data counted from 0": words_from_0,
@@ -513,19 +459,19 @@ MISTAKES = {
     "a data symbol as bss": at_one(lambda file: symbols(file, 0o43), of_type(0o44)),
     "a bss symbol as data": at_one(lambda file: symbols(file, 0o44), of_type(0o43)),
     "a text symbol as data": at_one(lambda file: symbols(file, 0o42), of_type(0o43)),
-    "text symbols as absolute *": absolute_text,
-    "externals without 040 *": all_local,
-    "one external without 040": at_one(lambda file: symbols(file, 0o42, 0o43, 0o44), with_symbol(lambda file, name, kind, value: (name, kind - 0o40, value))),
+    "text symbols as absolute *": at_all(lambda file: symbols(file, 2, 0o42), with_symbol(lambda file, name, kind, value: (name, kind - 1, value))),
+    "externals without 040 *": at_all(lambda file: symbols(file, *DEFINED), without_040),
+    "one external without 040": at_one(lambda file: symbols(file, *DEFINED), without_040),
     "a symbol of type 5": at_one(lambda file: symbols(file, 0o42, 0o43), of_type(0o45)),
     "the next undefined name's number": next_undefined,
     "symbol numbers from 1": numbers_from_1,
     "the number of a defined name": number_of_a_local,
-    "a common's value added to the word *": common_added,
+    "a common's value added to the word *": at_one(words_of_commons, common_added),
     "a value left in an undefined symbol *": at_one(undefined, value_plus(4)),
     "a common without its size": at_one(commons, with_symbol(lambda file, name, kind, value: (name, kind, 0))),
-    "_ forgotten": at_one(undefined, without_underscore),
-    "garbage after a short name": at_one(lambda file: range(len(file.symbols)), garbage_after_name),
-    "a defined name once more, undefined": named_twice,
+    "_ forgotten": at_one(undefined, with_symbol(without_underscore)),
+    "garbage after a short name": at_one(lambda file: range(len(file.symbols)), with_symbol(garbage_after_name)),
+    "a defined name once more, undefined": at_one(lambda file: symbols(file, *DEFINED), named_twice),
     "an odd value of a text symbol *": at_one(lambda file: symbols(file, 2, 0o42), value_plus(1)),
     "a text symbol one word on": at_one(lambda file: symbols(file, 2, 0o42), value_plus(2)),
     "values of text symbols in words": at_all(lambda file: [at for at in symbols(file, 2, 0o42) if file.symbols[at][2]], with_symbol(lambda file, name, kind, value: (name, kind, value // 2))),
@@ -535,7 +481,7 @@ MISTAKES = {
     "the last operand word left out": leave_out_the_last,
     "a word that is no instruction": at_one(going_on, no_code),
     "operands exchanged": at_one(two_operands, exchange_operands),
-    "text with its high bytes first": text_high_byte_first,
+    "text with its high bytes first": high_byte_first("words"),
     "strings with their bytes exchanged": strings_high_byte_first,
     "a branch that counts from itself": at_one(branches, branch_by(1)),
     "a branch one word short": at_one(branches, branch_by(-1)),
@@ -546,12 +492,12 @@ MISTAKES = {
     "a call of a common": at_one(external_calls, call_of_a_common),
     "a call of an odd place": at_one(own_calls, odd_call),
     "an index by the pc": at_one(lambda file: addresses(file, (6, 7)), index_by_pc),
-    "sizes in words": Header(sizes_in_words),
-    "the size of the table in symbols": Header(table_in_symbols),
-    "the flag 1 with relocation": Header(flag_set),
-    "bss without its size": Header(no_bss),
-    "an odd size of bss": Header(odd_bss),
-    "an entry point in an object": Header(entry_given),
+    "sizes in words": header(text=half, data=half, bss=half),
+    "the size of the table in symbols": header(table=lambda size: size // 12),
+    "the flag 1 with relocation": header(flag=lambda flag: 1),
+    "bss without its size": header(bss=lambda size: 0),
+    "an odd size of bss": header(bss=lambda size: size + 1),
+    "an entry point in an object": header(entry=lambda entry: 2),
 }
 
 # what else may be meant, by kinds of mistakes that are not found in each object

@@ -1,21 +1,15 @@
-"""Shows what v7 is: a session, line by line with its answers, and a link of two objects with its bytes.
+"""Shows what v7 is: a session, line by line with its answers, and a link of two objects.
 
 tier: check, 2 seconds; programs: v7; for: examples
 
 The session is examples/session.txt, whose answers have to be those of examples/answers.txt; the program has to be examples/ab.out.
 """
 import os
-import struct
 import subprocess
 import sys
 
 from tests.lib.files import read_bytes, room
 from tests.lib.programs import program
-
-# the words of the header, as docs/FORMAT.md has them
-HEADER = ["magic number 0407", "bytes of text", "bytes of data", "bytes of bss", "bytes of symbols", "entry point", "not used", "1: no relocation"]
-# the rest of ab.out, word by word
-CONTENTS = ["mov $6,r0: a.o loads the address of its data,", "which the link has made 6", "rts pc, of b.o", "the word of data"]
 
 
 def session():
@@ -36,14 +30,6 @@ def shell(*words):
     return subprocess.run([program("v7"), *words], check=False).returncode
 
 
-def meanings(program):
-    """Prints each word of a program, and what it means."""
-    words = struct.unpack(f"<{len(program) // 2}H", program)
-    print(f"\nThe {len(program)} bytes of program are {len(words)} words, in octal:")
-    for place, (word, what) in enumerate(zip(words, HEADER + CONTENTS)):
-        print(f"  {word:06o}  {what}")
-
-
 def main():
     with room("examples"):
         os.mkdir("../build")
@@ -51,7 +37,6 @@ def main():
             sys.exit("the answers are not those of examples/answers.txt")
         status = shell("ld", "-s", "-o", "program", "a.o", "b.o") or shell("size", "program")
         linked = read_bytes("program")
-        meanings(linked)
         if status or linked != read_bytes("ab.out"):
             sys.exit("the program is not examples/ab.out")
 

@@ -1,28 +1,23 @@
 """Calls each program, and each call of libv7, with the largest input of each kind, and expects an answer.
 
-A contract cannot say that memory is found, so a body that answers `no memory` from some size on is proved. Here it fails. What is
-expected is computed from the inputs: links, lists and sessions by tests/oracles/model.py, instructions by tests/oracles/disassembly.py, notes by
-tests/oracles/notes.py, and the rest below.
+A contract cannot say that memory is found, so a body that answers `no memory` from some size on is proved. Here it fails. What the five
+tools and libv7 give is that of tests/oracles/model.py, instructions are those of tests/oracles/disassembly.py, remarks those of
+tests/oracles/notes.py; of rows, maps and lessons the words and the names are counted.
 
 usage: python3 -m tests.programs.largest [ROW ..]      all rows of the table, or these: 'v7-explain -m, objects'
 tier: check, 120 seconds; programs: v7 v7-explain v7-object v7-from-gnu v7-lesson libv7.so; for: crates/suspicions crates/link_maps crates/map_texts crates/library_calls
 """
 import dataclasses
-import itertools
 import multiprocessing
 import os
 import re
-import struct
 import sys
 
-from tests.lib.compare import Differs, notices, same
+from tests.lib.compare import notices, same
 from tests.lib.files import read_bytes, room, write
 from tests.lib.objects import gnu_named, pack
 from tests.lib.programs import program, ran, v7
-from tests.oracles import agree
-from tests.oracles import map as maps
-from tests.oracles import model
-from tests.oracles import notes
+from tests.oracles import agree, model, notes
 from tests.oracles.disassembly import NOP, File, in_listing, without_notes
 
 WORDS = model.SEGMENT_LIMIT // 2
@@ -33,6 +28,8 @@ FORCED = [f"-u_f{number}" for number in range(model.FORCED_LIMIT)]
 RETURN = 0o207
 BAD_KIND, BAD_NUMBER = 0o12, 0o10 + 16 * 4000
 SECONDS = 300
+# the line of a name in a map
+NAME = re.compile(r"^(?:[0-7]{6}|      ) [A-Z] (.*)$", re.M)
 
 
 # --- inputs
@@ -105,9 +102,9 @@ def encoded(kind):
     return {f"{place}.o": file.encoded() for place, file in enumerate(KINDS[kind])}
 
 
-def merged(files):
+def merged(kind):
     """The files as the model has them."""
-    return model.Merged([model.read_object(file) for file in files], ())
+    return agree.merged_of(encoded(kind).values(), ())[0]
 
 
 # --- what is found
@@ -128,9 +125,9 @@ def written(files):
 def commands(paths):
     """What v7 does with files; the last command changes them."""
     script = [*(f"add {path}" for path in paths), "externals", "undefined", "link out", *["withdraw"] * (len(paths) + 1)]
+    # the model merges all objects again for each addition
     yield ["session", "-s"], "\n".join(script).encode()
-    # the model merges all objects again for each of them
-    for options in ([], ["-r"], ["-i"], ["-s"], ["-x"], ["-n"], FORCED) if len(paths) < 3 else (["-s"],):
+    for options in ([], ["-r"], ["-i"], ["-s"], ["-x"], ["-n"], FORCED):
         yield ["ld", *options, "-o", "out", *paths], b""
     for options in ([], ["-g"], ["-no"], ["-p"], ["-r"], ["-u"]) if len(paths) < 3 else ([], ["-no"]):
         yield ["nm", *options, *paths], b""
@@ -138,28 +135,17 @@ def commands(paths):
     yield ["strip", *paths], b""
 
 
-def longest(word, path):
-    """The longest line of a session with a path, which has empty names between its slashes."""
-    start = f"{word} ."
-    return start + (model.LINE_LIMIT - len(start) - len(path)) * "/" + path
-
-
-def played(files, done):
-    """Each command does what the model does."""
-    difference = agree.compare(program("v7"), agree.Case(files, done))[2]
-    if difference:
-        raise Differs(f"{' '.join(difference[1][:3])}: {'; '.join(difference[0])}")
-
-
 def by_v7(kind):
+    """Each command does what the model does."""
     files = encoded(kind)
-    played(files, list(commands(list(files))))
+    agree.compare(agree.Case(files, list(commands(list(files)))), os.getcwd())
 
 
 def longest_lines(kind):
-    """Lines of the most bytes."""
-    script = [longest("add", "0.o"), "withdraw", longest("add", "0.o"), longest("link", "out")]
-    played(encoded(kind), [(["session"], "\n".join(script).encode())])
+    """Lines of the most bytes, with empty names between slashes."""
+    lines = ["add 0.o", "withdraw", "add 0.o", "link out"]
+    script = [line.replace(" ", " ." + (model.LINE_LIMIT - len(line) - 1) * "/") for line in lines]
+    agree.compare(agree.Case(encoded(kind), [(["session"], "\n".join(script).encode())]), os.getcwd())
 
 
 # --- v7-explain and v7-object
@@ -245,55 +231,17 @@ def shown(kind):
         same("status", status, int(kind.startswith("bad")))
 
 
-def rows(words, start, letter, labels):
-    """Words in rows of eight, as `-s` and `-x` show them, with the labels of each."""
-    def at(place):
-        return f"{place % 65536:06o}" if letter == "s" else f"{place % 65536:04x}"
-
-    def line(row):
-        numbers = [f" {word:06o}" if letter == "s" else f" {word % 256:02x} {word // 256:02x}" for word in row]
-        text = b"".join(struct.pack("<H", word) for word in row)
-        shown_text = "".join(chr(byte) if 32 <= byte < 127 else "." for byte in text)
-        return f"{''.join(numbers):{56 if letter == 's' else 48}}  {shown_text}"
-
-    shown_rows, labelled = [], 0
-    for place in range(0, len(words), 8):
-        row = tuple(words[place:place + 8])
-        before = labels((start + 2 * place) % 65536, len(row))
-        labelled += bool(before)
-        shown_rows.append((labelled, row, before))
-    for (_, row), alike in itertools.groupby(shown_rows, lambda shown_row: shown_row[:2]):
-        first, *others = alike
-        more = len(others)
-        yield from first[2]
-        yield f"{at(start)} {line(row)}"
-        if more == 1:
-            yield f"/ {at(start + 16)}: the row before, once"
-        elif more:
-            yield f"/ {at(start + 16)} to {at(start + 16 * more)}: the row before, {more} times"
-        start += 16 * (more + 1)
-
-
-def dumped(data, symbols, letter):
-    """The lines of a file in a dump, without its notes, with the labels of these symbols."""
-    file = notes.File(data)
-    start = {0o410: (file.text + 8191) // 8192 * 8192, 0o411: 0}.get(file.magic, file.text)
-    for name, of, size, begin, place in (("text", 2, file.text, 0, 16), ("data", 3, file.data_size, start, file.data_at)):
-        yield f"/ {name}: {size} bytes from {begin % 65536:0{6 if letter == 's' else 4}{'o' if letter == 's' else 'x'}}"
-        yield from rows(struct.unpack_from(f"<{size // 2}H", data, place), begin, letter, lambda at, count: symbols.labels(at, count, of))
-        yield from symbols.labels((begin + size) % 65536, 0, of)
-    yield from symbols.labels((start + file.data_size) % 65536, 32768, 4)
-
-
 def shown_in_rows(kind):
-    """Text and data of each file in rows."""
-    files = encoded(kind)
-    for letter in "sx":
-        status, text, errors = answer("v7-explain", f"-{letter}", *written(files))
-        same("errors", errors, "")
-        lines = [line for line in text.split("\n")[:-1] if not re.match(r"/ (\d+\.o: 0|an? |wrong: )", line)]
-        same(f"rows of -{letter}", lines, [line for data, file in zip(files.values(), KINDS[kind]) for line in dumped(data, file, letter)])
-        same("status", status, int(kind.startswith("bad")))
+    """Text and data of each file in rows have all words, those of rows that are alike too, and all labels."""
+    labels = sum(of & 0o37 in (2, 3, 4) for file in KINDS[kind] for _, of, _ in file.symbols)
+    words = sum(len(file.words) + len(file.data) for file in KINDS[kind])
+    for option, digits, end, columns in ("-s", 6, 63, 1), ("-x", 4, 53, 2):
+        status, text, errors = answer("v7-explain", option, *written(encoded(kind)))
+        same(f"{option}", (status, errors), (int(kind.startswith("bad")), ""))
+        rows = re.findall(rf"^[0-9a-f]{{{digits}}}  .*$", text, re.M)
+        alike = re.findall(r"^/ .*: the row before, (?:once|(\d+) times)$", text, re.M)
+        same(f"words of {option}", sum(len(row[digits:end].split()) // columns for row in rows) + sum(8 * int(times or 1) for times in alike), words)
+        same(f"labels of {option}", len(re.findall(r"^n\d+:$", text, re.M)), labels)
 
 
 def inventoried(kind):
@@ -303,62 +251,31 @@ def inventoried(kind):
     same("answer", answer("v7-explain", "-l", *written(files)), (0, "".join(lines), ""))
 
 
-def linked(files, letters):
-    """The link of files, or why it is refused."""
-    try:
-        return model.Link(merged(files), model.Arguments(set(letters), {}, [])), None
-    except model.Refused as refused:
-        return None, str(refused)
-
-
 def mapped(kind):
     """The map has each object, each external, and each word that refers to one; with -y, each external that is asked for."""
-    files = encoded(kind)
-    together, paths = merged(files.values()), written(files)
+    together, paths = merged(kind), written(encoded(kind))
     places = sum(reloc & 0o16 == 0o10 for file in KINDS[kind] for reloc in file.relocation + file.data_relocation)
     for letters in "", "r", "i", "s":
         status, text, errors = answer("v7-explain", "-m", *(f"-{letter}" for letter in letters), *paths)
-        link, fault = linked(files.values(), letters)
-        same(f"-m {letters}", (status, errors), (int(link is None or bool(link.report)), ""))
-        found = maps.parts(text)
-        said = f"refused, {fault}" if fault else f"made, with {'something' if link.report else 'nothing'} to report"
-        same(f"-m {letters}", found[""][0], f"Link of {len(files)} object{'s' if len(files) > 1 else ''}: {said}")
-        same(f"-m {letters}, objects", [line.split()[-1] for line in found["Objects"][1:]], paths)
-        names = maps.names_in(found.get("Externals", []))
-        same(f"-m {letters}, externals", list(names), [in_listing(name) for name in sorted(together.externals)])
-        words = sum(len(lines) for _, _, places in names.values() for lines in places.values())
-        same(f"-m {letters}, words", words, places)
+        lines, *_ = agree.by_model(together, model.Arguments(set(letters), {}, []))
+        fault = lines[0] if isinstance(lines[0], str) else ""
+        same(f"-m {letters}", (status, errors), (1 if fault else lines[0], ""))
+        same(f"-m {letters}", fault in text.split("\n")[0], True)
+        same(f"-m {letters}, objects", re.findall(r"^(?:  [0-7]+ +\d+){3}  (\d+\.o)$", text, re.M), paths)
+        externals = text.partition("\nExternals\n")[2]
+        same(f"-m {letters}, externals", NAME.findall(externals), [*map(in_listing, sorted(together.externals))])
+        same(f"-m {letters}, words", len(re.findall(r"^ {16}(?:text|data) ", externals, re.M)), places)
     asked = sorted(name for name in together.externals if name.isascii())[::4]
     status, text, errors = answer("v7-explain", "-m", *(word for name in [b"_absent", *asked] for word in ("-y", name)), *paths)
-    same("-m -y", (status, errors), (1, ""))
-    lines = maps.parts(text)["Externals"]
-    same("-m -y, an absent name", lines[-1], "  _absent: not mentioned")
-    same("-m -y, externals", list(maps.names_in(lines[:-1])), [in_listing(name) for name in asked])
-
-
-def object_made(kind):
-    """A listing that is written here makes the file."""
-    (file,), (data,) = KINDS[kind], encoded(kind).values()
-    start = {model.PURE: -(-2 * len(file.words) // model.PAGE) * model.PAGE, model.SPLIT: 0}.get(file.magic, 2 * len(file.words))
-    sections = [(0, file.words, file.relocation), (start, file.data, file.data_relocation)]
-    lines = [f"magic {file.magic:o}", f"flag {int(file.relocation is None)}"]
-    for title, (start, words, relocs) in zip(("text", "data"), sections):
-        last = ["" if relocs is None else f" {reloc:o}" for reloc in relocs or words]
-        lines += [title, *(f"{(start + 2 * place) % 65536:o} {word:o}{last[place]}" for place, word in enumerate(words))]
-    lines += [f"bss {file.bss:o}", "symbols", "/" + 100000 * " remark"]
-    for number, (name, of, value) in enumerate(file.symbols):
-        lines.append(f"{number:o} {in_listing(name)} {of:o} {value:o}")
-    written({"listing": "\n".join(lines).encode()})
-    same("answer", answer("v7-object", "listing", "made"), (0, "", ""))
-    same("the file", read_bytes("made"), data)
+    same("-m -y", (status, errors, text.endswith("\n  _absent: not mentioned\n")), (1, "", True))
+    same("-m -y, externals", NAME.findall(text), [*map(in_listing, asked)])
 
 
 # --- v7-lesson
 
 def taught(kind):
     """The last addition, with each word and each name, and how many marks it leaves; and nothing after all are withdrawn."""
-    files = encoded(kind)
-    together, paths = merged(files.values()), written(files)
+    together, paths = merged(kind), written(encoded(kind))
     status, text, errors = answer("v7-lesson", "-n", str(len(paths)), *paths)
     same("status", (status, errors), (0, ""))
     lines = text.split("\n")[:-1]
@@ -488,82 +405,43 @@ def taken_apart(kind):
 def bad(kind):
     """The fault of the first word."""
     (data,) = encoded(kind).values()
-    wanted = 23 if kind == "bad relocation" else 24
-    for call in v7.check, v7.take_apart, lambda data: v7.link([data]), lambda data: v7.Session([data]):
-        try:
-            call(data)
-            same("an answer", None, wanted)
-        except v7.Fault as fault:
-            same("the fault", (fault.fault, fault.word), (wanted, 0))
+    wanted = "bad relocation" if kind == "bad relocation" else "bad symbol number"
+    faults = agree.each_call(lambda: v7.check(data), lambda: v7.take_apart(data), lambda: v7.link([data]), lambda: v7.Session([data]))
+    same("the faults", faults, [(f"{wanted} at word 0", 0)] * 4)
 
 
 def linked_by_call(kind):
     """The links of each call are those of the model."""
-    objects = list(encoded(kind).values())
-    together = merged(objects)
+    objects, together = list(encoded(kind).values()), merged(kind)
     for letters in "", "r", "i", "s":
-        options = agree.options_of(model.Arguments(set(letters), {}, []))
-        for call in v7.link, v7.link_findings:
-            same(f"{call.__name__} {letters}", given(lambda: call(objects, options)), wanted(together, letters))
+        arguments = model.Arguments(set(letters), {}, [])
+        options, wanted = agree.options_of(arguments), agree.by_model(together, arguments)
+        same(f"-{letters}", agree.by_library(v7, objects, options), wanted)
         found = v7.link_map(objects, options)
-        expected = wanted(together, letters)
-        same(f"link_map {letters}", (v7.FAULTS[found.fault] if found.fault else found.status, len(found.objects)),
-              (expected if found.fault else expected[0], len(objects)))
-        same(f"link_places {letters}", placed(objects, options), expected if isinstance(expected, str) else expected[2:])
+        same(f"link_map -{letters}", (v7.FAULTS[found.fault] if found.fault else found.status, len(found.objects)), (wanted[0][0], len(objects)))
     if len(together.externals) < NAMES:
-        names = [f"_f{number}" for number in range(model.FORCED_LIMIT)]
-        with_names = model.Merged(together.objects, [name.encode() for name in names])
-        same("forced names", given(lambda: v7.link(objects, forced=names)), wanted(with_names, ""))
-
-
-def placed(objects, options):
-    """How many names a report has that are multiply defined and undefined, each with its objects, or the text of the fault."""
-    try:
-        found = v7.link_places(objects, options)
-    except v7.Fault as fault:
-        return v7.FAULTS[fault.fault]
-    return (sum(row.kind == v7.MULTIPLY_DEFINED and row.first is not None and row.first <= row.further for row in found),
-            sum(row.kind == v7.UNDEFINED_NAME and row.first is not None and row.further is None for row in found))
-
-
-def given(call):
-    """The status, the file, and how many lines or names a report has, or the text of the fault."""
-    try:
-        status, file, report = call()
-    except v7.Fault as fault:
-        return v7.FAULTS[fault.fault]
-    if isinstance(report, v7.Findings):
-        return status, file, len(report.multiples), len(report.undefined)
-    return status, file, report.count(": Multiply defined\n"), len(report.partition("Undefined:\n")[2].split())
-
-
-def wanted(merged, letters):
-    """The same by the model."""
-    try:
-        link = model.Link(merged, model.Arguments(set(letters), {}, []))
-    except model.Refused as refused:
-        return str(refused)
-    undefined = [] if letters == "r" else merged.undefined()
-    return int(bool(link.report)), model.write_file(link.file), len(merged.multiples), len(undefined)
+        forced = tuple(f"_f{number}".encode() for number in range(model.FORCED_LIMIT))
+        arguments = model.Arguments(set(), {}, [], None, forced)
+        wanted = agree.by_model(model.Merged(together.objects, forced), arguments)
+        same("forced names", agree.by_library(v7, objects, 0, **agree.asked_of(arguments)), wanted)
 
 
 def edited(kind):
     """All objects are added, and then withdrawn until there is nothing to withdraw."""
-    objects = list(encoded(kind).values())
+    objects, arguments = list(encoded(kind).values()), model.Arguments(set(), {}, [])
     with v7.Session(objects) as session:
-        same("what is there", given(session.link), wanted(merged(objects), ""))
+        same("what is there", agree.by_library(session), agree.by_model(merged(kind), arguments))
         for _ in objects:
             session.withdraw()
-        same("what is left", tuple(session.link()), (0, wanted(merged([]), "")[1], ""))
-        same("nothing to withdraw", given(session.withdraw), v7.FAULTS[35])
+        same("what is left", agree.by_library(session), agree.by_model(model.Merged([], ()), arguments))
+        same("nothing to withdraw", agree.each_call(session.withdraw), [(v7.FAULTS[35], 0)])
 
 
 def known(kind):
     """What a session has of the objects, as a dict and as lines, and its link."""
-    objects = list(encoded(kind).values())
-    together, session = merged(objects), v7.Session(objects)
+    together, session = merged(kind), v7.Session(list(encoded(kind).values()))
     state = session.state()
-    same("objects", state["objects"], len(objects))
+    same("objects", state["objects"], len(KINDS[kind]))
     same("text", [word["offset"] for word in state["text"]], list(range(0, together.sizes[model.TEXT], 2)))
     same("data", [word["offset"] for word in state["data"]], list(range(0, together.sizes[model.DATA], 2)))
     same("names", [row["name"] for row in state["externals"]], [name.decode() for name in together.externals])
@@ -571,8 +449,7 @@ def known(kind):
     same("marks", len(state["marks"]), MARKS.get(kind, 0))
     count = sum(len(state[part]) for part in ("text", "data", "externals", "multiples", "marks")) + bool(together.sizes[model.BSS])
     same("lines", session.text().count("\n"), count)
-    for call in session.link, session.link_findings:
-        same("the link", given(lambda: call(v7.STRIP | v7.SPLIT)), wanted(together, "si"))
+    same("the link", agree.by_library(session, v7.STRIP | v7.SPLIT), agree.by_model(together, model.Arguments({"s", "i"}, {}, [])))
 
 
 def words_shown(count):
@@ -594,7 +471,6 @@ TABLE = [
     ("v7-explain -l", inventoried, [*KINDS]),
     ("v7-explain -s", shown_in_rows, [*KINDS]),
     ("v7-explain -m", mapped, GOOD),
-    ("v7-object", object_made, ALONE),
     ("v7-lesson", taught, GOOD),
     ("v7-from-gnu", converted, [*GNU_FILES]),
     ("v7-from-gnu -o", converted_together, [*GNU_LISTS]),

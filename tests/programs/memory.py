@@ -1,8 +1,8 @@
-"""Refuses one request for memory after another to each program, alone and with all after it, and to each call of libv7, and judges what
-comes of it.
+"""Refuses one request for memory after another to each program, alone and with all after it, and judges what comes of it. Of the calls of
+libv7 tests/libv7/c/calls.c does so.
 
-usage: python3 -m tests.programs.memory [CALL ..]      all calls of the table, or these: 'v7 nm', libv7
-tier: check, 110 seconds; programs: v7 v7-explain v7-object v7-from-gnu v7-lesson libv7.so; for: crates/surroundings tests/lib/watch.c
+usage: python3 -m tests.programs.memory [CALL ..]      all calls of the table, or these: 'v7 nm'
+tier: check, 90 seconds; programs: v7 v7-explain v7-object v7-from-gnu v7-lesson; for: crates/surroundings tests/lib/watch.c
 
 A call is run as it is, and then with its first request refused, with its second, and so on, until a run makes fewer requests; and with
 each of them and all after it. For each call a line has their number, and how many of the runs came out as if nothing had been refused. In
@@ -14,10 +14,7 @@ any other run the answer has to be `no memory`, in its place:
   there is no memory for the line itself, the session ends with the fault, so with all later requests refused it ends at the next path.
   What came before it is done.
 - A later request is not refused at an earlier place.
-
-A call of libv7 whose request is refused has to answer `no memory`, or as if nothing had been refused; and if it is made again, as that.
 """
-import ctypes
 import os
 import re
 import subprocess
@@ -29,12 +26,11 @@ from tests.cases.case_files import sample
 from tests.cases.cases import snapshot
 from tests.lib.compare import Differs, notices, same
 from tests.lib.files import TOP, read_bytes, write
-from tests.lib.programs import BUILD, program, v7
-from tests.lib.watching import Watch, compiled
+from tests.lib.programs import program
+from tests.lib.watching import Watch
 
 SECONDS = 60
 NO_MEMORY = b"no memory\n"
-FAULT = 50
 # the line of the fault, of a program that says where it was
 FAULTS = {"v7-lesson": r"v7-lesson: (.+: )?no memory\n"}
 
@@ -74,7 +70,6 @@ def samples(*names):
     return {name: sample(0, name) for name in names}
 
 
-MAIN, TWICE, COUNT, COMMON = map(example, ("main.o", "twice.o", "count.o", "k.o"))
 OBJECTS = examples("main.o", "twice.o", "count.o")
 COMMONS = samples(b"k.o", b"c.o", b"d.o")
 GNU = examples("main.gnu", "twice.gnu", "squares.gnu")
@@ -245,106 +240,8 @@ def try_call(call):
             return told(call.name, 0, 0, [str(wrong)])
 
 
-# --- libv7
-
-# how many steps of a session were made again
-again = 0
-
-
-def once(step):
-    """What a step of a session answers, made again if there was no memory for it."""
-    global again
-    try:
-        return step()
-    except v7.Fault as fault:
-        if fault.fault != FAULT:
-            raise
-        again += 1
-        return step()
-
-
-def kept_session():
-    """The answers of a session that goes on."""
-    edited = v7.Session([MAIN], forced=["_z"])
-    steps = [lambda: edited.add(COMMON), edited.text, edited.withdraw, lambda: edited.add(COUNT), edited.link, edited.link_findings, edited.map,
-             lambda: edited.add(TWICE), edited.withdraw, edited.state, edited.link_places]
-    return [once(step) for step in steps]
-
-
-def library_calls():
-    """Calls of libv7, by their names."""
-    parts, listing = v7.take_apart(MAIN), v7.listing(MAIN)
-    return {
-        "v7_run, a link": lambda: v7.link([MAIN, TWICE, COUNT], v7.RELOCATABLE | v7.FORCE_COMMONS, "_main", ["_z"]),
-        "v7_run, findings": lambda: v7.link_findings([MAIN, MAIN, COMMON], 0, "_count"),
-        "v7_run, places": lambda: v7.link_places([MAIN, MAIN, COMMON], 0, "_count"),
-        "a session that is kept": kept_session,
-        "v7_run with the map": lambda: v7.link_map([MAIN, TWICE, COMMON], 0, "_main", ["_z"]),
-        "v7_check": lambda: v7.check(MAIN),
-        "v7_read": lambda: v7.read(MAIN),
-        "v7_make": lambda: v7.make(*parts),
-        "v7_take_apart": lambda: v7.take_apart(MAIN),
-        "v7_nm": lambda: v7.nm(MAIN),
-        "v7_size": lambda: v7.size(MAIN),
-        "v7_strip": lambda: v7.strip(MAIN),
-        "v7_disassemble": lambda: v7.disassemble(MAIN),
-        "v7_disassemble_words": lambda: v7.disassemble_words([word for word, _ in parts.text]),
-        "v7_list": lambda: v7.listing(MAIN),
-        "v7_from_listing": lambda: v7.from_listing(listing),
-        "v7_from_gnu": lambda: v7.from_gnu(example("squares.gnu"), v7.DROP_UNUSED),
-        "v7_remarks": lambda: v7.remarks(COMMON + b"more"),
-    }
-
-
-def answer(call):
-    """What a call answers, or the number of its fault."""
-    try:
-        return call()
-    except v7.Fault as fault:
-        return fault.fault
-
-
-def refuse_to_call(watch, call):
-    """Refuses one request after another: how many there are, how many were not needed, and what was wrong."""
-    place, whole = ctypes.cast(v7._LIBRARY.v7_run, ctypes.c_void_p), call()
-    none = ctypes.create_string_buffer(b"")
-    number, same, faults, before = 1, 0, [], again
-    while True:
-        plan = ctypes.create_string_buffer(b"refuse\nmemory %d\n\n" % number)
-        watch.watch_library(place, plan)
-        came = answer(call)
-        if watch.watch_library(place, none) < number:
-            break
-        same += came == whole
-        if came not in (FAULT, whole):
-            faults.append(f"request {number}: {came!r:.400}")
-        if answer(call) != whole:
-            faults.append(f"request {number}: another answer to the next call")
-        number += 1
-    return number - 1, same - (again - before), faults
-
-
-def refuse_in_library(path):
-    """Refuses the requests of libv7, with WATCH.SO loaded before Python: how much is wrong."""
-    watch, faults = ctypes.CDLL(path), 0
-    watch.watch_library.restype = ctypes.c_size_t
-    for name, call in library_calls().items():
-        faults += told(name, *refuse_to_call(watch, call))
-    return faults
-
-
-def try_library():
-    """The same in another Python, before which WATCH.SO is loaded."""
-    environment = {**os.environ, "LD_PRELOAD": compiled(), "LIBV7": os.path.join(BUILD, "libv7.so")}
-    return subprocess.run([sys.executable, "-m", "tests.programs.memory", "-l", compiled()], env=environment, check=False).returncode
-
-
 def main(*names):
-    if names[:1] == ("-l",):
-        return min(refuse_in_library(names[1]), 255)
     faults = sum(try_call(call) for call in calls() if not names or call.name in names)
-    if not names or "libv7" in names:
-        faults += try_library()
     print(f"requests for memory refused one after another: {faults or 'no'} faults")
     return 1 if faults else 0
 

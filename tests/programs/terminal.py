@@ -65,7 +65,9 @@ BESIDE = {
         ("a.o --list", "an option has one letter, but for --help and --version"), ("a.o -o", "-o needs the next argument as its value"),
         ("-o a -o b c.o", "-o takes one value"), ("-o a b.o c.o", "-o is for one file"), ("-dc a.o", "-d and -c exclude each other"),
         ("-R a.o", "-R needs -l"), ("a.o -m b.o", "-m has to be the first argument"),
-        ("-m -z a.o", "ld does not take the arguments after -m")],
+        ("-m -z a.o", "ld does not take the arguments after -m"), ("a.o -t b.o -x", "-t and -x exclude each other"),
+        ("-c -o b a.o", "-c and -o exclude each other"), ("-y f a.o", "-y needs -m"), ("-o -d a.o", "-o needs the next argument as its value"),
+        ("-c", "it needs a file"), ("-l -R -x a.o", "-l and -x exclude each other")],
     "v7-object": [
         ("", "it takes two files"), ("a", "it takes two files"), ("a b c", "it takes two files"), ("-- -x", "it takes two files"),
         ("-", "it takes two files"), ("-x a b", "there is no option -x"), ("a b -yx", "there is no option -y"),
@@ -81,17 +83,9 @@ BESIDE = {
         ("a.o --step", "an option has one letter, but for --help and --version"), ("a.o -n", "-n needs the next argument as its value"),
         ("-n 0 a.o", "-n needs a number from 1 on"), ("-n x a.o", "-n needs a number from 1 on"),
         ("-n 1 -n 1 a.o", "-n takes one value"), ("-q a b.o", "-q needs -p"), ("-p a b.o -c", "-p and -c exclude each other"),
-        ("-n 1 a.o -p b", "-n and -p exclude each other")],
+        ("-n 1 a.o -p b", "-n and -p exclude each other"), ("-p", "-p needs the next argument as its value"),
+        ("-p a -q", "-q needs the next argument as its value"), ("-p a -q b", "it needs a file")],
 }
-# commands that are the same: options may follow paths, and be joined
-SAME = [
-    ("v7 nm -g main.o", "v7 nm main.o -g"), ("v7 ld -x -X main.o twice.o count.o", "v7 ld main.o twice.o count.o -xX"),
-    ("v7-explain -d main.o", "v7-explain main.o -d"), ("v7-explain -c -t main.o k.o", "v7-explain main.o -tc k.o"),
-    ("v7-explain -l -R .", "v7-explain . -Rl"), ("v7-explain -o copy.lst main.o", "v7-explain main.o -o copy.lst"),
-    ("v7-object -- main.lst copy.o", "v7-object main.lst copy.o --"),
-    ("v7-from-gnu -S -q squares.gnu copy.o", "v7-from-gnu squares.gnu copy.o -Sq"),
-    ("v7-lesson -c -n 2 main.o twice.o", "v7-lesson main.o twice.o -cn 2"),
-]
 # arguments that ask for help
 HELP = [([], None), (["help"], None), (["help", "help"], None), (["--help"], None), (["ld", "-r", "--help"], "ld")]
 HELP += [(words, tool) for tool in TOOLS for words in ([tool, "--help"], ["help", tool])]
@@ -267,15 +261,6 @@ def check_beside():
     return sorted(examples)
 
 
-def check_orders():
-    """Commands that are the same write the same."""
-    for command, other in SAME:
-        name, *words = command.split()
-        done = ran(program(name), *words)
-        holds(f"{command}: status", done[0] < 2)
-        same(f"{other}", ran(program(name), *other.split()[1:]), done)
-
-
 def run_example(command):
     """An example of a page ends with 0, and reports nothing."""
     path = f"{os.path.dirname(program('v7'))}:{os.environ['PATH']}"
@@ -295,7 +280,6 @@ def check_help():
     same("--version", at_terminal(["--version"]), ("", f"v7 {version}\n", 0))
     for command in [*sorted(examples), *check_beside()]:
         run_example(command)
-    check_orders()
     for words in [words for words, _ in HELP] + [["--version"]]:
         same(f"{words}: through pipes", through_pipes(words), ("v7: usage\n", "", 2))
     return len(HELP) + 1 + 3 * len(BESIDE)
