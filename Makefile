@@ -173,11 +173,10 @@ check:
 check-all:
 	@$(MAKE) check NAMES=all MORE="'python3 -m tests all' 'make planted'"
 
-# those of the crates that have changed since theirs were refused, as tests/wrong_bodies/wrong-bodies.seen tells, or all, and the script
-# itself, with harmless edits planted among wrong ones; or those of the crates NAMES. After MINUTES those left are named, and not tried
+# those of the crates that have changed since theirs were refused, as tests/wrong_bodies/wrong-bodies.seen tells, or all, or those of the
+# crates NAMES. After MINUTES those left are named, and not tried
 check-wrong-bodies:
 	python3 -m tests.wrong_bodies.wrong_bodies $(or $(filter-out all,$(NAMES)),$(if $(NAMES),,-c $(if $(MINUTES),-m $(MINUTES))))
-	$(if $(filter-out all,$(NAMES)),,python3 -m tests.wrong_bodies.wrong_bodies --try)
 
 # the bugs of tests/cases/PLANTED.md, each alone, as many side by side as there are processors
 planted:

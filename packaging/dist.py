@@ -16,7 +16,6 @@ import re
 import shutil
 import subprocess
 import sys
-import tarfile
 import tempfile
 from email.utils import formatdate
 from typing import NamedTuple
@@ -231,18 +230,8 @@ def settle(root, date):
 
 def pack(release, root, file):
     """The tar of a folder, packed by gzip."""
-    def plain(item):
-        item.uid = item.gid = 0
-        item.uname = item.gname = "root"
-        return item
-
     settle(f"{root}/{release.name}", release.date)
-    with open(file, "wb") as raw, gzip.GzipFile("", "wb", 9, raw, mtime=release.date) as packed:
-        with tarfile.open(fileobj=packed, mode="w", format=tarfile.GNU_FORMAT) as tar:
-            tar.add(f"{root}/{release.name}", release.name, filter=plain, recursive=False)
-            for path in sorted(glob.glob(f"{root}/{release.name}/**", recursive=True)):
-                if path.rstrip("/") != f"{root}/{release.name}":
-                    tar.add(path, os.path.relpath(path, root), filter=plain, recursive=False)
+    run("tar", "-C", root, "--sort=name", "--format=gnu", "--owner=root:0", "--group=root:0", "-I", "gzip -9n", "-cf", os.path.abspath(file), release.name)
 
 
 def squeeze(path):

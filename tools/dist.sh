@@ -143,14 +143,11 @@ own_readme() {
     echo "README.md of the release: $(grep -c '^|' "$page") rows of paths and links"
 }
 
-# no link of what is installed is dead, and completion is that of the programs
+# no link of what is installed is dead
 web() {
     for folder in "$debian${share%/share}/README.md" "$debian$share/doc/v7" "$debian$share/doc/libv7-dev"; do
         [ ! -e "$folder" ] || python3 -m tests.programs.installed look "$folder" || fail "a link of the release is dead"
     done
-    python3 packaging/completion.py "$work/completion" && cmp "$work/completion/v7.bash" "$debian$share/bash-completion/completions/v7-explain" &&
-        find "$debian$share/zsh" -name _v7 -exec cmp "$work/completion/_v7" {} + || fail "the completion is another one"
-    python3 -m tests.programs.completion "$work/completion" || fail "completion fails"
 }
 
 # the processors that the README names: the programs have instructions of x86-64-v2, and none of a later level
@@ -185,26 +182,6 @@ manual() {
     # the folder has no Python
     python3 "$debian/tmp/manual/examples/asm.py" "$debian/tmp/manual/examples/squares.s" || fail "asm.py does not do"
     inside sh -euc 'cd /tmp/manual && sh tests/programs/manual.sh "$1/doc/v7/docs/TUTORIAL.md"' sh "$share" || fail "an example of the tutorial differs"
-}
-
-# a page of a teacher's own: three sources, which the assembler of the release takes outside, since Python is not there, and questions; a
-# wrong line of either is named
-lessons() {
-    rm -rf "$debian/tmp/own"
-    mkdir "$debian/tmp/own"
-    for source in menu stop room; do
-        cp "$debian$share/doc/v7/examples/menu/$source.s" "$debian/tmp/own"
-    done
-    python3 "$debian$share/doc/v7/examples/asm.py" "$debian"/tmp/own/*.s || fail "asm.py does not do"
-    printf 'lesson Mine\nadd menu.o\nask changes Which word changes?\nadd stop.o\nsay It is {data 2 = 14} now.\n' >"$debian/tmp/own/mine.txt"
-    printf 'lesson Mine\nadd menu.o\nsay It is at 2.\n' >"$debian/tmp/own/wrong.txt"
-    inside sh -euc 'cd /tmp/own && v7-lesson -p "$0/v7/page" -q mine.txt menu.o stop.o room.o >page.html && grep -q "<script" page.html' "$share" || fail "no page of three sources"
-    said=$(inside sh -c 'cd /tmp/own && v7-lesson -p "$0/v7/page" -q wrong.txt menu.o 2>&1' "$share")
-    [ "$said" = "v7-lesson: wrong.txt: line 3: a number is in no braces, and in no quotation" ] || fail "a wrong line: $said"
-    printf 'start:\tmov r0,r1\n\tjsx pc,_x\n' >"$debian/tmp/own/wrong.s"
-    said=$(cd "$debian/tmp/own" && python3 "$debian$share/doc/v7/examples/asm.py" wrong.s 2>&1)
-    [ "$said" = "wrong.s:2:2: there is no instruction jsx" ] || fail "a wrong line of a source: $said"
-    echo "a page of three sources and a file of questions"
 }
 
 # the cases, driven from outside: each program is a script that runs it in the folder
@@ -276,7 +253,6 @@ try_all() {
     processors
     first_link
     manual
-    lessons
     cases
     library
 }

@@ -1,8 +1,8 @@
 """Plays cases, docs/CASES.md, with the built programs, in real folders and through real pipes.
 
 usage: python3 -m tests.cases.cases [FILE ..]      plays these files, or all of tests/cases
-       python3 -m tests.cases.cases -s             compares the samples, and the data of stored runs, with examples/, and the names of cases
-       python3 -m tests.cases.cases -b             plays the bad cases of bad.words: each error must be the one that the table has
+       python3 -m tests.cases.cases -s             compares the samples, and the data of stored runs, with examples/
+       python3 -m tests.cases.cases -b             plays the wrong cases of data/false.words: each has to fail with the error of its first line
        python3 -m tests.cases.cases -p             plays all with the programs of a package: skips parts that watch a program, and states
 
 Parts with `refuse memory` are skipped too for a program that tools/compiling.py has made: a script starts it, and it has its own malloc.
@@ -14,9 +14,7 @@ tier: check, 120 seconds; programs: v7 v7-explain v7-object v7-from-gnu v7-lesso
 tier: check, 20 seconds; programs: v7 v7-explain v7-object v7-from-gnu v7-lesson library_uses; words: -b; for: tests/cases docs/CASES.md
 """
 import collections
-import contextlib
 import glob
-import io
 import os
 import re
 import struct
@@ -24,8 +22,7 @@ import subprocess
 import sys
 import tempfile
 
-from tests.lib.files import TOP, read, read_bytes, write
-from tests.cases import bad_words
+from tests.lib.files import TOP, read_bytes, write
 from tests.cases.case_files import SAMPLES, contents, make, sample, sample_path
 from tests.cases.case_format import Mistake, cases_in, encoded, read_case
 from tests.lib.compare import notices, same
@@ -349,48 +346,45 @@ class Run:
 
 
 def check_samples():
-    """The samples, and the data of stored runs, are those of examples, if these have such a file. Each case has a name of its own, and
-    is where it is played."""
+    """The samples, and the data of stored runs, are those of examples, if these have such a file."""
     names = {os.path.basename(path).replace(".lst", ".o") for path in glob.glob(os.path.join(SAMPLES, "*"))}
     found = {name: sample(0, name) for name in names if sample_path(name)}
     found.update((path, read_bytes(path)) for path in glob.glob(f"{TOP}/crates/*/data/*.[ogl]*"))
-    pairs = [(name, data, f"{TOP}/examples/{os.path.basename(name)}") for name, data in found.items()]
-    pairs = [(name, data, read_bytes(example)) for name, data, example in pairs if os.path.exists(example)]
-    stray = glob.glob(f"{TOP}/tests/*.case") + glob.glob(f"{TOP}/tests/cases/*.*st") + glob.glob(f"{TOP}/tests/cases/*.case")
-    names = [name for path in glob.glob(os.path.join(SAMPLES, "*.case")) for name in re.findall(r"^case (\S+)", read(path), re.M)]
-    notices(compare_samples, [(*pairs[0][:2], b"planted")], names, stray)
-    notices(compare_samples, pairs, [*names, names[0]], stray)
-    notices(compare_samples, pairs, names, ["planted"])
-    compare_samples(pairs, names, stray)
-    print(f"{len(pairs)} samples compared with examples/, and {len(names)} names of cases")
+    examples = {name: f"{TOP}/examples/{os.path.basename(name)}" for name in found}
+    known = {name: read_bytes(path) for name, path in examples.items() if os.path.exists(path)}
+    notices(compare_samples, {**found, next(iter(known)): b"planted"}, known)
+    compare_samples(found, known)
+    print(f"{len(known)} samples compared with examples/")
 
 
-def compare_samples(pairs, names, stray):
-    for row in pairs:
-        same(*row)
-    same("names of cases that are there twice", [name for name, count in collections.Counter(names).items() if count > 1], [])
-    same("cases that are not in tests/cases/data", stray, [])
+def compare_samples(found, known):
+    for name, data in known.items():
+        same(name, found[name], data)
 
 
-def played(file):
-    """The status of a run of a file, and the errors that it prints."""
-    with contextlib.redirect_stdout(io.StringIO()) as printed:
-        status = main([file])
-    return status, re.sub(r"^(ok|skipped|[0-9]+ cases) .*\n", "", printed.getvalue(), flags=re.M)
+def error_of(lines):
+    """The error of a case, or nothing."""
+    try:
+        for part in read_case(lines).parts:
+            play_part(part, files_of(part))
+    except Mistake as mistake:
+        return mistake.text.split("\n")[0]
+    return "none"
 
 
-def check_bad():
-    """Plays the bad cases: whether they fail a run, each with its own error."""
-    count, faults = bad_words.check(played)
-    print("".join(f"{fault}\n" for fault in faults) + f"{count} bad cases compared")
-    return not faults
+def check_false():
+    """Plays the wrong cases."""
+    cases = cases_in(os.path.join(SAMPLES, "false.words"))
+    for lines in cases:
+        same(f"false.words:{lines[0][0]}: the error", error_of(lines), lines[0][1][2:])
+    print(f"{len(cases)} wrong cases fail, each with its own error")
 
 
 def main(words):
     if words == ["-s"]:
         return check_samples()
     if words == ["-b"]:
-        return 0 if check_bad() else 1
+        return check_false()
     is_packaged = words[:1] == ["-p"]
     all_cases = Run(is_packaged)
     for name in words[is_packaged:] or sorted(glob.glob(os.path.relpath(os.path.join(SAMPLES, "*.case")))):

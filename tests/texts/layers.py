@@ -1,5 +1,5 @@
 """Draws the crates by the sections of crates.txt, each with its layer: a crate uses only crates of lower layers. Compares the picture with
-that of docs/ARCHITECTURE.md, and sees that the headings of docs/PROOFS.md begin with the sections of their crates.
+that of docs/ARCHITECTURE.md.
 
 usage: python3 -m tests.texts.layers            compares; status 1 if they differ
        python3 -m tests.texts.layers -p         prints the picture
@@ -9,7 +9,7 @@ import os
 import re
 import sys
 
-from tests.lib.compare import notices, same
+from tests.lib.compare import same
 from tests.lib.files import TOP, read
 from tests.lib.rattle import crates_in
 
@@ -42,30 +42,13 @@ def picture(parts):
     return ["    " + line.rstrip() for line in lines]
 
 
-def wrong_headings(parts, text):
-    """The headings of PROOFS that begin with other sections than those of the crates that they name."""
-    for heading, names in re.findall(r"^## ([\w ]+): .*?((?: \(.*\))?)$", text, re.M):
-        of_crates = {section for section, crates in parts.items() if {*crates} & {*re.findall(r"`(\w+)`", names)}}
-        named = {it[:1].lower() + it[1:] for it in heading.split(" and ")}
-        if not named <= {*parts} or of_crates - named:
-            yield heading
-
-
-def compare(parts, text):
-    """The picture is in a text, each crate in a section, and the sections are in the headings of PROOFS."""
-    same("docs/PROOFS.md: headings with other sections", [*wrong_headings(parts, read("docs/PROOFS.md"))], [])
-    same("crates of the sections", sorted(name for names in parts.values() for name in names), sorted(crates_in(TOP)))
-    shown = re.findall(r"\n\n((?:    \w[\w ]* \d .*\n(?:    .*\n)*)+)\n", text)
-    same(f"{PAGE}: the picture", "".join(shown).split("\n")[:-1], picture(parts))
-
-
 def main():
     parts = sections()
     if sys.argv[1:] == ["-p"]:
         return print("\n".join(picture(parts)))
-    notices(compare, {**parts, "tests": []}, read(PAGE))
-    notices(compare, parts, read(PAGE).replace("[v7]", "v7"))
-    compare(parts, read(PAGE))
+    same("crates of the sections", sorted(name for names in parts.values() for name in names), sorted(crates_in(TOP)))
+    shown = re.findall(r"\n\n((?:    \w[\w ]* \d .*\n(?:    .*\n)*)+)\n", read(PAGE))
+    same(f"{PAGE}: the picture; -p prints it", "".join(shown).split("\n")[:-1], picture(parts))
     print(f"{PAGE}: the picture has {len(crates_in(TOP))} crates in {len(parts)} sections")
 
 

@@ -1,14 +1,11 @@
-"""Compares the limits that the documents name with the constants of the code that enforce them. Where a constant, or the number in a
-document, is another one, the text of the document is not found. Each limit is changed once to see that this is noticed. The version of
-v7.h is that of the programs and packages. The version of Python in README is the one that the scripts need, as far as words that came
-with a version show.
+"""Compares the limits that the documents name with the constants of the code that enforce them, and the version of v7.h with that of the
+programs and packages. Where a constant, or the number in a document, is another one, the text of the document is not found.
 
 tier: text, 1 seconds; for: docs/LINK.md README.md
 """
-import glob
 import re
-import sys
 
+from tests.lib.compare import notices, same
 from tests.lib.files import read
 
 # the file and the name of each constant, and the texts that have its value, in place of {}
@@ -81,44 +78,27 @@ LIMITS = [
 # where the version is
 VERSIONS = {"crates/surroundings/src/shown.rt": 'VERSION: &str = "{}";', "packaging/python/v7.py": '__version__ = "{}"', "README.md": "version {}, ",
             "packaging/rust/Cargo.toml": '\nversion = "{}"', "packaging/rust/v7-sys/Cargo.toml": '\nversion = "{}"'}
-# words that came with a version of Python
-NEWER = {9: r"\.remove(?:prefix|suffix)\(|\bmath\.lcm\(|\bast\.unparse\(|[\"\']user[\"\']: |-> (?:list|dict|tuple|set)\[",
-         10: r"^ *match .*:$|\bstrict=|\bpairwise\(|\bbit_count\(", 11: r"\btomllib\b|\bStrEnum\b|\bExceptionGroup\b"}
 
 
 def value_of(path, name):
     """The value of a constant, which stands once in its file."""
     found = re.findall(rf"^(?:pub(?:\(crate\))? )?const {name}: \w+ = ([0-9_]+);", read(f"crates/{path}"), re.M)
-    return int(found[0]) if len(found) == 1 else None
+    same(f"crates/{path}: constants {name}", len(found), 1)
+    return f"{int(found[0]):,}"
 
 
-def missing(value, texts):
-    """The files that do not have a text with this value."""
-    return [page for page, text in texts.items() if text.format(f"{value:,}" if isinstance(value, int) else value) not in read(page)]
-
-
-def wrong_python():
-    """The faults of README's version of Python."""
-    scripts = [path for folder in ("tests", "tools", "packaging") for path in glob.glob(f"{folder}/**/*.py", recursive=True) if path != "tests/texts/limits.py"]
-    newest = max(version for version, words in NEWER.items() if any(re.search(words, read(path), re.M) for path in scripts))
-    return [] if f"Python 3.{newest} or later" in read("README.md") else [f"README.md: the scripts need Python 3.{newest}"]
+def compare(name, value, texts):
+    same(f"{name}: the documents without {value}", [(page, text) for page, text in texts.items() if text.format(value) not in read(page)], [])
 
 
 def main():
     version = re.search(r'^#define V7_VERSION "(.*)"', read("include/v7.h"), re.M)[1]
-    faults = wrong_python() + [f"{page}: not version {version}" for page in missing(version, VERSIONS)]
-    if missing(version + ".1", VERSIONS) != list(VERSIONS):
-        faults.append("another version is not noticed")
+    notices(compare, "the version", version + ".1", VERSIONS)
+    compare("the version", version, VERSIONS)
     for path, name, texts in LIMITS:
-        value = value_of(path, name)
-        if value is None:
-            faults.append(f"crates/{path}: not one constant {name}")
-            continue
-        faults += [f"{page}: not {value:,}, which {name} is: {texts[page]}" for page in missing(value, texts)]
-        if missing(value - 1, texts) != list(texts):
-            faults.append(f"another value of {name} is not noticed")
-    print("\n".join(faults) or f"{len(LIMITS)} limits are in the documents as in the code")
-    return 1 if faults else 0
+        compare(f"{name} of crates/{path}", value_of(path, name), texts)
+    print(f"{len(LIMITS)} limits are in the documents as in the code")
 
 
-sys.exit(main())
+if __name__ == "__main__":
+    main()

@@ -4,17 +4,13 @@ A promise is the contract of a public function, or what contracts see of a publi
 the imports. Each file that they lead to has to be in specs/ of its crate, not in a folder of INTERNAL there, and nothing in src/ or
 specs/ of a crate may import the internals of another.
 
-docs/PROOFS.md has by hand what each promise means, and whose contract it is: a function or a type of the crates of the heading, or
-of those that the cell names. The index, which -i prints, is made of that and the code. It has the file of each contract, the
-definitions that it cites, and how many lines it leads to. It has all files of definitions too, those of the theorem apart. The theorem
-is the first claim of PROOFS, which is followed definition by definition, with what a session does and the relation of linking. The
-function `link` is left out of claims, since `linking_law` ties it to the relation. The theorem is about sessions and links that were run;
-by which arguments, `call_law` says, and the claim of `Performs` counts that. Lines are those of definitions, without imports, comments
-and empty lines. For each law of links and commands `conformance` has an instance, and the law without a premise, which is false.
+The theorem is the first claim of PROOFS, which is followed definition by definition, with what a session does and the relation of linking.
+The function `link` is left out of claims, since `linking_law` ties it to the relation. The theorem is about sessions and links that were
+run; by which arguments, `call_law` says, and the claim of `Performs` counts that. Lines are those of definitions, without imports,
+comments and empty lines. Each function and type that a table of PROOFS names has to be in the code.
 
 usage: python3 -m tests.texts.trusted        compares
        python3 -m tests.texts.trusted -w     writes the numbers of PROOFS and TRUST
-       python3 -m tests.texts.trusted -i     prints the index
 tier: text, 6 seconds; for: docs/PROOFS.md docs/TRUST.md
 """
 import functools
@@ -25,8 +21,7 @@ import sys
 
 from tests.lib.compare import notices, same
 from tests.lib.files import read, write
-from tests.lib.rattle import definitions, functions, items
-from tests.texts.layers import sections
+from tests.lib.rattle import crates_in, definitions, functions, items
 
 PROOFS, TRUST = "docs/PROOFS.md", "docs/TRUST.md"
 # the laws that are the theorem: the first claim begins with what they cite
@@ -38,8 +33,6 @@ LEFT_OUT = {("link_out", "function.Link", "link")}
 READS_WORDS = "`Performs`"
 WORDS = ("crates/command_words/specs/", ["Calls", "LinkWords", "Tools"]), ("crates/tool_options/specs/", ["Flags", "ForcedNames"])
 WORDS_LINES = re.compile(r"\d+ of its lines say how arguments are read")
-# the crates whose laws have examples
-SHOWN = ["link_out", "link_laws", "laws"]
 # the files that a reader begins with, and the pages that say how many lines they have
 FIRST = ["aout_core/specs/Contents", "link_session/specs/Mentions", "link_laws/specs/relation/LinkedFrom"]
 FIRST_LINES = re.compile(r"files of `specs/`, \d+ lines")
@@ -51,16 +44,10 @@ IDS = [("command_words", "words"), ("command_words", "link_words"), ("instructio
        ("v7_object", "help"), ("v7_from_gnu", "help")]
 # crates whose definitions nobody has to trust: examples, tests and the lesson
 OTHERS = ["v7", "conformance", "v7_lesson", "library_uses", "device_tests"]
-LIBRARIES = [crate for crates in sections().values() for crate in crates if crate not in OTHERS]
+LIBRARIES = [crate for crate in crates_in(".") if crate not in OTHERS]
 IMPORT = re.compile(r"^ *(?:pub )?(?:ghost )?use Rattle\.(\w+)\.(specs|proofs)(?:\.([\w.]+?))?(?:\.\{([^}]*)\}|(?: as (\w+))?);?$")
 # in a cell of PROOFS a name: a function or a type, after the module or the type that it is of
-NAME = re.compile(r"`(?:(\w+)::)?(\w+)`")
-HEADER = """\
-# Index
-
-For each promise of docs/PROOFS.md: where its contract is, which definitions the contract cites, and how many lines of definitions it
-leads to, in all files. The second table has these files.
-"""
+NAME = re.compile(r"`(?:\w+::)*(\w+)`")
 faults = []
 
 
@@ -92,8 +79,8 @@ def exported(crate):
 
 @functools.lru_cache(None)
 def contracts(crate):
-    """The contracts of a crate: of each function, and of what contracts see of a type, the source, the module, the type or the trait,
-    the name, whether it is public, and each definition that it cites with where that is from."""
+    """The contracts of a crate: of each function, and of what contracts see of a type, the source, the name, whether it is public, and each
+    definition that it cites with where that is from."""
     found, (modules, names) = [], exported(crate)
     for path in sorted(glob.glob(f"crates/{crate}/src/**/*.rt", recursive=True)):
         module, text = path.split("/src/")[1][:-3], read(path)
@@ -107,7 +94,7 @@ def contracts(crate):
             for name, is_public, cited in [*heads, *((name, True, text) for name, text in seen)]:
                 is_given = is_open or (kind if is_impl else name) in given
                 words = sorted({*re.findall(r"\w+", cited)} & {*scope})
-                found.append((path, module, kind if is_impl or item[0].startswith(("pub trait", "trait")) else "", name, is_given and is_public, {word: scope[word] for word in words}))
+                found.append((path, name, is_given and is_public, {word: scope[word] for word in words}))
     return found
 
 
@@ -132,7 +119,7 @@ def trusted():
     """The files that the promises lead to."""
     reached, waiting = set(), []
     for crate in LIBRARIES:
-        for path, _, _, _, is_public, cited in contracts(crate):
+        for path, _, is_public, cited in contracts(crate):
             waiting += [(place, f"{path} cites {word}") for word, place in cited.items() if is_public]
     while waiting:
         (crate, folder, module, _), why = waiting.pop()
@@ -212,96 +199,28 @@ def claims(text):
 def cited_by_theorem():
     """The definitions that the laws of the theorem cite."""
     path, laws = THEOREM
-    return {word for it in contracts(path.split("/")[1]) if it[0] == path and it[3] in laws for word in it[5]}
-
-
-def unshown():
-    """The laws without an instance, or without a premise that is shown to be needed: a proof `LAW_says`, or one `LAW_needs` of a falsity."""
-    proofs = "\n".join(read(path) for path in sorted(glob.glob("crates/conformance/proofs/*.antt")))
-    shown = dict(re.findall(r"^(\w+) : ((?:.|\n(?! *unfolding|\1))*)", proofs, re.M))
-    for name in [it[3] for crate in SHOWN for it in contracts(crate) if it[3].endswith("_law")]:
-        for part, end in (("says", ""), ("needs", "→ ⊥")):
-            if not any(own.startswith(f"{name[:-4]}_{part}") and type_of.rstrip().endswith(end) for own, type_of in shown.items()):
-                yield f"crates/conformance: no proof {name[:-4]}_{part}.. for {name}"
-
-
-def promises(text):
-    """The contracts that the tables of PROOFS name: each with the line, and the crates where it may be."""
-    crates = []
-    for number, line in enumerate(text.split("\n"), 1):
-        if line.startswith("## "):
-            crates = [it for it in re.findall(r"`(\w+)`", line) if it in LIBRARIES + OTHERS]
-        cells = line.strip("| ").split(" | ")
-        if crates and line.startswith("| ") and len(cells) in (2, 3) and cells[1] != "Contract of":
-            own = [it for it in re.findall(r"`(\w+)`", cells[1]) if it in LIBRARIES + OTHERS]
-            yield from ((number, own or crates, *name) for name in NAME.findall(cells[1]) if name[1] not in own)
-
-
-def contract_of(crates, of, name):
-    """The contracts of this name: those of a module or a type, if it is named."""
-    found = [it for crate in crates for it in contracts(crate) if of in ("", it[1].split("/")[-1], it[2])]
-    return [it for it in found if it[3] == name] or [it for it in found if not of and it[2] == name]
+    return {word for source, name, _, cited in contracts(path.split("/")[1]) if source == path and name in laws for word in cited}
 
 
 def unknown(text):
-    """The names in the tables of PROOFS that are of no contract, or of several, and the definitions of laws that are not there."""
-    for number, crates, of, name in promises(text):
-        found = {it[0] for it in contract_of(crates, of, name)}
-        if len(found) != 1:
-            yield f"{PROOFS}:{number}: {len(found)} contracts are called {of and of + '::'}{name} in {', '.join(crates)}"
-    where = named_definitions()
-    for number, line in enumerate(text.split("\n"), 1):
-        laws = re.match(r"\| [^|]* \| `\w+::\w+_law` \| ([^|]*) \|$", line)
-        for name in re.findall(r"`(\w+)`", laws[1]) if laws else []:
-            if not any(crate == "laws" for crate, _, _ in where.get(name, [])):
-                yield f"{PROOFS}:{number}: laws has no definition {name}"
-
-
-def rows_of_index(text):
-    """For each source with a contract that PROOFS names, the names of those, and what they cite."""
-    sources = {}
-    for _, crates, of, name in promises(text):
-        for path, _, kind, own, _, cited in contract_of(crates, of, name):
-            contracts_here, cites = sources.setdefault(path, ({}, {}))
-            contracts_here[f"{kind and kind + '::'}{own}" if own == name else name] = 1
-            cites.update(cited)
-    return sources
-
-
-def index(text, theorem, rest):
-    """The index, by PROOFS, the lines that the theorem leads to, and those of other promises."""
-    sources = rows_of_index(text)
-    page = [HEADER]
-    for section, crates in sections().items():
-        rows = [(path, *sources[path]) for crate in crates for path in sorted(sources) if path.split("/")[1] == crate]
-        if rows:
-            page.append(f"## {section[0].upper()}{section[1:]}\n\n| Source | Contracts | Definitions that they cite | Lines |\n|---|---|---|---|")
-        for path, names, cited in rows:
-            places = [(crate, module, name) for crate, folder, module, name in cited.values() if folder == "specs" and not module.startswith("declared")]
-            files = {}
-            for crate, module, name in places:
-                files.setdefault((crate != path.split("/")[1]) * f"{crate}/" + module.replace(".", "/"), []).append(name)
-            cites = "; ".join(f"{file}: {', '.join(f'`{name}`' for name in sorted({*own}))}" for file, own in sorted(files.items()))
-            shown = ", ".join(f"`{name}`" for name in names)
-            page.append(f"| `{path[7:]}` | {shown} | {cites} | {sum(led_to(places).values())} |")
-        page += [""] * bool(rows)
-    page.append("## What a reader has to trust\n\n| Crate | The theorem leads to | Other promises lead to |\n|---|---|---|")
-    for crate in LIBRARIES:
-        cells = [", ".join(f"{path.split('/specs/')[1][:-5]} {n}" for path, n in sorted(lines.items()) if path.startswith(f"crates/{crate}/"))
-                 for lines in (theorem, rest)]
-        page += [f"| `{crate}` | {cells[0]} | {cells[1]} |"] * any(cells)
-    page.append(f"| in all | {sum(theorem.values())} lines in {len(theorem)} files | {sum(rest.values())} lines in {len(rest)} |")
-    return re.sub(r"(\n\|[^\n]*\|)\n\n(?=\|)", r"\1\n", "\n".join(page)) + "\n"
+    """The names of contracts in the tables of PROOFS that no source has."""
+    known = {*LIBRARIES, *OTHERS}
+    for path in glob.glob("crates/*/src/**/*.rt", recursive=True):
+        known.update(re.findall(r"\b(?:fn|struct|enum|trait|mod|type) (\w+)", read(path)))
+    for part in re.split(r"^(?=## )", text, flags=re.M):
+        rows = [line.strip("| ").split(" | ") for line in part.split("\n") if line.startswith("| ")]
+        # the heading of such a part names crates
+        if any(f"`{crate}`" in part.split("\n")[0] for crate in LIBRARIES + OTHERS):
+            yield from (f"{PROOFS}: no contract of {name}" for row in rows if len(row) in (2, 3) for name in NAME.findall(row[1]) if name not in known)
 
 
 def expected():
-    """The pages as they should be, and the index."""
+    """The pages as they should be, and how many lines in how many files the theorem leads to."""
     pages = {path: read(path) for path in (PROOFS, TRUST)}
     all_claims = list(claims(pages[PROOFS]))
     theorem = all_claims[0][0]
     if set(re.findall(r"`(?:\w+\.)?(\w+)`", all_claims[0][1].split(" | ")[2])) != cited_by_theorem() | BESIDES:
         faults.append(f"{PROOFS}: the first claim should begin with {', '.join(sorted(cited_by_theorem() | BESIDES))}")
-    rest = {path: n - theorem.get(path, 0) for path in trusted() if (n := count(path)) > theorem.get(path, 0)}
     for found, row in all_claims:
         pages[PROOFS] = pages[PROOFS].replace(row, re.sub(r"\d+ \| \d+ \|$", f"{sum(found.values())} | {len(found)} |", row))
     first = sum(count(f"crates/{name}.antt") for name in FIRST)
@@ -311,26 +230,21 @@ def expected():
     for page in (PROOFS, TRUST):
         pages[page], said = FIRST_LINES.subn(f"files of `specs/`, {first} lines", pages[page])
         faults.extend([f"{page} does not say how many lines the first files have"] * (said != 1))
-    return pages, index(pages[PROOFS], theorem, rest)
+    return pages, f"{sum(theorem.values())} lines in {len(theorem)} files"
 
 
 def main():
     other_internals()
+    reached = trusted()
     pages, shown = expected()
-    if sys.argv[1:] == ["-i"]:
-        print(shown, end="")
-        return
-    for known, changed in (("`read_file`", "`read_files`"), ("`UndoLaw` |", "`UndoneLaw` |")):
-        notices(same, "names", [*unknown(pages[PROOFS].replace(known, changed))], [])
-    faults.extend([*unknown(pages[PROOFS]), *unshown()])
+    faults.extend(unknown(pages[PROOFS]))
+    notices(same, "names", [*unknown(pages[PROOFS].replace("`read_file`", "`read_files`"))], [])
     notices(same, PROOFS, re.sub(r"\d", "0", pages[PROOFS]).split("\n"), pages[PROOFS].split("\n"))
     for page, text in pages.items():
         if sys.argv[1:] == ["-w"]:
             write(page, text)
         same(f"{page}, by the code; -w writes it", read(page).split("\n"), text.split("\n"))
-    for fault in faults:
-        print(f"fault: {fault}")
-    print(f"{shown.count('.rt` |')} sources with a contract; {shown.split('| in all | ')[1][:-3]}")
+    print(*faults, f"the theorem leads to {shown}, all promises to {sum(map(count, reached))} in {len(reached)}", sep="\n")
     sys.exit(1 if faults else 0)
 
 

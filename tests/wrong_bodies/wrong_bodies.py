@@ -5,7 +5,6 @@ usage: python3 -m tests.wrong_bodies.wrong_bodies [-j N] [CRATE ..]   tries all 
        python3 -m tests.wrong_bodies.wrong_bodies [-j N] CRATE/EDIT ..  tries these edits alone, and notes nothing
        python3 -m tests.wrong_bodies.wrong_bodies [-j N] -c [-m M]    tries those of the crates that have changed since they were noted, or
                                                  are not noted; once M minutes are over, those left are named, and not tried
-       python3 -m tests.wrong_bodies.wrong_bodies [-j N] --try        tries this script: tests/wrong_bodies/wrong_bodies_tried.py
 
 A wrong body is an edit in must-fail/ or in the file wrong-bodies of a crate: tests/wrong_bodies/edits.py has its form. A copy has at most one edit for
 each function. It is checked once, by the kit's `rattle`, with the libraries below it as `rt lib` proves them, or as the gate
@@ -21,11 +20,11 @@ of its kind: of a clause at any return, or else of its name.
 
 N copies are checked side by side, two if it is not given. The last line has how many edits are refused, and the minutes.
 """
+import argparse
 import hashlib
 import math
 import os
 import re
-import resource
 import shutil
 import subprocess
 import sys
@@ -34,6 +33,7 @@ import threading
 import time
 from concurrent.futures import ThreadPoolExecutor
 
+from tests.lib.compare import same
 from tests.lib.files import TOP, write
 from tests.lib.rattle import FUNCTION
 from tests.wrong_bodies import edits
@@ -201,14 +201,6 @@ class Answer:
         folders = tuple(f"proofs/{name.replace('::', '/')}/" for name in self.names(edit.function))
         return [text for file, line, text in self.places if file.startswith(folders) or edit.has(file, line)]
 
-    def others_refused(self, chosen):
-        """The functions that are refused for themselves although no edit of the copy changes them."""
-        for name, said in self.verdicts.items():
-            folder = f"proofs/{name.replace('::', '/')}/"
-            told = "did not prove" in said or any(file.startswith(folder) for file, _, _ in self.places)
-            if told and said != "proved" and not any(it.function.is_named(name) for it in chosen):
-                yield name
-
     def open_goals(self, function):
         """The kinds of the goals of a function that are not proved. A condition that changes has other names for the ways to its returns."""
         folders = tuple(f"proofs/{name.replace('::', '/')}/" for name in self.names(function))
@@ -257,14 +249,23 @@ class Answer:
         return reached
 
 
+def check_itself():
+    """What the prover says of a function is judged as what it is."""
+    edit = Edit("crates/tried", edits.WrongBody("tried", "half", "", "file: src/lib.rt\nold: no file\nnew: of this crate"))
+    edit.function = Function([], [], "half", 3, 9)
+    answers = {
+        "proved": "proved",
+        "refused": "not proved\nsrc/lib.rt:5:9: it is not proved that what the function ensures holds when it returns (`returns`)",
+        "shape": "not proved\nproofs/half/Answers.antt:5:1: error: `returns-first`: `Goals` has no `returns-first` that can be named from here",
+        "callee": "it calls `tried::twice`, which is not proved",
+    }
+    for word, said in answers.items():
+        same(said, Answer("tried", 1, f"fn tried::half: {said}\nlogic=failed\n").judge(edit)[0], word)
+
+
 def run(words, folder):
-    """Runs a command in a folder. Its status, what it prints, and the seconds of a processor that it takes."""
-    how = {"stdin": subprocess.DEVNULL, "stdout": subprocess.PIPE, "stderr": subprocess.STDOUT}
-    with subprocess.Popen(words, cwd=folder, **how) as process:
-        said = process.stdout.read().decode(errors="replace")
-        _, status, used = os.wait4(process.pid, 0)
-        process.returncode = os.WEXITSTATUS(status) if os.WIFEXITED(status) else -os.WTERMSIG(status)
-    return process.returncode, said, used.ru_utime + used.ru_stime
+    """Runs a command in a folder, with both outputs as one text."""
+    return subprocess.run(words, cwd=folder, stdin=subprocess.DEVNULL, stdout=subprocess.PIPE, stderr=subprocess.STDOUT, errors="replace", check=False)
 
 
 class Trial:
@@ -276,7 +277,7 @@ class Trial:
         found = [Edit(self.folder, body) for body in edits.edits_of(crate.name)]
         self.kept = None
         self.edits = [it for it in found if not only or {crate.name, f"{crate.name}/{it.name}"} & only]
-        self.results, self.apart, self.left, self.copies, self.seconds = {}, set(), [], 0, 0
+        self.results, self.apart, self.left, self.copies = {}, set(), [], 0
 
     def check(self, texts, without=()):
         """Checks a copy of the crate with these texts and without some folders of proofs, over what `rt check` of the crate left, or
@@ -292,10 +293,9 @@ class Trial:
                 shutil.rmtree(f"{copy}/{path}", ignore_errors=True)
             for path, text in texts.items():
                 write(f"{copy}/{path}", text)
-            status, said, seconds = run([*self.kit.check(self.crate), "--incremental", kept], copy)
+            ran = run([*self.kit.check(self.crate), "--incremental", kept], copy)
         self.copies += 1
-        self.seconds += seconds
-        return Answer(self.crate.name, status, said)
+        return Answer(self.crate.name, ran.returncode, ran.stdout)
 
     def end(self, edit, fault, line=""):
         """Notes what came of an edit, and prints it."""
@@ -329,12 +329,8 @@ class Trial:
         with tempfile.TemporaryDirectory(prefix="wrong-bodies-") as self.kept:
             while waiting and time.monotonic() < self.until:
                 chosen, texts = self.next_copy(waiting)
-                before = self.seconds
                 answer = self.check(texts)
-                took = f"{self.seconds - before:.0f} seconds of a processor"
-                print(f"{self.crate.name}: copy {self.copies}, {len(chosen)} edits, {took}", flush=True)
-                for name in [] if chosen[0].alone else answer.others_refused(chosen):
-                    print(f"{self.crate.name}: copy {self.copies}: {name} is refused too, and no edit changes it", flush=True)
+                print(f"{self.crate.name}: copy {self.copies}, {len(chosen)} edits", flush=True)
                 again = [it for it in chosen if not self.has_ended(it, chosen, answer)]
                 waiting = sorted(again + [it for it in waiting if it not in chosen], key=lambda it: it.alone)
         self.left = [it.name for it in waiting]
@@ -402,9 +398,9 @@ class Kit(prove.Kit):
 def has_libraries(crates, place):
     """Has `rt lib` prove libraries, lowest first, or find them proved, as after the gate, and names them in a folder. Whether all are."""
     for crate in crates:
-        status, said, _ = run(["rt", "lib"], f"crates/{crate.name}")
-        if status:
-            print(said)
+        ran = run(["rt", "lib"], f"crates/{crate.name}")
+        if ran.returncode:
+            print(ran.stdout)
             return False
         os.symlink(os.path.abspath(f"crates/{crate.name}/out/rlib/{crate.name}.rlib"), f"{place}/{crate.name}.rlib")
     return True
@@ -463,12 +459,6 @@ def try_edits(names, jobs, only=(), until=math.inf):
         return trials, {name: it.result() for name, it in ran.items()}
 
 
-def minutes():
-    """The minutes of a processor that this process and those that it started have taken."""
-    used = [resource.getrusage(who) for who in (resource.RUSAGE_SELF, resource.RUSAGE_CHILDREN)]
-    return sum(it.ru_utime + it.ru_stime for it in used) / 60
-
-
 def whole(names, jobs, only=(), most=math.inf):
     """Tries the edits of crates, or only some, for some minutes at most, and prints a summary. The digests of the crates whose edits are
     all refused, and whether none of those tried was not."""
@@ -482,12 +472,11 @@ def whole(names, jobs, only=(), most=math.inf):
         if not passed[name] and not any(said.values()):
             said["FAILED"] = ["a library below it is not proved"]
         fault = "".join(f": {word}: {' '.join(those)}" for word, those in said.items() if those)
-        print(f"{name}: {len(trial.results) - len(failed[name])} of {len(trial.edits)} refused, in {trial.copies} copies, "
-              f"{trial.seconds:.0f} seconds of a processor{fault}")
+        print(f"{name}: {len(trial.results) - len(failed[name])} of {len(trial.edits)} refused, in {trial.copies} copies{fault}")
     results = [not fault for trial in trials.values() for fault in trial.results.values()]
     copies = sum(trial.copies for trial in trials.values())
     print(f"{sum(results)} of {sum(len(it.edits) for it in trials.values())} wrong bodies refused, in {copies} copies of "
-          f"{len(names)} crates: {minutes():.0f} minutes of a processor, {(time.monotonic() - begun) / 60:.0f} by the clock")
+          f"{len(names)} crates: {(time.monotonic() - begun) / 60:.0f} minutes")
     return {name: was[name] for name in names if passed[name]}, right
 
 
@@ -514,20 +503,18 @@ def named(names, jobs):
 
 
 def main(words):
-    if "-h" in words or "--help" in words:
-        print(__doc__.strip())
-        return 0
     if not shutil.which("rt"):
         print("rt, the command of the Rattle kit, is not on the PATH", file=sys.stderr)
         return 2
     os.chdir(TOP)
-    jobs, most = (int(words[words.index(option) + 1]) if option in words else usual for option, usual in (("-j", 2), ("-m", math.inf)))
-    if "--try" in words:
-        from tests.wrong_bodies import wrong_bodies_tried
-        return wrong_bodies_tried.main(jobs)
-    if "-c" in words:
-        return changed_alone(jobs, most)
-    return named([word for at, word in enumerate(words) if not word.startswith("-") and words[at - 1:at] != ["-j"]], jobs)
+    check_itself()
+    parser = argparse.ArgumentParser(description=__doc__, formatter_class=argparse.RawDescriptionHelpFormatter)
+    parser.add_argument("-j", type=int, default=2, metavar="N")
+    parser.add_argument("-m", type=int, default=math.inf, metavar="M")
+    parser.add_argument("-c", action="store_true")
+    parser.add_argument("names", nargs="*", metavar="CRATE[/EDIT]")
+    given = parser.parse_args(words)
+    return changed_alone(given.j, given.m) if given.c else named(given.names, given.j)
 
 
 if __name__ == "__main__":
