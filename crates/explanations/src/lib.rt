@@ -13,7 +13,6 @@
 //!
 //! Types:
 //!
-//! - `Base`: whether a dump has its numbers in octal or in hexadecimal
 //! - `InventoryRow`, with `FileKind`, `SegmentSizes`, `SymbolCounts` and `Condition`: what an inventory says of a file
 //!
 //! Functions:
@@ -46,4 +45,3 @@ pub use inventory::{
 pub use inventory_line::put_row;
 pub use listing::{write_explained, write_remains};
 pub use remarks::put_lines;
-pub use rows::Base;

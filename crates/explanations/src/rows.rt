@@ -2,46 +2,10 @@
 
 use aout_core::Segment;
 use disassemblies::{NamedFile, put_again, put_labels};
-use std::fmt::{self, Display, Formatter, Write};
 use texts::Text;
 
 /// How many words a row has.
 const ROW: usize = 8;
-
-/// In which base a dump has its numbers.
-#[derive(Clone, Copy, PartialEq, Eq)]
-pub enum Base {
-    /// Words and addresses in octal.
-    Octal,
-    /// Bytes and addresses in hexadecimal.
-    Hexadecimal,
-}
-
-/// An address of 16 bits in a base.
-#[derive(Clone, Copy)]
-pub(crate) struct Address {
-    pub(crate) base: Base,
-    pub(crate) at: u32,
-}
-
-impl Display for Address {
-    fn fmt<W: fmt::Write>(&self, f: &mut Formatter<W>) -> fmt::Result {
-        let at = self.at % 65536;
-        match self.base {
-            Base::Octal => write!(f, "{at:06o}"),
-            Base::Hexadecimal => write!(f, "{at:04x}"),
-        }
-    }
-}
-
-/// Appends a word, with a blank before each of its numbers.
-fn put_word(text: &mut Text, base: Base, word: u16) {
-    let (low, high) = (word % 256, word / 256);
-    match base {
-        Base::Octal => text.say(format_args!(" {word:06o}")),
-        Base::Hexadecimal => text.say(format_args!(" {low:02x} {high:02x}")),
-    }
-}
 
 /// A byte as a character, or a point if it does not print.
 fn character(byte: u8) -> u8 {
@@ -53,17 +17,12 @@ fn character(byte: u8) -> u8 {
 }
 
 /// Appends a row: its address, its words, and their bytes as characters, the low byte of each first.
-fn put_row(text: &mut Text, base: Base, at: u32, row: &[u16]) {
-    let width = match base {
-        Base::Octal => 7,
-        Base::Hexadecimal => 6,
-    };
-    text.say(Address { base, at });
-    text.put(" ");
+fn put_row(text: &mut Text, at: u32, row: &[u16]) {
+    text.say(format_args!("{:06o} ", at % 65536));
     for word in row {
-        put_word(text, base, *word);
+        text.say(format_args!(" {:06o}", *word));
     }
-    text.put_blanks(ROW.saturating_sub(row.len()).saturating_mul(width));
+    text.put_blanks(ROW.saturating_sub(row.len()).saturating_mul(7));
     text.put("  ");
     for word in row {
         text.put_byte(character((*word % 256) as u8));
@@ -73,19 +32,13 @@ fn put_row(text: &mut Text, base: Base, at: u32, row: &[u16]) {
 }
 
 /// Appends a remark on so many rows before an address that are as the row before them, if there are any.
-fn put_folded(text: &mut Text, base: Base, at: u32, times: u32) {
-    let first = Address {
-        base,
-        at: at.wrapping_sub(times.wrapping_mul(16)),
-    };
-    let last = Address {
-        base,
-        at: at.wrapping_sub(16),
-    };
+fn put_folded(text: &mut Text, at: u32, times: u32) {
+    let first = at.wrapping_sub(times.wrapping_mul(16)) % 65536;
+    let last = at.wrapping_sub(16) % 65536;
     match times {
         0 => return,
-        1 => text.say(format_args!("/ {last}")),
-        _ => text.say(format_args!("/ {first} to {last}")),
+        1 => text.say(format_args!("/ {last:06o}")),
+        _ => text.say(format_args!("/ {first:06o} to {last:06o}")),
     }
     put_again(text, times);
 }
@@ -116,7 +69,7 @@ fn row_labels(text: &mut Text, named: &Named<'_>, at: u32, count: usize) -> Vec<
 }
 
 /// Appends the words from an address on, in rows. Rows without labels that are the same as the row before them are counted in a remark.
-pub(crate) fn put_rows(text: &mut Text, base: Base, named: &Named<'_>, start: u32, words: &[u16]) {
+pub(crate) fn put_rows(text: &mut Text, named: &Named<'_>, start: u32, words: &[u16]) {
     let mut at = start;
     let mut last: &[u16] = &[];
     let mut times = 0u32;
@@ -125,13 +78,13 @@ pub(crate) fn put_rows(text: &mut Text, base: Base, named: &Named<'_>, start: u3
         if labels.is_empty() && row == last {
             times = times.saturating_add(1);
         } else {
-            put_folded(text, base, at, times);
+            put_folded(text, at, times);
             text.put_bytes(&labels);
-            put_row(text, base, at, row);
+            put_row(text, at, row);
             last = row;
             times = 0;
         }
         at = at.wrapping_add(16);
     }
-    put_folded(text, base, at, times);
+    put_folded(text, at, times);
 }

@@ -1,3 +1,4 @@
 pub mod BadWordLemmas
 pub mod SymbolLemmas
+pub mod WordLemmas
 pub mod WrongLemmas

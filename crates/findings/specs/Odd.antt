@@ -3,13 +3,13 @@
 -- The header comes first, then the relocation words of text and of data, and then the symbols. Each finding has the byte of the file
 -- at which the odd field begins.
 use Rattle.std.specs.Prelude.{ℕ, ◌+◌, ◌-◌, ◌*◌, ◌/◌, ◌%◌, Bool, true, false, not, ◌&&◌, ◌||◌, eqb, nat_lt, nat_le, if◌then◌else◌, List, [], ◌∷◌}
-use Rattle.std.specs.Prelude.{◌++◌, take, drop, length, slice_index, bytes_eq, Option, Some, None, is_some}
-use Rattle.std.specs.List.{list_any}
+use Rattle.std.specs.Prelude.{◌++◌, take, drop, length, bytes_eq, Option, Some, None, is_some}
+use Rattle.std.specs.List.{flat_map, list_any}
 use Rattle.aout_core.specs.WellFormed.{is_external, is_undefined, kind_of, masked_type, segment_of, symbol_number}
 use Rattle.aout_core.specs.{declared.header.Header.Header, declared.symbol.Symbol.Symbol, declared.symbol.Segment.Segment}
 use Rattle.aout_core.specs.{declared.reloc.Reloc.Reloc, declared.reloc.Kind.Kind, declared.reloc.Kind.TheVariants.External}
-use Rattle.aout_core.specs.{Contents.Contents, Encoding.relocation_at, Encoding.symbols_at, Encoding.file_length, Words.plus}
-use Rattle.aout_core.specs.{Addresses.data_start_in, Addresses.target}
+use Rattle.aout_core.specs.{Contents.Contents, Encoding.symbols_at, Encoding.file_length, Addresses.target, Placed.placed_words}
+use Rattle.aout_core.specs.{declared.placed.PlacedWord.PlacedWord, declared.part.Part.TheVariants.Text, declared.part.Part.TheVariants.Data}
 use Rattle.texts.specs.Names.{is_printable}
 use Rattle.findings.specs.declared.finding.FindingKind.TheVariants.{IgnoredEntry, IgnoredWord, BytesAfterTable, IgnoredRelocationBits}
 use Rattle.findings.specs.declared.finding.FindingKind.TheVariants.{OutsideReference, EmptyName, UnprintableName, BytesAfterName}
@@ -42,20 +42,16 @@ ignores_number None = false
 ignores_number (Some External) = false
 ignores_number (Some _) = true
 
--- a word at an address, with a place in its segment, whose relocation word is at this byte: bits that are ignored, and an address outside
--- of its segment
-abbrev pub odd_word : Contents → Bool → ℕ → ℕ → ℕ → ℕ → Reloc → List Found
-odd_word c is_text n place address word r =
-    found_if (nat_le 0o20 r.0 && ignores_number (kind_of r)) place IgnoredRelocationBits
-    ++ found_as (is_sure_word c is_text n (segment_meant (kind_of r)) r (target r word address))
-    (not (has_address c.header (segment_meant (kind_of r)) (target r word address))) place OutsideReference
+-- a word by its relocation word: bits that are ignored, and an address outside of its segment
+abbrev pub odd_reloc : Contents → PlacedWord → Option Reloc → List Found
+odd_reloc c w None = []
+odd_reloc c w (Some r) =
+    found_if (nat_le 0o20 r.0 && ignores_number (kind_of r)) w.reloc_place IgnoredRelocationBits
+    ++ found_as (is_sure_word c w.part w.number (segment_meant (kind_of r)) r (target r w.word w.address))
+    (not (has_address c.header (segment_meant (kind_of r)) (target r w.word w.address))) w.reloc_place OutsideReference
 
--- the words of a segment from number n on, by their relocation words; number 0 has this address, and its relocation word this byte
-abbrev pub odd_words : Contents → Bool → ℕ → ℕ → List ℕ → ℕ → List Reloc → List Found
-odd_words c is_text place address words n [] = []
-odd_words c is_text place address words n (r ∷ rs) =
-    odd_word c is_text n (place + 2 * n) (plus address (2 * n)) (slice_index words n) r
-    ++ odd_words c is_text place address words (n + 1) rs
+abbrev pub odd_word : Contents → PlacedWord → List Found
+odd_word c w = odd_reloc c w w.reloc
 
 -- the byte does not print; a backslash does, though names that are shown have it as `\134`
 abbrev pub is_hidden : ℕ → Bool
@@ -130,6 +126,6 @@ odd_symbols commons c bytes n (s ∷ ss) =
 abbrev pub odd : Bool → List ℕ → Contents → List Found
 odd commons bytes c =
     odd_header c.header bytes
-    ++ odd_words c true (relocation_at c.header) 0 c.text_words 0 c.text_reloc
-    ++ odd_words c false (relocation_at c.header + c.header.text_size) (data_start_in c.header % 65536) c.data_words 0 c.data_reloc
+    ++ flat_map (odd_word c) (placed_words c Text)
+    ++ flat_map (odd_word c) (placed_words c Data)
     ++ odd_symbols commons c bytes 0 c.symbols

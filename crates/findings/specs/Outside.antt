@@ -11,6 +11,7 @@ use Rattle.aout_core.specs.WellFormed.{is_external, is_pc_relative, masked_type,
 use Rattle.aout_core.specs.{declared.header.Header.Header, declared.symbol.Symbol.Symbol, declared.symbol.Segment.Segment}
 use Rattle.aout_core.specs.declared.symbol.Segment.TheVariants.{TextSeg, DataSeg, BssSeg}
 use Rattle.aout_core.specs.{declared.reloc.Reloc.Reloc, Contents.Contents, Addresses.data_start_in}
+use Rattle.aout_core.specs.{declared.part.Part.Part, declared.part.Part.TheVariants.Text, declared.part.Part.TheVariants.Data}
 use Rattle.instructions.specs.{declared.mode.Addressing.Addressing, declared.operand.Operand.Operand}
 use Rattle.instructions.specs.{declared.operand.Operand.TheVariants.General, declared.line.Line.TheVariants.Decoded}
 use Rattle.instructions.specs.{declared.unix.Decoder.TheVariants.Unix, declared.unix.UnixLine.UnixLine}
@@ -70,14 +71,15 @@ is_direct_back c place back =
     not (nat_lt place back)
     && (is_start (starts Unix c) (place - back) && is_direct_in (place - back) place (unix_line_in Unix c (place - back)))
 
--- of a line of the sweep that begins one or two words before
-abbrev pub is_direct : Contents → ℕ → Bool
-is_direct c place = is_direct_back c place 1 || is_direct_back c place 2
+-- a word of text is one of a line of the sweep that begins one or two words before
+abbrev pub is_direct : Contents → Part → ℕ → Bool
+is_direct c Text place = is_direct_back c place 1 || is_direct_back c place 2
+is_direct c Data place = false
 
--- a word of text or not, by its place, refers to an address outside of this segment
-abbrev pub is_sure_word : Contents → Bool → ℕ → Segment → Reloc → ℕ → Bool
-is_sure_word c is_text place g r n =
-    is_pc_relative r || ((is_text && is_direct c place) || (is_far c.header g n && not (is_moved c)))
+-- a word of a part refers to an address outside of this segment
+abbrev pub is_sure_word : Contents → Part → ℕ → Segment → Reloc → ℕ → Bool
+is_sure_word c part place g r n =
+    is_pc_relative r || (is_direct c part place || (is_far c.header g n && not (is_moved c)))
 
 -- a symbol has a value outside of its segment
 abbrev pub is_sure_value : Contents → Symbol → Bool

@@ -146,13 +146,6 @@ impl Findings {
         Text::new(self.allocator())
     }
 
-    /// Adds a finding that is sure.
-    pub fn find(&mut self, place: usize, kind: FindingKind, text: Text)
-        ensures { Finds self.old self.new (found_if true place kind) }
-    {
-        self.find_as(true, place, kind, text);
-    }
-
     /// Adds a finding that is sure or in doubt.
     pub fn find_as(&mut self, is_sure: bool, place: usize, kind: FindingKind, text: Text)
         ensures { Finds self.old self.new (found_as is_sure true place kind) }

@@ -2,7 +2,6 @@
 
 use crate::notes::Notes;
 use aout_core::Header;
-use std::fmt::Display;
 
 /// What a magic number says.
 fn magic_text(magic: u16) -> &'static str {
@@ -15,30 +14,6 @@ fn magic_text(magic: u16) -> &'static str {
     }
 }
 
-/// What a flag says.
-fn flag_text(flag: u16) -> &'static str {
-    if flag == 0 {
-        "flag: relocation is present"
-    } else {
-        "flag: no relocation"
-    }
-}
-
-/// Adds a note on the word at a byte of the header.
-fn put_word<D: Display + Drop>(notes: &mut Notes, place: u16, word: u16, meaning: D) {
-    notes.say(format_args!("{place:03o}  {word:06o}  {meaning}"));
-}
-
-/// Adds a note on a size of the header.
-fn put_size(notes: &mut Notes, place: u16, size: u16, part: &str) {
-    put_word(
-        notes,
-        place,
-        size,
-        format_args!("size of {part}: {size} bytes"),
-    );
-}
-
 /// Adds notes on the words of the header.
 pub fn put_header(notes: &mut Notes, header: &Header) {
     put_word(notes, 0, header.magic, magic_text(header.magic));
@@ -48,5 +23,20 @@ pub fn put_header(notes: &mut Notes, header: &Header) {
     put_size(notes, 8, header.symbol_size, "the symbol table");
     put_word(notes, 10, header.entry_point, "entry point");
     put_word(notes, 12, header.unused, "unused");
-    put_word(notes, 14, header.flag, flag_text(header.flag));
+    let flag = if header.flag == 0 {
+        "flag: relocation is present"
+    } else {
+        "flag: no relocation"
+    };
+    put_word(notes, 14, header.flag, flag);
+}
+
+/// Adds a note on the word at a byte of the header.
+fn put_word(notes: &mut Notes, place: u16, word: u16, meaning: &str) {
+    notes.say(format_args!("{place:03o}  {word:06o}  {meaning}"));
+}
+
+/// Adds a note on a size of the header.
+fn put_size(notes: &mut Notes, place: u16, size: u16, part: &str) {
+    notes.say(format_args!("{place:03o}  {size:06o}  size of {part}: {size} bytes"));
 }

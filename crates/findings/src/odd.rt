@@ -1,24 +1,22 @@
 //! What is odd of a file, and not refused. Only tested: the texts of the findings.
-ghost use Rattle.std.specs.Prelude.{◌≡◌, ◌+◌, ◌*◌, ◌%◌, ◌^◌, ◌<◌, ◌≤◌, ◌&&◌, not, None, Some, length, slice_index, take, false, true};
+ghost use Rattle.std.specs.Prelude.{◌≡◌, ◌^◌, ◌<◌, ◌&&◌, not, None, Some, length, slice_get, take};
 ghost use Rattle.std.specs.Prelude.{if◌then◌else◌, bytes_eq, is_some, IfOk, OnOk, List, ℕ};
-ghost use Rattle.std.specs.List.{list_any};
+ghost use Rattle.std.specs.List.{flat_map, list_any};
 ghost use Rattle.std.specs.BTreeMap.{get};
 ghost use Rattle.std.specs.Cmp.Lexicographic.{slice_cmp};
 ghost use Rattle.std.specs.Ordering.{nat_cmp};
 ghost use Rattle.aout_core.specs.WellFormed.{is_external};
-ghost use Rattle.aout_core.specs.Words.{plus};
-ghost use Rattle.aout_core.specs.Encoding.{relocation_at};
-ghost use Rattle.aout_core.specs.Addresses.{data_start_in};
+ghost use Rattle.aout_core.specs.Placed.{placed_word, placed_words, relocs_of, words_of};
 ghost use Rattle.findings.specs.Found.{all_found, Finds};
 ghost use Rattle.findings.specs.Segments.{segment_meant};
 ghost use Rattle.findings.specs.Outside.{is_byte};
 ghost use Rattle.findings.specs.Odd.{after_name, first_alike, has_name, has_type, ignores_number, is_hidden, odd, odd_fields};
-ghost use Rattle.findings.specs.Odd.{odd_header, odd_rest, odd_name, refers_to, is_unused, odd_symbol, odd_symbols, odd_word, odd_words, symbol_at};
+ghost use Rattle.findings.specs.Odd.{odd_header, odd_rest, odd_name, refers_to, is_unused, odd_reloc, odd_symbol, odd_symbols, odd_word};
 
 use crate::finding::{Finding, FindingKind, Findings};
 use crate::outside::{has_byte, is_sure_value, is_sure_word};
-use crate::places::{FilePlaces, Title, has_address, range_of, segment_name, symbol_at};
-use aout_core::{File, Header, Kind, Name, Reloc, Segment, Symbol};
+use crate::places::{FilePlaces, Outside, Title, has_address, range_of, segment_name, symbol_at};
+use aout_core::{File, Header, Kind, Name, Part, Reloc, Segment, Symbol};
 use disassemblies::Sweep;
 use std::alloc::{AllocError, Global};
 use std::collections::BTreeMap;
@@ -68,7 +66,7 @@ fn has_rest(bytes: &[u8], place: usize, symbol: &Symbol) -> bool
 fn has_type(symbol: &Symbol) -> bool
     ensures { result ≡ has_type symbol.now }
 {
-    let bits = symbol.type_bits % 0o40;
+    let bits = symbol.masked_type();
     bits < 5 || bits == 0o24 || bits == 0o37
 }
 
@@ -139,6 +137,11 @@ fn find_fields(
     let title = Title { number, symbol };
     let (bits, value, segment) = (symbol.type_bits, symbol.value, symbol.segment());
     let (label, range) = (segment_name(segment), range_of(header, segment));
+    let outside = Outside {
+        segment,
+        range,
+        address: value,
+    };
     findings.find_if(
         bits >= 0o100,
         place + 8,
@@ -172,7 +175,7 @@ fn find_fields(
         !has_address(header, segment, value),
         place + 10,
         OutsideValue,
-        format_args!("{title} of {label} has value {value:06o}, and {label} {range}"),
+        format_args!("{title} of {label} has value {value:06o}, and {outside}"),
     );
 }
 
@@ -281,72 +284,55 @@ fn find_symbols(findings: &mut Findings, source: &Source<'_>)
     }
 }
 
-/// The words of text or of data, from this address on, and their relocation words, from this place of the file on.
-#[derive(Clone, Copy)]
-struct Contents<'a> {
-    is_text: bool,
-    start: u16,
-    words: &'a [u16],
-    relocs: &'a [Reloc],
-    place: usize,
-}
-
-/// Adds what is odd of a word of text or of data.
-fn find_word(
-    findings: &mut Findings,
-    sweep: &Sweep<'_>,
-    contents: &Contents<'_>,
-    number: usize,
-    reloc: Reloc,
-)
-    requires inside { number < length contents.now.words.now }
-    requires short { length contents.now.words.now < 32768 }
-    requires near { contents.now.place < 2 ^ 20 }
-    requires text { contents.now.is_text ≡ true → length contents.now.words.now ≡ length sweep.now.text_words }
-    ensures { Finds findings.old findings.new (odd_word sweep.now contents.now.is_text number
-        (contents.now.place + 2 * number) (plus contents.now.start (2 * number))
-        (slice_index contents.now.words.now number) reloc) }
+/// Adds what is odd of a word of a part.
+fn find_word(findings: &mut Findings, sweep: &Sweep<'_>, part: Part, number: usize)
+    requires { number < length (words_of sweep.now part) }
+    ensures { Finds findings.old findings.new
+        (odd_reloc sweep.now (placed_word sweep.now part number) (slice_get (relocs_of sweep.now part) number)) }
 {
-    let word = contents.words[number];
-    let place = contents.place + 2 * number;
-    let address = contents.start.wrapping_add((2 * number) as u16);
-    let header = sweep.file().header();
+    let file = sweep.file();
+    let at = file.placed_word(part, number);
+    let Some(reloc) = at.reloc else {
+        return;
+    };
     let segment = segment_meant(reloc.kind());
-    let (label, range) = (segment_name(segment), range_of(header, segment));
-    let target = reloc.target(word, address);
-    let bits = reloc.0;
+    let (label, range) = (segment_name(segment), range_of(file.header(), segment));
+    let target = reloc.target(at.word, at.address);
+    let outside = Outside {
+        segment,
+        range,
+        address: target,
+    };
+    let (bits, address) = (reloc.0, at.address);
     findings.find_if(
         bits >= 0o20 && ignores_number(reloc.kind()),
-        place,
+        at.reloc_place,
         FindingKind::IgnoredRelocationBits,
         format_args!(
             "relocation word {bits:06o} of the word at {address:06o}: bits above 17 are ignored"
         ),
     );
-    if !has_address(header, segment, target) {
+    if !has_address(file.header(), segment, target) {
         findings.find_if_as(
-            is_sure_word(sweep, contents.is_text, number, segment, reloc, target),
+            is_sure_word(sweep, part, number, segment, reloc, target),
             true,
-            place,
+            at.reloc_place,
             FindingKind::OutsideReference,
             format_args!(
-                "the word at {address:06o} is of kind {label} and refers to {target:06o}; {label} {range}"
+                "the word at {address:06o} is of kind {label} and refers to {target:06o}; {outside}"
             ),
         );
     }
 }
 
-/// Adds what is odd of the words of text or of data.
-fn find_words(findings: &mut Findings, sweep: &Sweep<'_>, contents: &Contents<'_>)
-    requires each { length contents.now.relocs.now ≤ length contents.now.words.now }
-    requires short { length contents.now.words.now < 32768 }
-    requires near { contents.now.place < 2 ^ 20 }
-    requires text { contents.now.is_text ≡ true → length contents.now.words.now ≡ length sweep.now.text_words }
-    ensures { Finds findings.old findings.new (odd_words sweep.now contents.now.is_text
-        contents.now.place contents.now.start contents.now.words.now 0 contents.now.relocs.now) }
+/// Adds what is odd of the words of a part.
+fn find_words(findings: &mut Findings, sweep: &Sweep<'_>, part: Part)
+    ensures { Finds findings.old findings.new
+        (flat_map (odd_word sweep.now) (placed_words sweep.now part)) }
 {
-    for (number, reloc) in contents.relocs.iter().enumerate() {
-        find_word(findings, sweep, contents, number, *reloc);
+    let words = sweep.file().words_of(part);
+    for (number, _) in words.iter().enumerate() {
+        find_word(findings, sweep, part, number);
     }
 }
 
@@ -370,10 +356,12 @@ fn find_rest(findings: &mut Findings, header: &Header, bytes: &[u8])
     );
 }
 
-/// Adds words of the header that are ignored, and those of these bytes that come after the table.
-fn find_ignored(findings: &mut Findings, header: &Header, bytes: &[u8])
-    ensures { Finds findings.old findings.new (odd_header header.now bytes.now) }
+/// Adds what is odd of the header, and bytes after the table.
+fn find_header(findings: &mut Findings, source: &Source<'_>)
+    ensures { Finds findings.old findings.new
+        (odd_header source.now.sweep.now.header source.now.bytes.now) }
 {
+    let header = source.sweep.file().header();
     let (entry, unused) = (header.entry_point, header.unused);
     findings.find_if(
         entry != 0 && header.flag == 0,
@@ -387,7 +375,7 @@ fn find_ignored(findings: &mut Findings, header: &Header, bytes: &[u8])
         FindingKind::IgnoredWord,
         format_args!("the unused word, {unused:06o}, is ignored"),
     );
-    find_rest(findings, header, bytes);
+    find_rest(findings, header, source.bytes);
     let end = range_of(header, Segment::BssSeg).end;
     findings.find_if_as(
         u32::from(header.data_size) + u32::from(header.bss_size) > 65535,
@@ -398,48 +386,14 @@ fn find_ignored(findings: &mut Findings, header: &Header, bytes: &[u8])
     );
 }
 
-/// Adds what is odd of the words of text.
-fn find_text(findings: &mut Findings, sweep: &Sweep<'_>)
-    ensures { Finds findings.old findings.new (odd_words sweep.now true
-        (relocation_at sweep.now.header) 0 sweep.now.text_words 0 sweep.now.text_reloc) }
-{
-    let file = sweep.file();
-    let text = Contents {
-        is_text: true,
-        start: 0,
-        words: file.text_words(),
-        relocs: file.text_reloc(),
-        place: FilePlaces::of(file.header()).relocation,
-    };
-    find_words(findings, sweep, &text);
-}
-
-/// Adds what is odd of the words of data.
-fn find_data(findings: &mut Findings, sweep: &Sweep<'_>)
-    ensures { Finds findings.old findings.new (odd_words sweep.now false
-        (relocation_at sweep.now.header + sweep.now.header.text_size)
-        (data_start_in sweep.now.header % 65536) sweep.now.data_words 0 sweep.now.data_reloc) }
-{
-    let file = sweep.file();
-    let header = file.header();
-    let data = Contents {
-        is_text: false,
-        start: (header.data_start() % 65536) as u16,
-        words: file.data_words(),
-        relocs: file.data_reloc(),
-        place: FilePlaces::of(header).relocation + usize::from(header.text_size),
-    };
-    find_words(findings, sweep, &data);
-}
-
 /// Adds what is odd of a file, which the bytes begin with.
 fn find_odd(findings: &mut Findings, source: &Source<'_>)
     ensures { Finds findings.old findings.new
         (odd source.now.commons source.now.bytes.now source.now.sweep.now) }
 {
-    find_ignored(findings, source.sweep.file().header(), source.bytes);
-    find_text(findings, source.sweep);
-    find_data(findings, source.sweep);
+    find_header(findings, source);
+    find_words(findings, source.sweep, Part::Text);
+    find_words(findings, source.sweep, Part::Data);
     find_symbols(findings, source);
 }
 

@@ -1,5 +1,5 @@
 //! What a file is that is not an a.out file of the Seventh Edition. Only tested: all of it but the header.
-ghost use Rattle.std.specs.Prelude.{◌≡◌, ◌≤◌, if◌then◌else◌, nat_lt, length, None, Some};
+ghost use Rattle.std.specs.Prelude.{◌≡◌, if◌then◌else◌, nat_lt, length, None, Some};
 ghost use Rattle.aout_core.specs.Decoding.{header_in};
 
 use aout_core::{Header, is_magic};
@@ -18,14 +18,11 @@ pub fn header_of(bytes: &[u8]) -> Option<Header>
     Some(Header::read(&start))
 }
 
-/// Whether a text may have a byte.
-fn is_of_text(byte: u8) -> bool {
-    (8 <= byte && byte <= b'\n') || byte == 12 || byte == b'\r' || (b' ' <= byte && byte != 127)
-}
-
 /// Whether bytes are those of a text.
 fn is_text(bytes: &[u8]) -> bool {
-    bytes.iter().all(|byte| is_of_text(*byte))
+    bytes.iter().all(|byte| {
+        (8 <= *byte && *byte <= 13 && *byte != 11) || (b' ' <= *byte && *byte != 127)
+    })
 }
 
 /// The form of a file that has no magic number of ours.
@@ -74,36 +71,25 @@ fn is_swapped(bytes: &[u8]) -> bool {
     }
 }
 
-/// Whether a number of a header of tar may have a byte.
-fn is_of_number(byte: u8) -> bool {
-    byte == b' ' || (b'0' <= byte && byte <= b'7')
+/// Whether bytes have a number of a header of tar from one of them up to another one.
+fn has_number(bytes: &[u8], start: usize, end: usize) -> bool {
+    match bytes.get(start..end) {
+        Some(field) => field
+            .iter()
+            .all(|byte| *byte == b' ' || (b'0' <= *byte && *byte <= b'7')),
+        None => false,
+    }
 }
 
-/// Whether bytes have a number from one of them up to another one.
-fn has_number(bytes: &[u8], start: usize, end: usize) -> bool
-    requires ordered { start ≤ end }
-    requires inside { end ≤ length bytes.now }
-{
-    bytes[start..end].iter().all(|byte| is_of_number(*byte))
-}
-
-/// Whether a header of tar has the mode, the user and the group.
-fn has_owner(bytes: &[u8]) -> bool
-    requires { 512 ≤ length bytes.now }
-{
-    has_number(bytes, 100, 106) && has_number(bytes, 108, 114) && has_number(bytes, 116, 122)
-}
-
-/// Whether a header of tar has the size, the time and the sum.
-fn has_sum(bytes: &[u8]) -> bool
-    requires { 512 ≤ length bytes.now }
-{
-    has_number(bytes, 124, 135) && has_number(bytes, 136, 147) && has_number(bytes, 148, 154)
-}
-
-/// Whether a file begins with a header of tar.
+/// Whether a file begins with a header of tar: the mode, the user and the group, the size, the time and the sum.
 fn is_tape(bytes: &[u8]) -> bool {
-    bytes.len() >= 512 && has_owner(bytes) && has_sum(bytes)
+    bytes.len() >= 512
+        && has_number(bytes, 100, 106)
+        && has_number(bytes, 108, 114)
+        && has_number(bytes, 116, 122)
+        && has_number(bytes, 124, 135)
+        && has_number(bytes, 136, 147)
+        && has_number(bytes, 148, 154)
 }
 
 /// Whether a file has the size that a core file says.
@@ -120,22 +106,14 @@ fn is_core(bytes: &[u8]) -> bool {
 
 /// The form of a file with no magic number of ours, if it is known.
 pub fn other_form(bytes: &[u8]) -> Option<OtherForm> {
-    if let Some(form) = known_form(bytes) {
-        return Some(form);
+    match known_form(bytes) {
+        Some(form) => Some(form),
+        None if is_text(bytes) => Some(OtherForm::PlainText),
+        None if is_swapped(bytes) => Some(OtherForm::Swapped),
+        None if is_tape(bytes) => Some(OtherForm::Tape),
+        None if is_core(bytes) => Some(OtherForm::Core),
+        None => None,
     }
-    if is_text(bytes) {
-        return Some(OtherForm::PlainText);
-    }
-    if is_swapped(bytes) {
-        return Some(OtherForm::Swapped);
-    }
-    if is_tape(bytes) {
-        return Some(OtherForm::Tape);
-    }
-    if is_core(bytes) {
-        return Some(OtherForm::Core);
-    }
-    None
 }
 
 /// A form in words.
@@ -181,21 +159,14 @@ fn is_of_gnu_refused(refusal: Refusal, is_odd: bool) -> bool {
     }
 }
 
-/// Whether the header of a file says that it has symbols.
-fn has_symbols(bytes: &[u8]) -> bool {
-    match header_of(bytes) {
-        Some(header) => header.symbol_size > 0,
-        None => false,
-    }
-}
-
 /// Whether a file is in the form of GNU's assembler and of 2.11BSD, with symbols of 8 bytes and their names after them.
 /// A file without symbols has both forms, and is not recognized, and neither is one of another magic than 0407.
 ///
 /// An error: out of memory.
 pub fn is_of_gnu(alloc: Global, bytes: &[u8], is_odd: bool) -> Result<bool, AllocError> {
-    if !has_symbols(bytes) {
-        return Ok(false);
+    match header_of(bytes) {
+        Some(header) if header.symbol_size > 0 => {}
+        _ => return Ok(false),
     }
     let options = Options {
         drops_debugger: true,

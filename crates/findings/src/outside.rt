@@ -1,10 +1,11 @@
 //! Whether an address outside of its segment is a fault for sure.
-ghost use Rattle.std.specs.Prelude.{◌≡◌, ◌^◌, ◌<◌, true, length};
+ghost use Rattle.std.specs.Prelude.{◌≡◌, ◌^◌, ◌<◌, length};
 ghost use Rattle.std.specs.List.{list_any};
-ghost use Rattle.findings.specs.Outside.{is_byte, is_far, is_of, is_text_outside, is_moved, is_at_address, is_direct_in, is_direct_back, is_direct, is_sure_word, is_sure_value};
+ghost use Rattle.aout_core.specs.Placed.{words_of};
+ghost use Rattle.findings.specs.Outside.{is_byte, is_far, is_text_outside, is_moved, is_at_address, is_direct_in, is_direct_back, is_direct, is_sure_word, is_sure_value};
 
 use crate::places::{has_address, range_of};
-use aout_core::{File, Header, Reloc, Segment, Symbol};
+use aout_core::{File, Header, Part, Reloc, Segment, Symbol};
 use disassemblies::Sweep;
 use instructions::{Addressing, Line, Operand, UnixLine};
 
@@ -29,17 +30,10 @@ fn is_far(header: &Header, segment: Segment, address: u16) -> bool
     }
 }
 
-/// Whether a symbol is of a segment.
-fn is_of(segment: Segment, symbol: &Symbol) -> bool
-    ensures { result ≡ is_of segment symbol.now }
-{
-    symbol.type_bits % 0o40 == segment.number()
-}
-
 fn is_text_outside(header: &Header, symbol: &Symbol) -> bool
     ensures { result ≡ is_text_outside header.now symbol.now }
 {
-    is_of(Segment::TextSeg, symbol) && !has_address(header, Segment::TextSeg, symbol.value)
+    symbol.is_of(Segment::TextSeg) && !has_address(header, Segment::TextSeg, symbol.value)
 }
 
 /// Whether a symbol of text is outside of it.
@@ -92,29 +86,32 @@ fn is_direct_back(sweep: &Sweep<'_>, place: usize, back: usize) -> bool
     sweep.is_start(start) && is_direct_in(start, place, &sweep.line_at(start))
 }
 
-/// Whether the word at a place of text is that of such an operand.
-fn is_direct(sweep: &Sweep<'_>, place: usize) -> bool
-    requires { place < length sweep.now.text_words }
-    ensures { result ≡ is_direct sweep.now place }
+/// Whether a word of text is that of such an operand.
+fn is_direct(sweep: &Sweep<'_>, part: Part, number: usize) -> bool
+    requires { number < length (words_of sweep.now part) }
+    ensures { result ≡ is_direct sweep.now part number }
 {
-    is_direct_back(sweep, place, 1) || is_direct_back(sweep, place, 2)
+    match part {
+        Part::Text => is_direct_back(sweep, number, 1) || is_direct_back(sweep, number, 2),
+        Part::Data => false,
+    }
 }
 
-/// Whether a word of text or of data is a fault for sure that refers to an address outside of this segment.
+/// Whether a word of a part is a fault for sure that refers to an address outside of this segment.
 pub(crate) fn is_sure_word(
     sweep: &Sweep<'_>,
-    is_text: bool,
-    place: usize,
+    part: Part,
+    number: usize,
     segment: Segment,
     reloc: Reloc,
     address: u16,
 ) -> bool
-    requires { is_text ≡ true → place < length sweep.now.text_words }
-    ensures { result ≡ is_sure_word sweep.now is_text place segment reloc address }
+    requires { number < length (words_of sweep.now part) }
+    ensures { result ≡ is_sure_word sweep.now part number segment reloc address }
 {
     let file = sweep.file();
     reloc.is_pc()
-        || (is_text && is_direct(sweep, place))
+        || is_direct(sweep, part, number)
         || (is_far(file.header(), segment, address) && !is_moved(file))
 }
 
@@ -122,7 +119,7 @@ pub(crate) fn is_sure_word(
 pub(crate) fn is_sure_value(file: &File, symbol: &Symbol) -> bool
     ensures { result ≡ is_sure_value file.now symbol.now }
 {
-    !is_of(Segment::TextSeg, symbol)
+    !symbol.is_of(Segment::TextSeg)
         && (symbol.is_external() || is_far(file.header(), symbol.segment(), symbol.value))
         && !is_moved(file)
 }

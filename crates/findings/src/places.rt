@@ -1,8 +1,7 @@
 //! The places of the parts of a file, by the sizes in its header, and their addresses in memory.
 ghost use Rattle.std.specs.Prelude.{◌≡◌, ◌+◌, ◌^◌, ◌<◌, ◌&&◌, nat_le};
-ghost use Rattle.aout_core.specs.Addresses.{data_start_in};
 ghost use Rattle.aout_core.specs.Encoding.{relocation_at, symbols_at, file_length};
-ghost use Rattle.findings.specs.Segments.{data_to, bss_to, has_address};
+ghost use Rattle.findings.specs.Segments.{has_address};
 ghost use Rattle.findings.specs.Odd.{symbol_at};
 ghost use Rattle.findings.specs.Outside.{first_of, last_of};
 
@@ -76,56 +75,22 @@ impl Range {
     }
 }
 
-/// The addresses of text, data and bss in memory.
-#[derive(Clone, Copy)]
-pub(crate) struct Segments {
-    pub(crate) text: Range,
-    pub(crate) data: Range,
-    pub(crate) bss: Range,
-}
-
-impl Segments {
-    /// The addresses that a header announces.
-    pub(crate) fn of(header: &Header) -> Segments
-        ensures text_start { result.text.start ≡ 0 }
-        ensures text_end { result.text.end ≡ header.now.text_size }
-        ensures data_start { result.«data».start ≡ data_start_in header.now }
-        ensures data_end { result.«data».end ≡ data_to header.now }
-        ensures bss_start { result.bss.start ≡ data_to header.now }
-        ensures bss_end { result.bss.end ≡ bss_to header.now }
-    {
-        let text_end = u32::from(header.text_size);
-        let data = header.data_start() as u32;
-        let data_end = data + u32::from(header.data_size);
-        let bss_end = data_end + u32::from(header.bss_size);
-        Segments {
-            text: Range {
-                start: 0,
-                end: text_end,
-            },
-            data: Range {
-                start: data,
-                end: data_end,
-            },
-            bss: Range {
-                start: data_end,
-                end: bss_end,
-            },
-        }
-    }
-}
-
 /// Where a segment of a file with this header lies; text for one without addresses of its own.
 pub(crate) fn range_of(header: &Header, segment: Segment) -> Range
     ensures start { result.start ≡ first_of header.now segment }
     ensures end { result.end ≡ last_of header.now segment }
 {
-    let segments = Segments::of(header);
-    match segment {
-        Segment::DataSeg => segments.data,
-        Segment::BssSeg => segments.bss,
-        Segment::TextSeg | Segment::Undefined | Segment::Absolute | Segment::Other => segments.text,
-    }
+    let data = header.data_start() as u32;
+    let bss = data + u32::from(header.data_size);
+    let (start, end) = match segment {
+        Segment::DataSeg => (data, bss),
+        Segment::BssSeg => (bss, bss + u32::from(header.bss_size)),
+        Segment::TextSeg | Segment::Undefined | Segment::Absolute | Segment::Other => (
+            0,
+            u32::from(header.text_size),
+        ),
+    };
+    Range { start, end }
 }
 
 /// A segment by name.
@@ -141,20 +106,74 @@ pub(crate) fn segment_name(segment: Segment) -> &'static str {
 pub(crate) fn has_address(header: &Header, segment: Segment, address: u16) -> bool
     ensures { result ≡ has_address header.now segment address }
 {
-    let segments = Segments::of(header);
+    let range = range_of(header, segment);
     match segment {
         Segment::TextSeg => address <= header.text_size,
-        Segment::DataSeg => segments.data.has(address),
-        Segment::BssSeg => segments.bss.has(address),
+        Segment::DataSeg => range.has(address),
+        Segment::BssSeg => range.has(address),
         Segment::Undefined | Segment::Absolute | Segment::Other => true,
     }
 }
 
-/// Where a segment lies, in words.
-impl Display for Range {
+/// Where a segment lies that an address is outside of, and what to add if that counts from its start.
+#[derive(Clone, Copy)]
+pub(crate) struct Outside {
+    pub(crate) segment: Segment,
+    pub(crate) range: Range,
+    pub(crate) address: u16,
+}
+
+impl Display for Outside {
     fn fmt<W: fmt::Write>(&self, f: &mut Formatter<W>) -> fmt::Result {
-        let (start, end) = (self.start, self.end);
-        write!(f, "lies from {start:06o} to {end:06o}")
+        let (label, start, end) = (segment_name(self.segment), self.range.start, self.range.end);
+        write!(f, "{label} lies from {start:06o} to {end:06o}")?;
+        if start > 0 && u64::from(self.address) + u64::from(start) <= u64::from(end) {
+            write!(
+                f,
+                " (perhaps counted from the start of {label}: add {start:06o})"
+            )?;
+        }
+        Ok(())
+    }
+}
+
+/// An address of text, with the nearest label at it or before it: `000022 (_stat+22)`. (own choice)
+#[derive(Clone, Copy)]
+pub struct Labelled<'a> {
+    pub symbols: &'a [Symbol],
+    pub address: u16,
+}
+
+/// The first symbol of text with the largest value up to an address.
+fn label_before(symbols: &[Symbol], address: u16) -> Option<&Symbol> {
+    let mut best: Option<&Symbol> = None;
+    for symbol in symbols {
+        let least = match best {
+            Some(label) => u32::from(label.value) + 1,
+            None => 0,
+        };
+        if symbol.is_of(Segment::TextSeg)
+            && symbol.value <= address
+            && u32::from(symbol.value) >= least
+        {
+            best = Some(symbol);
+        }
+    }
+    best
+}
+
+impl Display for Labelled<'_> {
+    fn fmt<W: fmt::Write>(&self, f: &mut Formatter<W>) -> fmt::Result {
+        let address = self.address;
+        write!(f, "{address:06o}")?;
+        match label_before(self.symbols, address) {
+            Some(label) if label.value < address => {
+                let bytes = address.saturating_sub(label.value);
+                write!(f, " ({}+{bytes:o})", SymbolName(label))
+            }
+            Some(label) => write!(f, " ({})", SymbolName(label)),
+            None => Ok(()),
+        }
     }
 }
 

@@ -30,14 +30,6 @@ pub fn relocs_there(header: &Header, count: usize) -> usize {
     count.saturating_sub(FilePlaces::of(header).relocation) / 2
 }
 
-/// Appends so many zeros.
-fn put_zeros(bytes: &mut Vec<u8>, count: usize) -> Result<(), AllocError> {
-    for _ in 0..count {
-        bytes.push(0)?;
-    }
-    Ok(())
-}
-
 /// The whole words after a header, and zeros.
 fn bytes_under(alloc: Global, header: &Header, bytes: &[u8]) -> Result<Vec<u8>, AllocError>
     requires { 16 ≤ length bytes.now }
@@ -45,7 +37,9 @@ fn bytes_under(alloc: Global, header: &Header, bytes: &[u8]) -> Result<Vec<u8>, 
     let mut there = Vec::new(alloc);
     there.extend_from_slice(&header.to_bytes())?;
     there.extend_from_slice(&bytes[16..bytes.len() / 2 * 2])?;
-    put_zeros(&mut there, FilePlaces::of(header).end)?;
+    for _ in 0..FilePlaces::of(header).end {
+        there.push(0)?;
+    }
     Ok(there)
 }
 
@@ -61,26 +55,15 @@ pub fn decode_there(alloc: Global, bytes: &[u8]) -> Result<Result<File, ReadFaul
     decode_file(alloc, &bytes)
 }
 
-/// How many items of this width are missing in a part.
-fn items_missing(size: u16, there: u16, width: u16) -> u16
-    requires { 0 < width }
-{
-    size.saturating_sub(there) / width
-}
-
-/// How many relocation words are missing in so many bytes of a file with this header.
-fn relocs_missing(header: &Header, count: usize) -> usize {
-    let places = FilePlaces::of(header);
-    ((places.symbols - places.relocation) / 2).saturating_sub(relocs_there(header, count))
-}
-
 /// Appends where a file of so many bytes ends, and what of its parts is missing.
 pub fn put_missing(text: &mut Text, header: &Header, count: usize) {
     let there = header_there(header, count);
-    let words = items_missing(header.text_size, there.text_size, 2);
-    let data = items_missing(header.data_size, there.data_size, 2);
-    let relocs = relocs_missing(header, count);
-    let symbols = items_missing(header.symbol_size, there.symbol_size, 12);
+    let words = header.text_size.saturating_sub(there.text_size) / 2;
+    let data = header.data_size.saturating_sub(there.data_size) / 2;
+    let symbols = header.symbol_size.saturating_sub(there.symbol_size) / 12;
+    let places = FilePlaces::of(header);
+    let all = places.symbols.saturating_sub(places.relocation) / 2;
+    let relocs = all.saturating_sub(relocs_there(header, count));
     text.say(format_args!(
         "the file ends at byte 0{count:o} ({count}); missing words: {words} of text, {data} of data, {relocs} of relocation; \
          missing symbols: {symbols}"

@@ -8,7 +8,7 @@ ghost use Rattle.findings.specs.internal.BadWords.{all_bad};
 
 use crate::finding::{Finding, FindingKind, Findings};
 use crate::other_files::header_of;
-use crate::places::{FilePlaces, SymbolName};
+use crate::places::{FilePlaces, Labelled, SymbolName};
 use aout_core::{File, Header, Kind, ObjectFault, ReadFault, Reloc, Symbol};
 use disassemblies::{NamedFile, line_start, line_starts, put_line_text};
 use instructions::Decoder;
@@ -204,38 +204,22 @@ fn put_bad_word(text: &mut Text, symbols: &[Symbol], bad: BadWord) {
     }
 }
 
-/// A file, and for each word of its text whether a line begins there.
-#[derive(Clone, Copy)]
-struct Lined<'a> {
-    named: &'a NamedFile<'a>,
-    starts: &'a [bool],
-}
-
-/// Appends the instruction that begins at a word, if it is one of text, as `; the instruction at 000000 is mov 0,r0`. (own choice)
+/// Appends the instruction that begins at a word, if it is one of text, as `; the instruction at 000002 (_f+2) is mov 0,r0`. (own choice)
 pub fn put_instruction(text: &mut Text, named: &NamedFile<'_>, place: usize) {
     if place < named.file().text_words().len() {
-        let address = 2 * place;
-        text.say(format_args!("; the instruction at {address:06o} is "));
+        let labelled = Labelled {
+            symbols: named.file().symbols(),
+            address: (2 * place) as u16,
+        };
+        text.say(format_args!("; the instruction at {labelled} is "));
         put_line_text(text, Decoder::Unix, named, place);
     }
 }
 
 /// Appends the instruction that has a word of text as an operand word, if it is one.
-fn put_owner(text: &mut Text, lined: &Lined<'_>, index: usize) {
-    if let Some(false) = lined.starts.get(index) {
-        put_instruction(text, lined.named, line_start(lined.starts, index));
-    }
-}
-
-/// Adds bad relocation words.
-fn find_each(findings: &mut Findings, lined: &Lined<'_>, bad: &[BadWord])
-    ensures { Finds findings.old findings.new (all_bad bad.now) }
-{
-    for word in bad {
-        let mut text = findings.text();
-        put_bad_word(&mut text, lined.named.file().symbols(), *word);
-        put_owner(&mut text, lined, word.index);
-        findings.find(word.place, word.kind, text);
+fn put_owner(text: &mut Text, named: &NamedFile<'_>, starts: &[bool], index: usize) {
+    if let Some(false) = starts.get(index) {
+        put_instruction(text, named, line_start(starts, index));
     }
 }
 
@@ -249,11 +233,12 @@ fn find_shown(findings: &mut Findings, file: &File, bad: &[BadWord]) -> Result<(
     let alloc = findings.allocator();
     let starts = line_starts(alloc, Decoder::Unix, file)?;
     let named = NamedFile::new(alloc, file)?;
-    let lined = Lined {
-        named: &named,
-        starts: &starts,
-    };
-    find_each(findings, &lined, bad);
+    for word in bad {
+        let mut text = findings.text();
+        put_bad_word(&mut text, file.symbols(), *word);
+        put_owner(&mut text, &named, &starts, word.index);
+        findings.find_as(true, word.place, word.kind, text);
+    }
     Ok(())
 }
 
@@ -287,10 +272,10 @@ pub fn wrong_words(alloc: Global, file: &File) -> Result<Vec<Finding>, AllocErro
 pub fn is_damaged(refused: Option<ObjectFault>) -> bool
     ensures { result ≡ is_damaged refused }
 {
-    match refused {
-        Some(ObjectFault::BadRelocation(_) | ObjectFault::BadSymbolNumber(_)) => true,
-        Some(ObjectFault::NotAnObject | ObjectFault::NoRelocation) | None => false,
-    }
+    matches!(
+        refused,
+        Some(ObjectFault::BadRelocation(_) | ObjectFault::BadSymbolNumber(_))
+    )
 }
 
 /// The bad relocation words of a file that `ld` refuses for this reason, if it does. An error: out of memory.

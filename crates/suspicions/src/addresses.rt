@@ -1,17 +1,16 @@
 //! Addresses in text at which no instruction begins.
-ghost use Rattle.std.specs.Prelude.{◌≡◌, ◌+◌, ◌*◌, ◌^◌, ◌<◌, ◌≤◌, if◌then◌else◌, [], ℕ, false, length, get_or};
-ghost use Rattle.std.specs.List.{list_any};
+ghost use Rattle.std.specs.Prelude.{◌≡◌, ◌+◌, ◌*◌, ◌^◌, ◌<◌, if◌then◌else◌, [], length, slice_get};
+ghost use Rattle.std.specs.List.{flat_map, list_any};
 ghost use Rattle.aout_core.specs.Encoding.{symbols_at};
+ghost use Rattle.aout_core.specs.Placed.{placed_word, placed_words, relocs_of, words_of};
 ghost use Rattle.findings.specs.Found.{Finds};
-ghost use Rattle.suspicions.specs.declared.evidence.Evidence.TheVariants.{Promise};
-ghost use Rattle.suspicions.specs.Reached.{is_text, is_reached};
-ghost use Rattle.suspicions.specs.Addresses.{misplaced_even, misplaced_at, misplaced_found, is_absolute_text, suspicious_symbol, suspicious_symbols, suspicious_word, suspicious_segment, suspicious_addresses};
+ghost use Rattle.suspicions.specs.Reached.{is_text};
+ghost use Rattle.suspicions.specs.Addresses.{misplaced_even, misplaced_at, misplaced_found, is_absolute_text, suspicious_symbol, suspicious_symbols, suspicious_reloc, suspicious_word, suspicious_addresses};
 
-use crate::evidence::Evidence;
-use crate::leads::is_text;
+use crate::evidence::{Evidence, Reached};
 use crate::referent::bss_to;
-use crate::trust::{Reached, entered};
-use aout_core::{File, Reloc, Segment, Symbol};
+use crate::trust::entered;
+use aout_core::{File, Part, Segment, Symbol};
 use findings::{FilePlaces, FindingKind, Findings, Title};
 use std::fmt::{self, Display, Formatter, Write};
 
@@ -27,10 +26,7 @@ pub(crate) enum Misplaced {
 
 /// Why no instruction begins at an even address of the text or at its end, if none does.
 fn misplaced_even(reached: &Reached<'_>, address: u16) -> Option<Misplaced>
-    requires evidence { reached.now.evidence ≡ Promise }
-    requires marks { (i : ℕ) → get_or reached.now.marks.now i false
-        ≡ is_reached reached.now.evidence reached.now.sweep.now i }
-    ensures { result ≡ misplaced_even reached.now.sweep.now address }
+    ensures { result ≡ misplaced_even reached.now.evidence reached.now.sweep.now address }
 {
     let file = reached.sweep.file();
     if usize::from(address) < 2 * file.text_words().len() {
@@ -47,10 +43,7 @@ fn misplaced_even(reached: &Reached<'_>, address: u16) -> Option<Misplaced>
 
 /// Why no instruction begins at an address, if none does.
 fn misplaced_at(reached: &Reached<'_>, address: u16) -> Option<Misplaced>
-    requires evidence { reached.now.evidence ≡ Promise }
-    requires marks { (i : ℕ) → get_or reached.now.marks.now i false
-        ≡ is_reached reached.now.evidence reached.now.sweep.now i }
-    ensures { result ≡ misplaced_at reached.now.sweep.now address }
+    ensures { result ≡ misplaced_at reached.now.evidence reached.now.sweep.now address }
 {
     if usize::from(address) > 2 * reached.sweep.file().text_words().len() {
         None
@@ -89,7 +82,7 @@ fn is_absolute_text(file: &File, symbol: &Symbol) -> bool
     ensures { result ≡ is_absolute_text file.now symbol.now }
 {
     symbol.is_external()
-        && symbol.type_bits % 0o40 == Segment::Absolute.number()
+        && symbol.is_of(Segment::Absolute)
         && usize::from(symbol.value) < 2 * file.text_words().len()
 }
 
@@ -101,14 +94,11 @@ fn find_misplaced_symbol(
     number: usize,
     symbol: &Symbol,
 )
-    requires evidence { reached.now.evidence ≡ Promise }
-    requires marks { (i : ℕ) → get_or reached.now.marks.now i false
-        ≡ is_reached reached.now.evidence reached.now.sweep.now i }
-    requires near { place < 2 ^ 22 }
+    requires { place < 2 ^ 22 }
     ensures { Finds findings.old findings.new (if is_text symbol.now then misplaced_found (place + 10)
-        (misplaced_at reached.now.sweep.now symbol.now.value) else []) }
+        (misplaced_at reached.now.evidence reached.now.sweep.now symbol.now.value) else []) }
 {
-    if !is_text(symbol) {
+    if !symbol.is_of(Segment::TextSeg) {
         return;
     }
     if let Some(misplaced) = misplaced_at(reached, symbol.value) {
@@ -130,11 +120,8 @@ fn find_symbol(
     number: usize,
     symbol: &Symbol,
 )
-    requires evidence { reached.now.evidence ≡ Promise }
-    requires marks { (i : ℕ) → get_or reached.now.marks.now i false
-        ≡ is_reached reached.now.evidence reached.now.sweep.now i }
-    requires small { number < 65536 }
-    ensures { Finds findings.old findings.new (suspicious_symbol reached.now.sweep.now named
+    requires { number < 65536 }
+    ensures { Finds findings.old findings.new (suspicious_symbol reached.now.evidence reached.now.sweep.now named
         (symbols_at reached.now.sweep.now.header + 12 * number) symbol.now) }
 {
     let file = reached.sweep.file();
@@ -155,15 +142,12 @@ fn find_symbol(
 fn has_text_symbol(symbols: &[Symbol]) -> bool
     ensures { result ≡ list_any is_text symbols.now }
 {
-    symbols.iter().any(|symbol| is_text(symbol))
+    symbols.iter().any(|symbol| symbol.is_of(Segment::TextSeg))
 }
 
 /// Adds what is suspicious of the symbols.
 fn find_symbols(findings: &mut Findings, reached: &Reached<'_>)
-    requires evidence { reached.now.evidence ≡ Promise }
-    requires marks { (i : ℕ) → get_or reached.now.marks.now i false
-        ≡ is_reached reached.now.evidence reached.now.sweep.now i }
-    ensures { Finds findings.old findings.new (suspicious_symbols reached.now.sweep.now
+    ensures { Finds findings.old findings.new (suspicious_symbols reached.now.evidence reached.now.sweep.now
         (list_any is_text reached.now.sweep.now.symbols) 0 reached.now.sweep.now.symbols) }
 {
     let symbols = reached.sweep.file().symbols();
@@ -173,28 +157,22 @@ fn find_symbols(findings: &mut Findings, reached: &Reached<'_>)
     }
 }
 
-/// A word at an address, which is at a byte, and its relocation word.
-#[derive(Clone, Copy)]
-struct Word {
-    place: usize,
-    address: u32,
-    word: u16,
-    reloc: Reloc,
-}
-
-/// Adds a word of kind text, if no instruction begins where it refers to.
-fn find_word(findings: &mut Findings, reached: &Reached<'_>, at: Word)
-    requires evidence { reached.now.evidence ≡ Promise }
-    requires marks { (i : ℕ) → get_or reached.now.marks.now i false
-        ≡ is_reached reached.now.evidence reached.now.sweep.now i }
-    ensures { Finds findings.old findings.new
-        (suspicious_word reached.now.sweep.now at.place at.word at.reloc) }
+/// Adds a word of a part, if it is of kind text and no instruction begins where it refers to.
+fn find_word(findings: &mut Findings, reached: &Reached<'_>, part: Part, number: usize)
+    requires { number < length (words_of reached.now.sweep.now part) }
+    ensures { Finds findings.old findings.new (suspicious_reloc reached.now.evidence reached.now.sweep.now
+        (placed_word reached.now.sweep.now part number)
+        (slice_get (relocs_of reached.now.sweep.now part) number)) }
 {
-    if at.reloc.0 % 0o20 != 2 {
+    let at = reached.sweep.file().placed_word(part, number);
+    let Some(reloc) = at.reloc else {
+        return;
+    };
+    if reloc.0 % 0o20 != 2 {
         return;
     }
     if let Some(misplaced) = misplaced_at(reached, at.word) {
-        let Word { address, word, .. } = at;
+        let (address, word) = (at.address, at.word);
         findings.find_if(
             true,
             at.place,
@@ -206,63 +184,26 @@ fn find_word(findings: &mut Findings, reached: &Reached<'_>, at: Word)
     }
 }
 
-/// The words of a segment, which begins at a byte and at an address, and their relocation words.
-#[derive(Clone, Copy)]
-struct Words<'a> {
-    place: usize,
-    address: u32,
-    words: &'a [u16],
-    relocs: &'a [Reloc],
-}
-
-/// Adds what is suspicious of the words of a segment.
-fn find_words(findings: &mut Findings, reached: &Reached<'_>, segment: &Words<'_>)
-    requires evidence { reached.now.evidence ≡ Promise }
-    requires marks { (i : ℕ) → get_or reached.now.marks.now i false
-        ≡ is_reached reached.now.evidence reached.now.sweep.now i }
-    requires each { length segment.now.relocs.now ≤ length segment.now.words.now }
-    requires short { length segment.now.words.now < 32768 }
-    requires near { segment.now.place < 2 ^ 20 }
-    requires low { segment.now.address < 2 ^ 20 }
-    ensures { Finds findings.old findings.new (suspicious_segment reached.now.sweep.now
-        segment.now.place segment.now.words.now 0 segment.now.relocs.now) }
+/// Adds what is suspicious of the words of a part.
+fn find_words(findings: &mut Findings, reached: &Reached<'_>, part: Part)
+    ensures { Finds findings.old findings.new
+        (flat_map (suspicious_word reached.now.evidence reached.now.sweep.now) (placed_words reached.now.sweep.now part)) }
 {
-    for (number, reloc) in segment.relocs.iter().enumerate() {
-        let at = Word {
-            place: segment.place + 2 * number,
-            address: segment.address + (2 * number) as u32,
-            word: segment.words[number],
-            reloc: *reloc,
-        };
-        find_word(findings, reached, at);
+    let words = reached.sweep.file().words_of(part);
+    for (number, _) in words.iter().enumerate() {
+        find_word(findings, reached, part, number);
     }
 }
 
 /// Adds the addresses in text at which no instruction begins, if all of the text is instructions.
 pub(crate) fn find_addresses(findings: &mut Findings, reached: &Reached<'_>)
-    requires { (i : ℕ) → get_or reached.now.marks.now i false
-        ≡ is_reached reached.now.evidence reached.now.sweep.now i }
     ensures { Finds findings.old findings.new
         (suspicious_addresses reached.now.evidence reached.now.sweep.now) }
 {
     if reached.evidence != Evidence::Promise {
         return;
     }
-    let file = reached.sweep.file();
-    let header = file.header();
-    let text = Words {
-        place: 16,
-        address: 0,
-        words: file.text_words(),
-        relocs: file.text_reloc(),
-    };
-    find_words(findings, reached, &text);
-    let data = Words {
-        place: 16 + usize::from(header.text_size),
-        address: header.data_start() as u32,
-        words: file.data_words(),
-        relocs: file.data_reloc(),
-    };
-    find_words(findings, reached, &data);
+    find_words(findings, reached, Part::Text);
+    find_words(findings, reached, Part::Data);
     find_symbols(findings, reached);
 }

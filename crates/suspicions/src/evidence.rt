@@ -1,4 +1,7 @@
 //! Evidence that a place is reached.
+ghost use Rattle.suspicions.specs.internal.Marks.{ShowReached};
+
+use disassemblies::Sweep;
 
 /// What shows that a place of a text is reached. docs/OBJECTS.md has the rules. (own choice)
 #[derive(Clone, Copy, Debug, PartialEq, Eq)]
@@ -11,4 +14,13 @@ pub enum Evidence {
     /// The caller promises that all of the text is instructions, and nothing else is: then one begins at its beginning, at each symbol of text, and after each
     /// other one.
     Promise,
+}
+
+/// A file, and for each word of its text whether an evidence shows that it is reached.
+#[derive(Clone, Copy)]
+pub(crate) struct Reached<'a> {
+    pub(crate) evidence: Evidence,
+    pub(crate) sweep: &'a Sweep<'a>,
+    pub(crate) marks: &'a [bool],
+    ghost shown: { ShowReached marks.now evidence sweep.now },
 }

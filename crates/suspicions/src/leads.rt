@@ -2,7 +2,7 @@
 ghost use Rattle.std.specs.Prelude.{◌≡◌, ◌<◌, ◌≤◌, ◌+◌, ◌*◌, length, option_map, slice_get};
 ghost use Rattle.std.specs.List.{list_any};
 ghost use Rattle.instructions.specs.UnixLines.{unix_length};
-ghost use Rattle.suspicions.specs.Reached.{is_pc_itself, only_reads, ends_with_pc, counts_down, may_write_pc, passes, is_csv, is_some_csv, is_external_csv, is_csv_at, refers_to_csv, calls_by_r5, calls_csv, flows, returns, is_promised, is_flow, may_leave, is_text, is_between, is_followed, goes_on, next_of, parent_of, branch_of, is_own_distance, is_own_address, jump_by, jump_of, jump};
+ghost use Rattle.suspicions.specs.Reached.{is_pc_itself, only_reads, ends_with_pc, counts_down, may_write_pc, passes, is_csv, is_some_csv, is_external_csv, is_csv_at, refers_to_csv, calls_by_r5, calls_csv, flows, returns, is_promised, is_flow, may_leave, is_between, is_followed, goes_on, next_of, parent_of, branch_of, is_own_distance, is_own_address, jump_by, jump};
 
 use crate::evidence::Evidence;
 use aout_core::{File, Reloc, Segment, Symbol};
@@ -106,13 +106,6 @@ fn passes(operation: Operation, comes_back: bool) -> bool
     }
 }
 
-/// Whether a symbol is one of text.
-pub(crate) fn is_text(symbol: &Symbol) -> bool
-    ensures { result ≡ is_text symbol.now }
-{
-    symbol.type_bits % 0o40 == Segment::TextSeg.number()
-}
-
 /// Whether a word from the pc stays within the text, by its relocation word if it has one.
 fn is_own_distance(reloc: Option<Reloc>) -> bool
     ensures { result ≡ is_own_distance reloc }
@@ -156,7 +149,7 @@ fn is_external_csv(file: &File, reloc: Option<Reloc>) -> bool
 fn is_csv_at(address: u16, symbol: &Symbol) -> bool
     ensures { result ≡ is_csv_at address symbol.now }
 {
-    is_text(symbol) && symbol.value == address && is_csv(symbol)
+    symbol.is_of(Segment::TextSeg) && symbol.value == address && is_csv(symbol)
 }
 
 /// Whether `csv` is a symbol of text in a file, and has an address.
@@ -181,10 +174,7 @@ fn refers_to_csv(file: &File, reloc: Option<Reloc>, next: u32, word: u16) -> boo
 fn calls_by_r5(word: Option<u16>) -> bool
     ensures { result ≡ calls_by_r5 word }
 {
-    match word {
-        Some(word) => word == 0o4567,
-        None => false,
-    }
+    matches!(word, Some(0o4567))
 }
 
 /// Whether `jsr r5,csv` is at a place.
@@ -197,7 +187,7 @@ pub(crate) fn calls_csv(file: &File, place: usize) -> bool
         return false;
     }
     let word = words.get(place + 1).copied().unwrap_or(0);
-    let reloc = file.text_reloc().get(place + 1).copied();
+    let reloc = reloc_at(file, place + 1);
     refers_to_csv(file, reloc, (2 * place + 4) as u32, word)
 }
 
@@ -214,29 +204,20 @@ pub(crate) fn flows(file: &File, place: usize, instruction: &Instruction) -> boo
 fn returns(call: SystemCall) -> bool
     ensures { result ≡ returns call }
 {
-    match call {
-        SystemCall::Exit | SystemCall::Indir => false,
-        _ => true,
-    }
+    !matches!(call, SystemCall::Exit | SystemCall::Indir)
 }
 
 /// Whether all of the text is instructions.
 pub(crate) fn is_promised(evidence: Evidence) -> bool
     ensures { result ≡ is_promised evidence }
 {
-    match evidence {
-        Evidence::Promise => true,
-        Evidence::Names | Evidence::Flow => false,
-    }
+    matches!(evidence, Evidence::Promise)
 }
 
 fn is_flow(evidence: Evidence) -> bool
     ensures { result ≡ is_flow evidence }
 {
-    match evidence {
-        Evidence::Flow => true,
-        Evidence::Names | Evidence::Promise => false,
-    }
+    matches!(evidence, Evidence::Flow)
 }
 
 /// Whether control may leave by an instruction, and never come to the line after it.
@@ -253,7 +234,7 @@ fn is_between(low: usize, high: usize, symbol: &Symbol) -> bool
     ensures { result ≡ is_between low high symbol.now }
 {
     let value = usize::from(symbol.value);
-    is_text(symbol) && low < value && value < high
+    symbol.is_of(Segment::TextSeg) && low < value && value < high
 }
 
 /// Whether a symbol of text has an address between these in a file.
@@ -355,26 +336,7 @@ fn jump_by(
     }
 }
 
-/// The address that an operand of a jump or a call leads to; its word, if it has one, is at a place.
-fn jump_of(file: &File, place: usize, operand: Option<Operand>, word: Option<u16>) -> Option<u16>
-    requires { place ≤ 32770 }
-    ensures { result ≡ jump_of file.now place operand word }
-{
-    match operand {
-        Some(Operand::General(mode, register)) => {
-            let reloc = file.text_reloc().get(place).copied();
-            jump_by(
-                reloc,
-                (2 * place + 2) as u32,
-                word.unwrap_or(0),
-                mode.addressing(register),
-            )
-        }
-        _ => None,
-    }
-}
-
-/// The address that an operand leads to, if its instruction jumps or calls.
+/// The address that an operand leads to, if its instruction jumps or calls; its word, if it has one, is at a place.
 pub(crate) fn jump(
     file: &File,
     operation: Operation,
@@ -385,9 +347,13 @@ pub(crate) fn jump(
     requires { place ≤ 32770 }
     ensures { result ≡ jump file.now operation place operand word }
 {
-    if operation.jumps() {
-        jump_of(file, place, operand, word)
-    } else {
-        None
+    match operand {
+        Some(Operand::General(mode, register)) if operation.jumps() => jump_by(
+            reloc_at(file, place),
+            (2 * place + 2) as u32,
+            word.unwrap_or(0),
+            mode.addressing(register),
+        ),
+        _ => None,
     }
 }

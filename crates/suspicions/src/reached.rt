@@ -10,9 +10,9 @@ ghost use Rattle.suspicions.specs.internal.Marks.{AreMarks, is_unmarked};
 
 use crate::evidence::Evidence;
 use crate::leads::{
-    address_of, branch_of, calls_csv, is_promised, is_text, jump, next_of, parent_of,
+    address_of, branch_of, calls_csv, is_promised, jump, next_of, parent_of, reloc_at,
 };
-use aout_core::{File, Header, Reloc, Symbol};
+use aout_core::{File, Header, Reloc, Segment, Symbol};
 use disassemblies::Sweep;
 use instructions::{Addressing, Instruction, Line, Operand, UnixLine, is_relocated};
 use std::alloc::{AllocError, Global};
@@ -83,10 +83,7 @@ fn visit_all(
 fn is_still(reloc: Option<Reloc>) -> bool
     ensures { result ≡ is_still reloc }
 {
-    match reloc {
-        Some(reloc) => !is_relocated(Some(reloc)),
-        None => false,
-    }
+    reloc.is_some() && !is_relocated(reloc)
 }
 
 /// Whether an evidence begins with a place that has the address of a symbol of text.
@@ -94,7 +91,7 @@ fn begins(evidence: Evidence, file: &File, place: usize) -> bool
     requires { place < 32768 }
     ensures { result ≡ begins evidence file.now place }
 {
-    let reloc = file.text_reloc().get(place).copied();
+    let reloc = reloc_at(file, place);
     match evidence {
         Evidence::Names => is_still(reloc),
         Evidence::Flow => is_still(reloc) && calls_csv(file, place),
@@ -106,7 +103,7 @@ fn begins(evidence: Evidence, file: &File, place: usize) -> bool
 fn named(evidence: Evidence, file: &File, symbol: &Symbol) -> Option<u16>
     ensures { result ≡ named evidence file.now symbol.now }
 {
-    if is_text(symbol) && begins(evidence, file, usize::from(symbol.value / 2)) {
+    if symbol.is_of(Segment::TextSeg) && begins(evidence, file, usize::from(symbol.value / 2)) {
         Some(symbol.value)
     } else {
         None
@@ -151,8 +148,7 @@ fn has_distance(file: &File, place: usize, operand: Option<Operand>) -> bool
 {
     match operand {
         Some(Operand::General(mode, register)) => {
-            let reloc = file.text_reloc().get(place).copied();
-            is_distance(reloc, mode.addressing(register))
+            is_distance(reloc_at(file, place), mode.addressing(register))
         }
         _ => false,
     }
@@ -216,11 +212,7 @@ fn visit_nameless(
 fn entry(header: &Header) -> Option<u16>
     ensures { result ≡ entry header.now }
 {
-    if header.flag == 0 {
-        None
-    } else {
-        Some(header.entry_point)
-    }
+    (header.flag != 0).then_some(header.entry_point)
 }
 
 /// Notes the places with which an evidence begins.

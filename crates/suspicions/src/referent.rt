@@ -12,11 +12,11 @@ ghost use Rattle.suspicions.specs.Referents.{referent_of, referred, access_by, g
 ghost use Rattle.suspicions.specs.Referents.{is_certain, suspicious_mismatch, suspicious_referent, suspicious_way, suspicious_reference, suspicious_references};
 
 use crate::leads::{is_promised, reloc_at};
-use crate::suspect::{Suspect, doubt_text};
+use crate::suspect::{Suspect, doubt_text, word_place};
 use aout_core::{File, Header, Kind, Reloc, Segment, Symbol};
-use findings::{FilePlaces, FindingKind, Findings, put_instruction};
+use findings::{FindingKind, Findings};
 use instructions::{Addressing, Instruction, Line, Operand, UnixLine, is_relocated};
-use texts::Text;
+use std::fmt::{self, Display, Formatter, Write};
 
 /// What the word of an operand refers to. (a.out(5))
 #[derive(Clone, Copy)]
@@ -120,10 +120,7 @@ fn access_by(jumps: bool, addressing: Addressing) -> Access
 fn goes(access: Access) -> bool
     ensures { result ≡ goes access }
 {
-    match access {
-        Access::Goes => true,
-        Access::Touches | Access::Neither => false,
-    }
+    matches!(access, Access::Goes)
 }
 
 /// The address at which bss ends.
@@ -154,9 +151,7 @@ fn is_storage(header: &Header, address: u16) -> bool
 fn is_stored_at(address: u16, symbol: &Symbol) -> bool
     ensures { result ≡ is_stored_at address symbol.now }
 {
-    let number = symbol.type_bits % 0o40;
-    (number == Segment::DataSeg.number() || number == Segment::BssSeg.number())
-        && symbol.value == address
+    (symbol.is_of(Segment::DataSeg) || symbol.is_of(Segment::BssSeg)) && symbol.value == address
 }
 
 /// Whether some symbol of data or bss has an address in a file.
@@ -181,21 +176,13 @@ fn common_size(symbol: Option<&Symbol>) -> u16
 fn wrong_place(access: Access, address: u16) -> Option<Mismatch>
     ensures { result ≡ wrong_place access address }
 {
-    if goes(access) && address % 2 == 1 {
-        Some(Mismatch::OddPlace(address))
-    } else {
-        None
-    }
+    (goes(access) && address % 2 == 1).then_some(Mismatch::OddPlace(address))
 }
 
 fn wrong_storage(access: Access, address: u16) -> Option<Mismatch>
     ensures { result ≡ wrong_storage access address }
 {
-    if goes(access) {
-        Some(Mismatch::DataCalled(address))
-    } else {
-        None
-    }
+    goes(access).then_some(Mismatch::DataCalled(address))
 }
 
 /// What is wrong with a word so many bytes beyond an external of so many bytes.
@@ -248,67 +235,57 @@ fn is_certain(promised: bool, mismatch: Mismatch) -> bool
     }
 }
 
-/// Appends what is wrong with a word, and what to do.
-fn put_mismatch(text: &mut Text, mismatch: Mismatch, doubt: &str) {
-    match mismatch {
-        Mismatch::Unmarked(n) => text.say(format_args!(
-            " is not relocated, and {n:06o} is the address of a symbol of data or bss{doubt}: \
-             if that is meant, its relocation word is 4 for data or 6 for bss"
-        )),
-        Mismatch::Unrelocated(n) => text.say(format_args!(
-            " counts from the pc to {n:06o}, which is after text, and is not relocated{doubt}: \
-             give it the relocation word of what is there, 5 for data or 7 for bss"
-        )),
-        Mismatch::Absolute(n) => text.say(format_args!(
-            " counts from the pc to {n:06o}, which is in data or bss, and is of kind absolute{doubt}: \
-             make its relocation word 5 for data or 7 for bss"
-        )),
-        Mismatch::Beyond(n) => text.say(format_args!(
-            " is of a call or a jump, and adds {n:06o} to an external{doubt}: subtract that number"
-        )),
-        Mismatch::CommonCalled(n) => text.say(format_args!(
-            " is of a call or a jump, and refers to a common of {n:06o} bytes{doubt}: \
-             a function that is not defined has value 000000"
-        )),
-        Mismatch::Outgrown(n) => text.say(format_args!(
-            " adds {n:06o} to a common, which is beyond it{doubt}: add no value of a symbol that is not defined"
-        )),
-        Mismatch::OddPlace(n) => text.say(format_args!(
-            " is of a call or a jump, and refers to the odd address {n:06o}{doubt}: \
-             an instruction begins at an even address"
-        )),
-        Mismatch::DataCalled(n) => text.say(format_args!(
-            " is of a call or a jump, and refers to {n:06o}, which is in data or bss{doubt}: \
-             a word that refers to text has relocation word 2, or 3 from the pc"
-        )),
-    }
+/// What is wrong with a word, and what to do.
+#[derive(Clone, Copy)]
+struct Said {
+    mismatch: Mismatch,
+    is_sure: bool,
 }
 
-/// Adds what is wrong with what the word at a place refers to.
-fn find_mismatch(
-    findings: &mut Findings,
-    at: &Suspect<'_>,
-    place: usize,
-    mismatch: Option<Mismatch>,
-)
-    requires { place < 2 ^ 20 }
-    ensures { Finds findings.old findings.new (suspicious_mismatch at.now.lines.evidence at.now.trust place mismatch) }
-{
-    let Some(mismatch) = mismatch else {
-        return;
-    };
-    let is_sure = at.trust.is_sure && is_certain(is_promised(at.lines.evidence), mismatch);
-    let address = 2 * place;
-    let mut text = findings.text();
-    text.say(format_args!("the word at {address:06o}"));
-    put_mismatch(&mut text, mismatch, doubt_text(is_sure));
-    put_instruction(&mut text, at.sweep().named(), at.start);
-    findings.find_as(
-        is_sure,
-        FilePlaces::of(at.sweep().file().header()).text + 2 * place,
-        FindingKind::UnsuitableReference,
-        text,
-    );
+impl Display for Said {
+    fn fmt<W: fmt::Write>(&self, f: &mut Formatter<W>) -> fmt::Result {
+        let doubt = doubt_text(self.is_sure);
+        match self.mismatch {
+            Mismatch::Unmarked(n) => write!(
+                f,
+                " is not relocated, and {n:06o} is the address of a symbol of data or bss{doubt}: \
+             if that is meant, its relocation word is 4 for data or 6 for bss"
+            ),
+            Mismatch::Unrelocated(n) => write!(
+                f,
+                " counts from the pc to {n:06o}, which is after text, and is not relocated{doubt}: \
+             give it the relocation word of what is there, 5 for data or 7 for bss"
+            ),
+            Mismatch::Absolute(n) => write!(
+                f,
+                " counts from the pc to {n:06o}, which is in data or bss, and is of kind absolute{doubt}: \
+             make its relocation word 5 for data or 7 for bss"
+            ),
+            Mismatch::Beyond(n) => write!(
+                f,
+                " is of a call or a jump, and adds {n:06o} to an external{doubt}: subtract that number"
+            ),
+            Mismatch::CommonCalled(n) => write!(
+                f,
+                " is of a call or a jump, and refers to a common of {n:06o} bytes{doubt}: \
+             a function that is not defined has value 000000"
+            ),
+            Mismatch::Outgrown(n) => write!(
+                f,
+                " adds {n:06o} to a common, which is beyond it{doubt}: add no value of a symbol that is not defined"
+            ),
+            Mismatch::OddPlace(n) => write!(
+                f,
+                " is of a call or a jump, and refers to the odd address {n:06o}{doubt}: \
+             an instruction begins at an even address"
+            ),
+            Mismatch::DataCalled(n) => write!(
+                f,
+                " is of a call or a jump, and refers to {n:06o}, which is in data or bss{doubt}: \
+             a word that refers to text has relocation word 2, or 3 from the pc"
+            ),
+        }
+    }
 }
 
 /// An operand word at a place, of an instruction that jumps or calls or does not.
@@ -317,23 +294,6 @@ struct Placed {
     jumps: bool,
     place: usize,
     word: u16,
-}
-
-/// Adds what is wrong with what an operand word refers to, by its relocation word.
-fn find_referent(findings: &mut Findings, at: &Suspect<'_>, placed: Placed, addressing: Addressing)
-    requires { placed.place ≤ 32770 }
-    ensures { Finds findings.old findings.new (suspicious_referent at.now.lines.evidence
-        at.now.lines.sweep.now at.now.trust placed.place placed.jumps placed.word
-        addressing (slice_get at.now.lines.sweep.now.text_reloc placed.place)) }
-{
-    let file = at.sweep().file();
-    let Some(reloc) = reloc_at(file, placed.place) else {
-        return;
-    };
-    let next = (2 * placed.place + 2) as u32;
-    let referent = referred(addressing.counts_from_pc(), reloc, next, placed.word);
-    let found = mismatch_of(file, access_by(placed.jumps, addressing), referent);
-    find_mismatch(findings, at, placed.place, found);
 }
 
 /// Adds what is wrong with what an operand refers to.
@@ -354,12 +314,28 @@ fn find_reference(
     let Some(addressing) = mode.addressing(register) else {
         return;
     };
-    find_referent(findings, at, placed, addressing);
+    let file = at.sweep().file();
+    let Some(reloc) = reloc_at(file, placed.place) else {
+        return;
+    };
+    let next = (2 * placed.place + 2) as u32;
+    let referent = referred(addressing.counts_from_pc(), reloc, next, placed.word);
+    let Some(mismatch) = mismatch_of(file, access_by(placed.jumps, addressing), referent) else {
+        return;
+    };
+    let is_sure = at.trust.is_sure && is_certain(is_promised(at.lines.evidence), mismatch);
+    let (address, said) = (2 * placed.place, Said { mismatch, is_sure });
+    at.find(
+        findings,
+        is_sure,
+        word_place(placed.place),
+        FindingKind::UnsuitableReference,
+        format_args!("the word at {address:06o}{said}"),
+    );
 }
 
 /// Adds what is wrong with what the operands of a line refer to, if it is reached.
 pub(crate) fn find_references(findings: &mut Findings, at: &Suspect<'_>, line: &UnixLine)
-    requires { at.now.start < 2 ^ 15 }
     ensures { Finds findings.old findings.new (suspicious_references at.now.lines.evidence
         at.now.lines.sweep.now at.now.trust at.now.start line.now) }
 {

@@ -1,9 +1,13 @@
 //! A line that is looked at.
-ghost use Rattle.std.specs.Prelude.{◌≡◌, ◌<◌, ◌*◌, length};
+ghost use Rattle.std.specs.Prelude.{◌≡◌, ◌<◌, ◌*◌, ◌^◌, true, length};
+ghost use Rattle.findings.specs.Found.{Finds, found_as};
+ghost use Rattle.suspicions.specs.Branches.{word_place};
 
-use crate::leads::address_of;
-use crate::trust::{Reached, Trust};
+use crate::evidence::Reached;
+use crate::trust::Trust;
 use disassemblies::Sweep;
+use findings::{FindingKind, Findings, Labelled, put_instruction};
+use std::fmt::Display;
 
 /// A line of a file's text: the place at which it begins, how far it is sure that it is an instruction, and the lines that a branch may
 /// enter.
@@ -12,6 +16,8 @@ pub(crate) struct Suspect<'a> {
     pub(crate) lines: Reached<'a>,
     pub(crate) start: usize,
     pub(crate) trust: Trust,
+    ghost inside: { start < length lines.sweep.now.text_words },
+    ghost near: { start < 2 ^ 15 },
 }
 
 impl<'a> Suspect<'a> {
@@ -24,11 +30,61 @@ impl<'a> Suspect<'a> {
 
     /// The address of the line.
     pub(crate) fn address(&self) -> u16
-        requires { self.now.start < length self.now.lines.sweep.now.text_words }
         ensures { result ≡ 2 * self.now.start }
     {
-        address_of(self.lines.sweep.file(), self.start)
+        (2 * self.start) as u16
     }
+
+    /// The byte of the file at which the line begins.
+    pub(crate) fn place(&self) -> usize
+        ensures { result ≡ word_place self.now.start }
+    {
+        word_place(self.start)
+    }
+
+    /// Adds a finding, with the instruction.
+    pub(crate) fn find<D: Display + Drop>(
+        &self,
+        findings: &mut Findings,
+        is_sure: bool,
+        place: usize,
+        kind: FindingKind,
+        says: D,
+    )
+        ensures { Finds findings.old findings.new (found_as is_sure true place kind) }
+    {
+        let mut text = findings.text();
+        text.say(says);
+        put_instruction(&mut text, self.sweep().named(), self.start);
+        findings.find_as(is_sure, place, kind, text);
+    }
+
+    /// Adds a finding on the place of the line, by words before its address and after it.
+    pub(crate) fn find_here(
+        &self,
+        findings: &mut Findings,
+        place: usize,
+        kind: FindingKind,
+        before: &str,
+        after: &str,
+    )
+        ensures { Finds findings.old findings.new (found_as self.now.trust.is_sure true place kind) }
+    {
+        let (symbols, is_sure) = (self.sweep().file().symbols(), self.trust.is_sure);
+        let (address, doubt) = (self.address(), doubt_text(is_sure));
+        let at = Labelled { symbols, address };
+        let mut text = findings.text();
+        text.say(format_args!("{before} {at}{after}{doubt}"));
+        findings.find_as(is_sure, place, kind, text);
+    }
+}
+
+/// The byte of the file that a word of text has.
+pub(crate) fn word_place(place: usize) -> usize
+    requires { place < 2 ^ 20 }
+    ensures { result ≡ word_place place }
+{
+    16 + 2 * place
 }
 
 /// What is said of a line that may be of data.

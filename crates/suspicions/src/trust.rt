@@ -1,15 +1,13 @@
 //! How far it is sure that a line is an instruction.
-ghost use Rattle.std.specs.Prelude.{◌≡◌, ◌≤◌, ◌<◌, ◌^◌, length, ℕ, false, get_or, IfSome};
+ghost use Rattle.std.specs.Prelude.{◌≡◌, ◌≤◌, ◌<◌, ◌^◌, length, IfSome};
 ghost use Rattle.instructions.specs.UnixLines.{unix_length};
 ghost use Rattle.instructions.specs.declared.unix.Decoder.TheVariants.{Unix};
 ghost use Rattle.disassemblies.specs.Lines.{unix_line_in};
-ghost use Rattle.suspicions.specs.Reached.{is_reached};
 ghost use Rattle.suspicions.specs.Trust as spec;
 
-use crate::evidence::Evidence;
+use crate::evidence::Reached;
 use crate::leads::is_promised;
 use crate::reached::is_marked;
-use disassemblies::Sweep;
 
 /// How far it is sure that a line is an instruction.
 #[derive(Clone, Copy)]
@@ -19,18 +17,8 @@ pub(crate) struct Trust {
     pub(crate) is_sure: bool,
 }
 
-/// A file, and for each word of its text whether an evidence shows that it is reached.
-#[derive(Clone, Copy)]
-pub(crate) struct Reached<'a> {
-    pub(crate) evidence: Evidence,
-    pub(crate) sweep: &'a Sweep<'a>,
-    pub(crate) marks: &'a [bool],
-}
-
 /// Whether the line at a reached place has the word so many words after it.
 fn has_word_at(reached: &Reached<'_>, start: usize, back: usize) -> bool
-    requires { (i : ℕ) → get_or reached.now.marks.now i false
-        ≡ is_reached reached.now.evidence reached.now.sweep.now i }
     ensures { result ≡ spec.has_word_at reached.now.evidence reached.now.sweep.now start back }
 {
     start < reached.sweep.file().text_words().len()
@@ -40,8 +28,6 @@ fn has_word_at(reached: &Reached<'_>, start: usize, back: usize) -> bool
 
 /// Whether the line at a reached place so many words before a place has its word.
 fn enters(reached: &Reached<'_>, place: usize, back: usize) -> bool
-    requires { (i : ℕ) → get_or reached.now.marks.now i false
-        ≡ is_reached reached.now.evidence reached.now.sweep.now i }
     ensures { result ≡ spec.enters reached.now.evidence reached.now.sweep.now place back }
 {
     place >= back && has_word_at(reached, place - back, back)
@@ -49,8 +35,6 @@ fn enters(reached: &Reached<'_>, place: usize, back: usize) -> bool
 
 /// The nearest reached place before this one whose line has its word.
 pub(crate) fn entered(reached: &Reached<'_>, place: usize) -> Option<usize>
-    requires { (i : ℕ) → get_or reached.now.marks.now i false
-        ≡ is_reached reached.now.evidence reached.now.sweep.now i }
     ensures value { result ≡ spec.entered reached.now.evidence reached.now.sweep.now place }
     ensures before { IfSome result (λ start. start ≤ place) }
 {
@@ -72,8 +56,6 @@ fn is_entered(reached: &Reached<'_>, place: usize, count: usize, ahead: usize) -
     requires inside { place < 2 ^ 15 }
     requires short { ahead ≤ 4 }
     requires counted { count ≡ unix_length (unix_line_in Unix reached.now.sweep.now place) }
-    requires marks { (i : ℕ) → get_or reached.now.marks.now i false
-        ≡ is_reached reached.now.evidence reached.now.sweep.now i }
     ensures { result ≡ spec.is_entered reached.now.evidence reached.now.sweep.now place ahead }
 {
     ahead < count && is_marked(reached.marks, place + ahead)
@@ -81,9 +63,7 @@ fn is_entered(reached: &Reached<'_>, place: usize, count: usize, ahead: usize) -
 
 /// Whether the line at a place overlaps another one that is reached.
 fn overlaps(reached: &Reached<'_>, place: usize) -> bool
-    requires inside { place < length reached.now.sweep.now.text_words }
-    requires marks { (i : ℕ) → get_or reached.now.marks.now i false
-        ≡ is_reached reached.now.evidence reached.now.sweep.now i }
+    requires { place < length reached.now.sweep.now.text_words }
     ensures { result ≡ spec.overlaps reached.now.evidence reached.now.sweep.now place }
 {
     let is_inside = place < reached.sweep.file().text_words().len();
@@ -98,9 +78,7 @@ fn overlaps(reached: &Reached<'_>, place: usize) -> bool
 
 /// Whether it is sure that an instruction is at a place.
 pub(crate) fn is_sure(reached: &Reached<'_>, place: usize) -> bool
-    requires inside { place < length reached.now.sweep.now.text_words }
-    requires marks { (i : ℕ) → get_or reached.now.marks.now i false
-        ≡ is_reached reached.now.evidence reached.now.sweep.now i }
+    requires { place < length reached.now.sweep.now.text_words }
     ensures { result ≡ spec.is_sure reached.now.evidence reached.now.sweep.now place }
 {
     is_marked(reached.marks, place) && (is_promised(reached.evidence) || !overlaps(reached, place))

@@ -9,9 +9,10 @@ ghost use Rattle.suspicions.specs.Reached.{flows};
 ghost use Rattle.suspicions.specs.Uses.{leads_nowhere, has_words, counts_from_even, is_odd, odd_operand, suspicious_uses};
 
 use crate::leads::{flows, reloc_at};
-use crate::suspect::{Suspect, doubt_text};
+use crate::suspect::{Suspect, doubt_text, word_place};
 use aout_core::Reloc;
-use findings::{FilePlaces, FindingKind, Findings, put_instruction};
+use findings::FindingKind::{self, NoEnd, OddOperand, UnsuitableJump};
+use findings::Findings;
 use instructions::{Addressing, Instruction, Line, Operand, Register, UnixLine};
 
 /// Whether the destination of `jmp` or `jsr` with this first word is a register, or `$N`.
@@ -70,11 +71,13 @@ fn find_use(
     ensures { Finds findings.old findings.new (found_as is_sure true (word_place place) kind) }
 {
     let (address, doubt) = (2 * place, doubt_text(is_sure));
-    let mut text = findings.text();
-    text.say(format_args!("the word at {address:06o} {said}{doubt}"));
-    put_instruction(&mut text, at.sweep().named(), at.start);
-    let byte = FilePlaces::of(at.sweep().file().header()).text + 2 * place;
-    findings.find_as(is_sure, byte, kind, text);
+    at.find(
+        findings,
+        is_sure,
+        word_place(place),
+        kind,
+        format_args!("the word at {address:06o} {said}{doubt}"),
+    );
 }
 
 /// Adds an operand that has this word at a place, if that leads to an odd address.
@@ -95,39 +98,27 @@ fn find_odd(
     let reloc = reloc_at(at.sweep().file(), place);
     if is_odd(mode.addressing(register), register, word, reloc) {
         let said = "leads to a word of memory at an odd address";
-        find_use(
-            findings,
-            at,
-            at.trust.is_sure,
-            place,
-            FindingKind::OddOperand,
-            said,
-        );
+        find_use(findings, at, at.trust.is_sure, place, OddOperand, said);
     }
 }
 
 /// Adds an instruction of so many words, if it is the last one and goes on.
 fn find_no_end(findings: &mut Findings, at: &Suspect<'_>, instruction: &Instruction, count: usize)
-    requires inside { at.now.start < length at.now.lines.sweep.now.text_words }
-    requires short { count ≤ 5 }
+    requires { count ≤ 5 }
     ensures { Finds findings.old findings.new (found_as false (eqb (at.now.start + count)
         (length at.now.lines.sweep.now.text_words) && flows at.now.lines.sweep.now at.now.start instruction.now)
         (word_place at.now.start) NoEnd) }
 {
     let file = at.sweep().file();
-    let size = file.text_words().len();
-    let is_inside = at.start < size;
-    prove!(is_inside);
-    if at.start + count == size && flows(file, at.start, instruction) {
+    if at.start + count == file.text_words().len() && flows(file, at.start, instruction) {
         let said = "is of the last instruction of text, and that goes on";
-        find_use(findings, at, false, at.start, FindingKind::NoEnd, said);
+        find_use(findings, at, false, at.start, NoEnd, said);
     }
 }
 
 /// Adds what is suspicious of a line by itself, if it is reached.
 pub(crate) fn find_uses(findings: &mut Findings, at: &Suspect<'_>, line: &UnixLine)
-    requires inside { at.now.start < length at.now.lines.sweep.now.text_words }
-    requires short { unix_length line.now ≤ 5 }
+    requires { unix_length line.now ≤ 5 }
     ensures { Finds findings.old findings.new
         (suspicious_uses at.now.lines.sweep.now at.now.trust at.now.start line.now) }
 {
@@ -137,18 +128,12 @@ pub(crate) fn find_uses(findings: &mut Findings, at: &Suspect<'_>, line: &UnixLi
     if !at.trust.is_reached {
         return;
     }
-    let (first, place) = (at.sweep().file().text_words()[at.start], at.start + 1);
+    let (is_sure, place) = (at.trust.is_sure, at.start + 1);
+    let first = at.sweep().file().text_words()[at.start];
     if instruction.row.operation.jumps() {
         if leads_nowhere(first) {
             let said = "jumps or calls, and leads to no place of memory";
-            find_use(
-                findings,
-                at,
-                at.trust.is_sure,
-                at.start,
-                FindingKind::UnsuitableJump,
-                said,
-            );
+            find_use(findings, at, is_sure, at.start, UnsuitableJump, said);
         }
         return;
     }

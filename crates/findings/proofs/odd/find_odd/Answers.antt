@@ -1,6 +1,8 @@
-use Rattle.std.proofs.Common.{◌≡◌, ◌+◌, ◌%◌, ◌++◌, true, false, ap, ◌∙◌}
-use Rattle.aout_core.specs.{declared.header.Header.Header, Contents.Contents, Encoding.relocation_at, Addresses.data_start_in}
-use Rattle.findings.specs.Odd.{odd_header, odd_words, odd_symbols}
+use Rattle.std.proofs.Common.{◌++◌}
+use Rattle.std.specs.List.{flat_map}
+use Rattle.aout_core.specs.Placed.{placed_words}
+use Rattle.aout_core.specs.declared.part.Part.TheVariants.{Text, Data}
+use Rattle.findings.specs.Odd.{odd_header, odd_word, odd_symbols}
 use Rattle.findings.proofs.SymbolLemmas.{four_parts}
 use Rattle.findings.proofs.odd.find_odd.Goals as goal
 
@@ -10,19 +12,13 @@ returns c =
     let bytes = c.args.source.now.bytes.now in
     λ whole.
     let symbols = c.find_symbols.ensures whole in
-    let words = c.find_data.ensures symbols.0 in
-    let text = c.find_text.ensures words.0 in
-    let header = c.find_ignored.ensures text.0 in (
+    let words = c.find_words-2.ensures symbols.0 in
+    let text = c.find_words.ensures words.0 in
+    let header = c.find_header.ensures text.0 in (
       header.0,
-      four_parts c.args.findings.now.found c.find_ignored.new.findings.found c.find_text.new.findings.found
-          c.find_data.new.findings.found c.find_symbols.new.findings.found
-          (odd_header file.header bytes)
-          (odd_words file true (relocation_at file.header) 0 file.text_words 0 file.text_reloc)
-          (odd_words file false (relocation_at file.header + file.header.text_size) (data_start_in file.header % 65536) file.data_words 0
-          file.data_reloc)
+      four_parts c.args.findings.now.found c.find_header.new.findings.found c.find_words.new.findings.found
+          c.find_words-2.new.findings.found c.find_symbols.new.findings.found (odd_header file.header bytes)
+          (flat_map (odd_word file) (placed_words file Text)) (flat_map (odd_word file) (placed_words file Data))
           (odd_symbols c.args.source.now.commons file bytes 0 file.symbols)
-          (header.1
-          ∙ ap (λ (h : Header). c.args.findings.now.found ++ odd_header h bytes)
-          (c.header.ensures.value ∙ ap (λ (k : Contents). k.header) c.file.ensures))
-          text.1 words.1 symbols.1,
+          header.1 text.1 words.1 symbols.1,
     )

@@ -6,5 +6,5 @@ use Rattle.suspicions.proofs.addresses.find_symbols.Given as goal
 abbrev pub invariant-loop-number : goal.invariant-loop-number
 invariant-loop-number l =
     l.findings.is_cut ≡ false → (l.initial.findings.is_cut ≡ false)
-    × (l.findings.found ++ suspicious_symbols l.reached.sweep.now l.named l.number (drop l.number l.symbols)
-    ≡ l.initial.findings.found ++ suspicious_symbols l.reached.sweep.now l.named 0 l.symbols)
+    × (l.findings.found ++ suspicious_symbols l.reached.evidence l.reached.sweep.now l.named l.number (drop l.number l.symbols)
+    ≡ l.initial.findings.found ++ suspicious_symbols l.reached.evidence l.reached.sweep.now l.named 0 l.symbols)

@@ -1,12 +1,12 @@
 use Rattle.std.proofs.Common.{◌≡◌, ◌++◌, drop, false}
-use Rattle.suspicions.specs.Addresses.{suspicious_segment}
+use Rattle.std.specs.List.{flat_map}
+use Rattle.aout_core.specs.Placed.{placed_from, placed_words}
+use Rattle.suspicions.specs.Addresses.{suspicious_word}
 use Rattle.suspicions.proofs.addresses.find_words.Given as goal
 
 -- the findings so far, and those of the words that are left
 abbrev pub invariant-loop-number : goal.invariant-loop-number
 invariant-loop-number l =
     l.findings.is_cut ≡ false → (l.initial.findings.is_cut ≡ false)
-    × (l.findings.found ++ suspicious_segment l.reached.sweep.now l.segment.place l.segment.words.now l.number
-    (drop l.number l.segment.relocs.now)
-    ≡ l.initial.findings.found
-    ++ suspicious_segment l.reached.sweep.now l.segment.place l.segment.words.now 0 l.segment.relocs.now)
+    × (l.findings.found ++ flat_map (suspicious_word l.reached.evidence l.reached.sweep.now) (placed_from l.reached.sweep.now l.part l.number (drop l.number l.words))
+    ≡ l.initial.findings.found ++ flat_map (suspicious_word l.reached.evidence l.reached.sweep.now) (placed_words l.reached.sweep.now l.part))

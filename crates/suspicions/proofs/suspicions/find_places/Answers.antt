@@ -5,8 +5,8 @@ use Rattle.suspicions.proofs.suspicions.find_places.Goals as goal
 
 pub loop-place-preserved : goal.loop-place-preserved
 loop-place-preserved c =
-    let evidence = c.args.marked.now.evidence in
-    let file = c.args.marked.now.sweep.now in
+    let evidence = c.args.marked.now.shown.evidence in
+    let file = c.args.marked.now.shown.sweep.now in
     λ whole.
     let put = c.find_place.ensures whole in
     let so_far = c.loop-place.invariant put.0 in (

@@ -6,5 +6,5 @@ use Rattle.suspicions.proofs.suspicions.find_places.Given as goal
 abbrev pub invariant-loop-place : goal.invariant-loop-place
 invariant-loop-place l =
     l.findings.is_cut ≡ false → (l.initial.findings.is_cut ≡ false)
-    × (l.findings.found ++ suspicious_words l.marked.evidence l.marked.sweep.now l.place (drop l.place l.words)
-    ≡ l.initial.findings.found ++ suspicious_words l.marked.evidence l.marked.sweep.now 0 l.marked.sweep.now.text_words)
+    × (l.findings.found ++ suspicious_words l.marked.shown.evidence l.marked.shown.sweep.now l.place (drop l.place l.words)
+    ≡ l.initial.findings.found ++ suspicious_words l.marked.shown.evidence l.marked.shown.sweep.now 0 l.marked.shown.sweep.now.text_words)

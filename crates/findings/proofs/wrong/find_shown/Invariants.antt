@@ -1,6 +1,6 @@
 use Rattle.std.proofs.Common.{◌≡◌, ◌++◌, drop, false}
 use Rattle.findings.specs.internal.BadWords.{all_bad}
-use Rattle.findings.proofs.wrong.find_each.Given as goal
+use Rattle.findings.proofs.wrong.find_shown.Given as goal
 
 abbrev pub invariant-loop-word : goal.invariant-loop-word
 invariant-loop-word l =
