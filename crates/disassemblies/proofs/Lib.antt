@@ -8,4 +8,5 @@ pub mod PlainLemmas
 pub mod ColumnLemmas
 pub mod SweptLemmas
 pub mod StringLemmas
+pub mod NameLemmas
 pub mod NearLemmas

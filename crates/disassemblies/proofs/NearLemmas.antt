@@ -1,32 +1,15 @@
 -- The nearest label is the first that is found from the address back.
-use Rattle.std.proofs.Common.{◌≡◌, ℕ, zero, suc, ◌+◌, ◌-◌, ◌<◌, ◌≤◌, Bool, true, false, ◌&&◌, cond, nat_le, if◌then◌else◌, List, [], ◌∷◌}
-use Rattle.std.proofs.Common.{find, Option, Some, None, IsSome, ◌==◌, nat_lt, refl, sym, ◌∙◌, ap, subst, arith}
+use Rattle.std.proofs.Common.{◌≡◌, ℕ, zero, suc, ◌+◌, ◌-◌, ◌<◌, ◌≤◌, Bool, true, false, cond, nat_le, if◌then◌else◌, List}
+use Rattle.std.proofs.Common.{Option, Some, None, IsSome, ◌==◌, nat_lt, refl, sym, ◌∙◌, ap, subst, arith}
 use Rattle.std.proofs.lemmas.Bool.Decides.{nat_tests}
 use Rattle.std.specs.Ordering.{nat_cmp, is_lt, is_gt, ordering_then}
 use Rattle.std.specs.declared.cmp.Ordering.TheVariants.{Less, Equal, Greater}
-use Rattle.aout_core.specs.WellFormed.{first_of, is_external, segment_number}
+use Rattle.aout_core.specs.WellFormed.{first_of, segment_number}
 use Rattle.aout_core.specs.{declared.symbol.Symbol.Symbol, declared.symbol.Segment.Segment}
 use Rattle.instructions.specs.declared.reference.Reference.{Reference}
-use Rattle.disassemblies.specs.Naming.{is_at, is_external_at, symbol_at}
+use Rattle.disassemblies.specs.Naming.{symbol_at}
 use Rattle.disassemblies.specs.Near.{bytes_beyond, label_before, nearest_within, near}
 use Rattle.disassemblies.specs.internal.Nearest.{IsUpTo, IsLastUpTo, IsFree, IsNearest}
-
--- a value that no symbol has no external has
-no_external : (segment : Segment) (v : ℕ) (symbols : List Symbol) → IsFree symbols segment v →
-    find (λ s. is_external_at segment v s) symbols ≡ None
-no_external segment v [] h = refl
-no_external segment v (s ∷ ss) h = by_test (is_at segment v s) (is_external s) refl (no_external segment v ss) h
-  where
-    by_test : (t u : Bool) → is_at segment v s ≡ t → (IsFree ss segment v → find (λ s. is_external_at segment v s) ss ≡ None) →
-        cond t (Some s) (find (λ s. is_at segment v s) ss) ≡ None →
-        cond (u && is_at segment v s) (Some s) (find (λ s. is_external_at segment v s) ss) ≡ None
-    by_test true u e more h = absurd cc
-    by_test false true e more h = ap (λ (t : Bool). cond t (Some s) (find (λ s. is_external_at segment v s) ss)) e ∙ more h
-    by_test false false e more h = more h
-
-no_symbol : (symbols : List Symbol) (segment : Segment) (v : ℕ) → IsFree symbols segment v → symbol_at symbols segment v ≡ None
-no_symbol symbols segment v h =
-    ap (λ (x : Option Symbol). first_of x (find (λ s. is_at segment v s) symbols)) (no_external segment v symbols h) ∙ h
 
 -- no label is so many bytes before an address
 no_label : (symbols : List Symbol) (segment : Segment) (address n : ℕ) → (n ≤ address → IsFree symbols segment (address - n)) →
@@ -36,7 +19,7 @@ no_label symbols segment address n h = by_test (nat_le n address) refl
     by_test : (t : Bool) → nat_le n address ≡ t →
         (if t then bytes_beyond (symbol_at symbols segment (address - n)) n else None) ≡ None
     by_test true e =
-        ap (λ (x : Option Symbol). bytes_beyond x n) (no_symbol symbols segment (address - n) (h (grind (arith, nat_tests))))
+        ap (λ (x : Option Symbol). bytes_beyond x n) (h (grind (arith, nat_tests)))
     by_test false e = refl
 
 none_within : (symbols : List Symbol) (segment : Segment) (address n : ℕ) →
@@ -72,10 +55,9 @@ found_within symbols segment address d (Some x) none is some h =
     ap (nearest_within symbols segment address) length ∙ still_within symbols segment address (suc d) (255 - d) x now
 
 -- a symbol that has a value is found
-is_some_first : (a b : Option Symbol) (n : ℕ) → IsSome b → IsSome (bytes_beyond (first_of a b) n)
-is_some_first (Some s) b n h = refl
-is_some_first None (Some s) n h = refl
-is_some_first None None n h = h
+is_some_beyond : (o : Option Symbol) (n : ℕ) → IsSome o → IsSome (bytes_beyond o n)
+is_some_beyond (Some s) n h = refl
+is_some_beyond None n h = h
 
 -- no label is near
 pub none_near : (symbols : List Symbol) (segment : Segment) (address : ℕ) → IsNearest symbols segment address None →
@@ -97,7 +79,7 @@ near_is symbols segment address v h =
     ∙ ap (λ (a : ℕ). bytes_beyond (symbol_at symbols segment a) d) back in
     found_within symbols segment address d (bytes_beyond (symbol_at symbols segment v) d) (λ k less.
     no_label symbols segment address k (λ fits. h.3 (address - k) (omega (arith, h.0, less, fits)) (omega arith))) here
-    (is_some_first (find (λ s. is_external_at segment v s) symbols) (find (λ s. is_at segment v s) symbols) d h.2)
+    (is_some_beyond (symbol_at symbols segment v) d h.2)
     (omega (arith, h.0, h.1))
 
 -- the order of two keys
@@ -142,12 +124,12 @@ between_by false false k n v w a lt eq high low = absurd cc
 
 -- no value up to the address is after the last key
 free_by : (symbols : List Symbol) (segment : Segment) (k v w a : ℕ) (o : Option Symbol) →
-    find (λ s. is_at segment w s) symbols ≡ o → IsLastUpTo symbols (segment_number segment, a) (Some (k, v)) → w ≤ a →
+    symbol_at symbols segment w ≡ o → IsLastUpTo symbols (segment_number segment, a) (Some (k, v)) → w ≤ a →
     ((k ≡ segment_number segment) → w ≤ v → v ≤ a → ⊥) → o ≡ None
 free_by symbols segment k v w a None is h le apart = refl
 free_by symbols segment k v w a (Some s) is h le apart =
     let n : ℕ = segment_number segment in
-    let there : IsSome (find (λ s. is_at segment w s) symbols) = subst IsSome (sym is) refl in
+    let there : IsSome (symbol_at symbols segment w) = subst IsSome (sym is) refl in
     let both = between_by (nat_lt k n) (k == n) k n v w a refl refl h.0 (h.2 (n, w) (up_to n w a le) there) in
     absurd (apart both.0 both.1 both.2)
 
@@ -161,7 +143,7 @@ pub nearest_far : (symbols : List Symbol) (segment : Segment) (a k v : ℕ) →
     IsLastUpTo symbols (segment_number segment, a) (Some (k, v)) → (k ≡ segment_number segment → a < v + 256 → ⊥) →
     IsNearest symbols segment a None
 nearest_far symbols segment a k v h far w le near =
-    free_by symbols segment k v w a (find (λ s. is_at segment w s) symbols) refl h le
+    free_by symbols segment k v w a (symbol_at symbols segment w) refl h le
     (λ same low high. far same (omega (arith, low, near)))
 
 -- it is near
@@ -175,6 +157,6 @@ nearest_some symbols segment a k v h same close =
       value_by (nat_lt n n) (n == n) n v a refl refl h'.0,
       close,
       h'.1,
-      λ w above le. free_by symbols segment n v w a (find (λ s. is_at segment w s) symbols) refl h' le
+      λ w above le. free_by symbols segment n v w a (symbol_at symbols segment w) refl h' le
           (λ is low high. absurd (omega (arith, low, above))),
     )

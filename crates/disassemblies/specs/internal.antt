@@ -5,3 +5,4 @@ pub mod Labelled
 pub mod Swept
 pub mod Nearest
 pub mod Spots
+pub mod Rows

@@ -1,5 +1,5 @@
 //! A text in columns.
-ghost use Rattle.std.specs.Prelude.{◌≡◌, ◌<◌, ◌≤◌, ◌+◌, ◌-◌, ◌*◌, [], ◌++◌, length, take, drop, replicate, codes, OnOk};
+ghost use Rattle.std.specs.Prelude.{◌≡◌, ◌<◌, ◌≤◌, ◌+◌, ◌*◌, [], ◌++◌, length, take, drop, codes, OnOk};
 ghost use Rattle.std.specs.List.{flat_map};
 ghost use Rattle.aout_core.specs.declared.symbol.Segment.TheVariants.{TextSeg};
 ghost use Rattle.texts.specs.Numbers.{six_digits};
@@ -8,7 +8,8 @@ ghost use Rattle.instructions.specs.Lines.{words_of};
 ghost use Rattle.disassemblies.specs.Listed.{listed_line};
 ghost use Rattle.disassemblies.specs.Labels.{labels};
 ghost use Rattle.disassemblies.specs.Remarks.{remarked_text};
-ghost use Rattle.disassemblies.specs.Columns.{word_column, columns, rest_row, row_of, row, range, times_text, again_text, rows_again, row_words, others, rows, labelled_rows, disassembly, plain_row, plain_disassembly};
+ghost use Rattle.disassemblies.specs.internal.Rows.{with_digits};
+ghost use Rattle.disassemblies.specs.Columns.{columns, rest_row, row_of, row, range, times_text, again_text, rows_again, row_words, others, rows, labelled_rows, disassembly, plain_row, plain_disassembly};
 
 use crate::label::put_labels;
 use crate::line::put_text_of;
@@ -18,29 +19,14 @@ use crate::remarks::put_remarks;
 use aout_core::{File, Segment};
 use instructions::{Decoder, Line, UnixLine, decode};
 use std::alloc::AllocError;
-use texts::Text;
+use texts::{Text, six_digits};
 
-/// Appends words, each with a blank after it.
-fn put_words(text: &mut Text, words: &[u16])
-    ensures { Puts text.old text.new (flat_map word_column words.now) }
+/// Writes the digits of a word at a place of a row.
+fn set_digits(row: &mut [u8; 30], place: usize, word: u16)
+    requires { place ≤ 24 }
+    ensures { row.new ≡ with_digits place word row.old }
 {
-    for word in words {
-        text.put_six_digits(u32::from(*word));
-        text.put_byte(b' ');
-    }
-}
-
-/// The blanks between so many words, each with a blank after it, and the text of their line.
-fn blanks(count: usize) -> &'static str
-    requires some { 1 ≤ count }
-    requires short { count ≤ 3 }
-    ensures { result.now ≡ replicate (22 - 7 * count) 32 }
-{
-    match count {
-        1 => "               ",
-        2 => "        ",
-        _ => " ",
-    }
+    row[place..place + 6].copy_from_slice(&six_digits(u32::from(word)));
 }
 
 /// Appends the address of a line and its words, up to the column of its text.
@@ -49,10 +35,16 @@ fn put_columns(text: &mut Text, address: u16, words: &[u16])
     requires short { length words.now ≤ 3 }
     ensures { Puts text.old text.new (columns address words.now) }
 {
-    text.put_six_digits(u32::from(address));
-    text.put("  ");
-    put_words(text, words);
-    text.put(blanks(words.len()));
+    let mut row = [b' '; 30];
+    set_digits(&mut row, 0, address);
+    set_digits(&mut row, 8, words[0]);
+    if words.len() > 1 {
+        set_digits(&mut row, 15, words[1]);
+    }
+    if words.len() > 2 {
+        set_digits(&mut row, 22, words[2]);
+    }
+    text.put_bytes(&row);
 }
 
 /// Appends words, each with a blank before it.

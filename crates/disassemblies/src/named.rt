@@ -50,7 +50,7 @@ impl<'a> Model for NamedFile<'a> {
 
 impl<'a> NamedFile<'a> {
     /// A file, after each of its symbols has been put in its place: the time grows with their number times its logarithm, and
-    /// about 100 bytes are kept for each. An error: out of memory.
+    /// about 60 bytes are kept for each. An error: out of memory.
     pub fn new(alloc: Global, file: &'a File) -> Result<NamedFile<'a>, AllocError>
         ensures { IfOk result (λ n. n ≡ file.now) }
     {

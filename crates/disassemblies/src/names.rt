@@ -1,50 +1,60 @@
 //! The symbols that name values, each found by its value.
-ghost use Rattle.std.specs.Prelude.{◌≡◌, ℕ, true, false, find, if◌then◌else◌, Some, OnOk, IfOk};
+ghost use Rattle.std.specs.Prelude.{◌≡◌, ℕ, if◌then◌else◌, Some, OnOk, IfOk};
 ghost use Rattle.std.specs.BTreeMap.{get};
-ghost use Rattle.disassemblies.specs.Naming.{is_at, is_external_at};
-ghost use Rattle.disassemblies.specs.internal.FirstNamed.{key_cmp, has_key, FindsFirst};
+ghost use Rattle.aout_core.specs.WellFormed.{first_of};
+ghost use Rattle.disassemblies.specs.Naming.{symbol_at};
+ghost use Rattle.disassemblies.specs.internal.FirstNamed.{key_cmp, has_key, first_with, FindsNamed};
 ghost use Rattle.disassemblies.specs.internal.Nearest.{IsLastUpTo, IsNearest};
 
 use aout_core::{Segment, Symbol};
 use std::alloc::{AllocError, Global};
 use std::collections::BTreeMap;
 
-/// The first symbol with each segment and value; a segment is a number of the type word.
-type FirstNamed = BTreeMap<(u16, u16), Symbol>;
+/// The symbol that names each segment and value; a segment is a number of the type word.
+type Named = BTreeMap<(u16, u16), Symbol>;
 
-/// Puts a symbol in front of those that follow it; if externals alone count, only an external.
-fn put_before(first: &mut FirstNamed, symbol: &Symbol, externals: bool) -> Result<(), AllocError>
+/// Puts a symbol in front of those that follow it, if it is external or not as asked.
+fn put_before(named: &mut Named, symbol: &Symbol, external: bool) -> Result<(), AllocError>
     ensures { OnOk result ((key : ℕ × ℕ)
-        → get key_cmp first.new key ≡ (if has_key externals key symbol.now then Some symbol.now
-        else get key_cmp first.old key)) }
+        → get key_cmp named.new key ≡ (if has_key external key symbol.now then Some symbol.now
+        else get key_cmp named.old key)) }
 {
-    if !externals || symbol.is_external() {
-        first.insert((symbol.type_bits % 0o40, symbol.value), *symbol)?;
+    if symbol.is_external() == external {
+        named.insert((symbol.type_bits % 0o40, symbol.value), *symbol)?;
     }
     Ok(())
 }
 
-/// The first of these symbols with each segment and value; of the externals alone, if these alone count.
-fn first_named(alloc: Global, symbols: &[Symbol], externals: bool) -> Result<FirstNamed, AllocError>
-    ensures { IfOk result (λ m. FindsFirst externals symbols.now m) }
+/// Puts the external ones of these symbols, or the others, in front of those that are there.
+fn put_all(named: &mut Named, symbols: &[Symbol], external: bool) -> Result<(), AllocError>
+    ensures { OnOk result ((key : ℕ × ℕ)
+        → get key_cmp named.new key
+        ≡ first_of (first_with external symbols.now key) (get key_cmp named.old key)) }
 {
-    let mut first = BTreeMap::new(alloc);
     let mut place = symbols.len();
     while place > 0 {
         place -= 1;
-        put_before(&mut first, &symbols[place], externals)?;
+        put_before(named, &symbols[place], external)?;
     }
-    Ok(first)
+    Ok(())
+}
+
+/// The symbol that names each segment and value: an external one before the others, and then the first.
+fn named(alloc: Global, symbols: &[Symbol]) -> Result<Named, AllocError>
+    ensures { IfOk result (λ m. FindsNamed symbols.now m) }
+{
+    let mut named = BTreeMap::new(alloc);
+    put_all(&mut named, symbols, false)?;
+    put_all(&mut named, symbols, true)?;
+    Ok(named)
 }
 
 /// Symbols that are found by their segments and values, in time in proportion to the logarithm of how many there are.
 #[derive(Drop)]
 pub(crate) struct Names<'a> {
     pub(crate) symbols: &'a [Symbol],
-    externals: FirstNamed,
-    all: FirstNamed,
-    ghost externals_first: { FindsFirst true symbols.now externals },
-    ghost all_first: { FindsFirst false symbols.now all },
+    named: Named,
+    ghost finds: { FindsNamed symbols.now named },
 }
 
 impl<'a> Names<'a> {
@@ -54,23 +64,23 @@ impl<'a> Names<'a> {
     {
         Ok(Names {
             symbols,
-            externals: first_named(alloc, symbols, true)?,
-            all: first_named(alloc, symbols, false)?,
+            named: named(alloc, symbols)?,
         })
     }
 
-    /// The first external symbol with this segment and value.
-    pub(crate) fn external_at(&self, segment: Segment, value: u16) -> Option<Symbol>
-        ensures { result ≡ find (λ s. is_external_at segment value s) self.now.symbols.now }
+    /// The symbol that names an address of a segment, or an absolute number: an external one before the others, and then the
+    /// first of the table.
+    pub(crate) fn symbol_at(&self, segment: Segment, value: u16) -> Option<Symbol>
+        ensures { result ≡ symbol_at self.now.symbols.now segment value }
     {
-        self.externals.get(&(segment.number(), value)).copied()
+        self.named.get(&(segment.number(), value)).copied()
     }
 
     /// The last segment and value of a symbol up to these.
     fn last_up_to(&self, number: u16, value: u16) -> Option<(u16, u16)>
         ensures { IsLastUpTo self.now.symbols.now (number, value) result }
     {
-        match self.all.range(..=(number, value)).next_back() {
+        match self.named.range(..=(number, value)).next_back() {
             Some((key, _)) => Some(*key),
             None => None,
         }
@@ -88,12 +98,5 @@ impl<'a> Names<'a> {
             }
             _ => None,
         }
-    }
-
-    /// The first symbol with this segment and value.
-    pub(crate) fn first_at(&self, segment: Segment, value: u16) -> Option<Symbol>
-        ensures { result ≡ find (λ s. is_at segment value s) self.now.symbols.now }
-    {
-        self.all.get(&(segment.number(), value)).copied()
     }
 }

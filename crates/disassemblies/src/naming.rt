@@ -22,22 +22,11 @@ pub(crate) fn is_at(segment: Segment, value: u16, symbol: &Symbol) -> bool
     symbol.type_bits % 0o40 == segment.number() && symbol.value == value
 }
 
-/// The symbol that names an address of a segment, or an absolute number: an external one before the others, and then the
-/// first of the table.
-pub(crate) fn symbol_at(names: &Names<'_>, segment: Segment, value: u16) -> Option<Symbol>
-    ensures { result ≡ symbol_at names.now.symbols.now segment value }
-{
-    match names.external_at(segment, value) {
-        Some(symbol) => Some(symbol),
-        None => names.first_at(segment, value),
-    }
-}
-
 /// The reference to the symbol that names an address of a segment, or an absolute number.
 pub(crate) fn reference_at(names: &Names<'_>, segment: Segment, value: u16) -> Option<Reference>
     ensures { result ≡ exact (symbol_at names.now.symbols.now segment value) }
 {
-    match symbol_at(names, segment, value) {
+    match names.symbol_at(segment, value) {
         Some(symbol) => Some(Reference {
             name: symbol.name,
             offset: 0,

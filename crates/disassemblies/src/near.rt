@@ -3,7 +3,6 @@ ghost use Rattle.std.specs.Prelude.{◌≡◌};
 ghost use Rattle.disassemblies.specs.Near.{bytes_beyond, near};
 
 use crate::names::Names;
-use crate::naming::symbol_at;
 use aout_core::{Segment, Symbol};
 use instructions::Reference;
 
@@ -25,7 +24,7 @@ pub(crate) fn near_reference(names: &Names<'_>, segment: Segment, address: u16) 
     ensures { result ≡ near names.now.symbols.now segment address }
 {
     match names.nearest(segment, address) {
-        Some(value) => bytes_beyond(symbol_at(names, segment, value), address - value),
+        Some(value) => bytes_beyond(names.symbol_at(segment, value), address - value),
         None => None,
     }
 }

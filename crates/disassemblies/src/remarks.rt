@@ -272,7 +272,7 @@ pub(crate) fn put_remarks(text: &mut Text, file: &NamedFile<'_>, place: usize, l
 {
     match line {
         UnixLine::Call(call) => put_call(text, file, place, call),
-        UnixLine::Machine(Line::Plain(_)) => {},
+        UnixLine::Machine(Line::Plain(_) | Line::Decoded(_, None, None)) => {},
         UnixLine::Machine(Line::Decoded(instruction, word, other)) => {
             put_instruction(text, file, place, instruction, (*word, *other));
         }

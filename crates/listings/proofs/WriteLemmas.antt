@@ -6,9 +6,9 @@ use Rattle.std.proofs.{lemmas.List.drop_more, lemmas.List.take_all, Math.Seq.dro
 use Rattle.std.specs.Prelude.{◌-◌, codes, take, Option, slice_get}
 use Rattle.aout_core.specs.Contents.{Contents}
 use Rattle.aout_core.specs.{declared.reloc.Reloc.Reloc, declared.part.Part.Part}
-use Rattle.texts.specs.Lines.{text_of}
+use Rattle.texts.specs.{Lines.text_of, Numbers.six_digits}
 use Rattle.texts.proofs.LineLemmas.{two_texts}
-use Rattle.listings.specs.Listing.{Remarks, cut_listing, lines_before_end, listing, with_relocs, word_line, word_lines}
+use Rattle.listings.specs.Listing.{Remarks, gap, cut_listing, lines_before_end, listing, with_relocs, word_line, word_lines}
 
 get_dropped : (i : ℕ) (rs : List Reloc) → slice_get (drop i rs) 0 ≡ slice_get rs i
 get_dropped zero rs = refl
@@ -80,3 +80,14 @@ with_end x c d t0 t1 t2 same e1 e2 =
     ∙ ap (λ (t : List ℕ). t ++ codes "end\n") (e1 ∙ ap (λ (f : Contents). t0 ++ cut_listing x f) same)
     ∙ append_assoc t0 (cut_listing x c) (codes "end\n")
     ∙ ap (λ (t : List ℕ). t0 ++ t) (sym (two_texts (lines_before_end x c) (codes "end" ∷ [])))
+
+-- the digits of an address and of a word, with two blanks between them
+abbrev pub placed : List ℕ → List ℕ → List ℕ
+placed a w =
+    get_or a 0 0 ∷ get_or a 1 0 ∷ get_or a 2 0 ∷ get_or a 3 0 ∷ get_or a 4 0 ∷ get_or a 5 0 ∷ 32 ∷ 32
+    ∷ get_or w 0 0 ∷ get_or w 1 0 ∷ get_or w 2 0 ∷ get_or w 3 0 ∷ get_or w 4 0 ∷ get_or w 5 0 ∷ []
+
+pub place_row : (at word : ℕ) (a w : List ℕ) → a ≡ six_digits at → w ≡ six_digits word →
+    placed a w ≡ gap 1 (six_digits at) (six_digits word)
+unfolding six_digits
+place_row at word a w ea ew = ap (λ (l : List ℕ). placed l w) ea ∙ ap (λ (l : List ℕ). placed (six_digits at) l) ew

@@ -44,8 +44,10 @@ fn put_word_column(text: &mut Text, blanks: usize, word: u16)
 fn put_place(text: &mut Text, at: u16, word: u16)
     ensures { Puts text.old text.new (gap 1 (six_digits at) (six_digits word)) }
 {
-    text.put_six_digits(u32::from(at));
-    put_word_column(text, 1, word);
+    let (a, w) = (six_digits(u32::from(at)), six_digits(u32::from(word)));
+    text.put_bytes(&[
+        a[0], a[1], a[2], a[3], a[4], a[5], b' ', b' ', w[0], w[1], w[2], w[3], w[4], w[5],
+    ]);
 }
 
 /// Appends the address of a word, the word, and its relocation word if it has one.

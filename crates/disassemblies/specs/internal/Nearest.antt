@@ -1,8 +1,8 @@
 -- The greatest value of a segment's symbols near an address.
-use Rattle.std.specs.Prelude.{◌≡◌, ℕ, ◌+◌, ◌<◌, ◌≤◌, false, List, Option, Some, None, find, IsSome}
+use Rattle.std.specs.Prelude.{◌≡◌, ℕ, ◌+◌, ◌<◌, ◌≤◌, false, List, Option, Some, None, IsSome}
 use Rattle.std.specs.Ordering.{is_gt, is_lt}
 use Rattle.aout_core.specs.{declared.symbol.Symbol.Symbol, declared.symbol.Segment.Segment}
-use Rattle.disassemblies.specs.{Naming.is_at, internal.FirstNamed.key_cmp, internal.FirstNamed.has_key}
+use Rattle.disassemblies.specs.{Naming.symbol_at, internal.FirstNamed.key_cmp, internal.FirstNamed.named}
 
 -- a segment and a value are not after others
 abbrev pub IsUpTo : ℕ × ℕ → ℕ × ℕ → Type 0
@@ -10,18 +10,18 @@ IsUpTo key high = is_gt (key_cmp key high) ≡ false
 
 -- the last segment and value of a symbol up to others
 abbrev pub IsLastUpTo : List Symbol → ℕ × ℕ → Option (ℕ × ℕ) → Type 0
-IsLastUpTo symbols high None = (q : ℕ × ℕ) → IsUpTo q high → find (λ s. has_key false q s) symbols ≡ None
+IsLastUpTo symbols high None = (q : ℕ × ℕ) → IsUpTo q high → named symbols q ≡ None
 IsLastUpTo symbols high (Some key) =
-    IsUpTo key high × IsSome (find (λ s. has_key false key s) symbols)
-    × ((q : ℕ × ℕ) → IsUpTo q high → IsSome (find (λ s. has_key false q s) symbols) → is_lt (key_cmp key q) ≡ false)
+    IsUpTo key high × IsSome (named symbols key)
+    × ((q : ℕ × ℕ) → IsUpTo q high → IsSome (named symbols q) → is_lt (key_cmp key q) ≡ false)
 
 -- no symbol has the value
 abbrev pub IsFree : List Symbol → Segment → ℕ → Type 0
-IsFree symbols segment v = find (λ s. is_at segment v s) symbols ≡ None
+IsFree symbols segment v = symbol_at symbols segment v ≡ None
 
 -- a symbol has the value, and none after it up to the address; or no symbol is near
 abbrev pub IsNearest : List Symbol → Segment → ℕ → Option ℕ → Type 0
 IsNearest symbols segment address None = (w : ℕ) → w ≤ address → address < w + 256 → IsFree symbols segment w
 IsNearest symbols segment address (Some v) =
-    (v ≤ address) × (address < v + 256) × IsSome (find (λ s. is_at segment v s) symbols)
+    (v ≤ address) × (address < v + 256) × IsSome (symbol_at symbols segment v)
     × ((w : ℕ) → v < w → w ≤ address → IsFree symbols segment w)

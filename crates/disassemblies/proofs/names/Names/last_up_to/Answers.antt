@@ -4,7 +4,7 @@ use Rattle.disassemblies.proofs.names.Names.last_up_to.Goals as goal
 
 pub returns-in-Some : goal.returns-in-Some
 returns-in-Some c =
-    let first = c.args.self.now.all_first in
+    let first = c.args.self.now.finds in
     let range = c.range.ensures.in_range tt in
     let key = c.in-Some.key.now in
     let last = c.in-Some.ensures.steps in
@@ -17,4 +17,4 @@ returns-in-Some c =
 pub returns-in-None : goal.returns-in-None
 returns-in-None c =
     let range = c.range.ensures.in_range tt in
-    λ q up. sym (c.args.self.now.all_first q) ∙ range.5 c.in-None.ensures.steps.0 q (tt, up)
+    λ q up. sym (c.args.self.now.finds q) ∙ range.5 c.in-None.ensures.steps.0 q (tt, up)
