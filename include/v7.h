@@ -56,7 +56,7 @@ enum v7_fault {
     V7_TOO_LONG = 6,           /* more than 32,767 words of text or data, 65,535 bytes of bss, or 5,461 symbols; `word` is the part */
     V7_SHORT_STRUCT = 7,       /* the `size` of a request or a result is too small for what is wanted, as one that was not set */
     V7_NO_SESSION = 8,         /* no session is begun */
-    V7_NO_WANT = 9,            /* a bit of `wants` is no want, or a session does not have what it stands for */
+    V7_NO_WANT = 9,            /* a bit of `wants` is no want */
     V7_SESSION_OPEN = 10,      /* a session is begun already */
     /* the bytes of a file */
     V7_SHORT_HEADER = 11,      /* fewer than 16 bytes */
@@ -74,6 +74,7 @@ enum v7_fault {
     V7_BSS_FULL = 33,          /* bss would pass them */
     V7_NAMES_FULL = 34,        /* there would be more than 65,535 external names */
     V7_NOTHING = 35,           /* a session has no object to withdraw */
+    V7_NOT_KEPT = 36,          /* a session does not have what is wanted: V7_PLACES or V7_MAP */
     /* the link */
     V7_DOES_NOT_FIT = 41,      /* the program would end past 65,535 */
     V7_TOO_MANY_SYMBOLS = 42,  /* its table would have more than 5,461 symbols */
@@ -166,6 +167,8 @@ static inline const char *v7_strerror(uint32_t fault)
         return "names full";
     case V7_NOTHING:
         return "nothing to withdraw";
+    case V7_NOT_KEPT:
+        return "not kept by a session";
     case V7_DOES_NOT_FIT:
         return "does not fit";
     case V7_TOO_MANY_SYMBOLS:
@@ -374,9 +377,9 @@ uint32_t v7_remarks(const unsigned char *bytes, size_t size, unsigned char *text
 /* v7_run links objects, as `v7 ld` does. It takes the bytes of each object separately, and what
  * follows an object in its bytes is not looked at, so an object that is cut short is refused itself. Request and result begin with their
  * sizes: set these to `sizeof`, and set all fields; what is 0 asks for nothing. A later library may know longer structs. This one takes
- * shorter results too, and does not touch what they lack, but for the fields before `file`, which every result has: without V7_MAP one may end after `place_room`, without V7_PLACES too after
- * `finding_room`, and without V7_FINDINGS too after `report_room`. The size of a buffer is counted in what it holds: bytes, findings,
- * places or records. */
+ * shorter results too, and does not touch what they lack, but for the fields before `file`, which every result has: without V7_MAP one
+ * may end after `place_room`, without V7_PLACES too after `finding_room`, and without V7_FINDINGS too after `report_room`. The size of a
+ * buffer is counted in what it holds: bytes, findings, places or records. */
 enum v7_link_option {
     V7_RELOCATABLE = 1,   /* -r: keeps relocation, so that the result is an object */
     V7_STRIP = 2,         /* -s: keeps no symbols; wins over the next two */
@@ -534,8 +537,9 @@ struct v7_result {
 uint32_t v7_run(const struct v7_request *request, struct v7_result *result);
 
 /* A size that no file of a link exceeds, by v7_run or by v7_session_link, if the objects have BYTES bytes in all, and the forced names
- * FORCED_SIZE, together fewer than 2^63: 16 and BYTES, and 12 for each of these names; SIZE_MAX if this sum is over it. So a caller that
- * has a buffer of this size for the file, and enough room for the report, makes a link by one call. */
+ * FORCED_SIZE, together fewer than 2^63: 16 and BYTES, and 12 for each of these names; SIZE_MAX if this sum is over it. Findings, and so
+ * places, are at most a twelfth of it, and 3. The report has at most 27 bytes for each finding, and 18. So a caller with buffers of these
+ * sizes makes a link by one call. */
 size_t v7_most(size_t bytes, size_t forced_size);
 
 /* A session is kept between calls, so an edit costs what the edit is, and not what is there. The struct is the caller's, and at first all of it
@@ -560,7 +564,7 @@ uint32_t v7_session_withdraw(struct v7_session *session, struct v7_answer *answe
 /* Links what is there, and gives it as v7_run does, with the options and the entry point of REQUEST. Its forced names and objects are not
  * looked at. An object is known by how many were added before it. A session has neither the objects of findings nor a map: for these call
  * v7_run with V7_PLACES or V7_MAP, and the bytes of the objects that are there, which the caller keeps. Faults, the first that applies:
- * 7 and 9 as there, V7_NO_WANT for V7_PLACES and V7_MAP too; V7_NO_SESSION, 1 to 3, 41 to 43, V7_NO_MEMORY, V7_NO_ROOM. */
+ * 7 and 9 as there, and V7_NOT_KEPT after 9; V7_NO_SESSION, 1 to 3, 41 to 43, V7_NO_MEMORY, V7_NO_ROOM. */
 uint32_t v7_session_link(struct v7_session *session, const struct v7_request *request, struct v7_result *result);
 
 /* Writes what the session shows, as lines, each with its newline, or as one JSON object. It has the words of the merged text and data,

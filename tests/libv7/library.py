@@ -20,7 +20,7 @@ OBJECT = v7.make([(0o4767, v7.NUMBER), (0o177774, v7.refers_to(0) + v7.FROM_PC),
 GNU = struct.pack("<16H", 0o407, 6, 2, 4, 16, 0, 0, 0, 0o4767, 0o177774, 0o207, 7, 0, 0o11, 0, 0) + struct.pack(
     "<2HBBH2HBBH2H", 0, 7, 0o40, 0, 0, 0, 4, 2, 0, 0, 0, 10) + b"L1\0_f\0"
 # those that the module cannot have: calls.c has them
-IN_C = {4, 7, 8, 9, 10, 50, 60}
+IN_C = {4, 7, 8, 9, 10, 36, 50, 60}
 seen = set()
 
 

@@ -69,7 +69,7 @@ int main(void)
 {
     puts(V7_VERSION);
     return V7_REFERS_TO(0) != 010 || V7_REFERS_TO(4095) != 0177770 || V7_REFERS_TO(1) + V7_FROM_PC != 031 ||
-           strcmp(v7_strerror(V7_NOTHING), "nothing to withdraw") != 0 || strcmp(v7_strerror(36), "unknown fault") != 0;
+           strcmp(v7_strerror(V7_NOTHING), "nothing to withdraw") != 0 || strcmp(v7_strerror(37), "unknown fault") != 0;
 }
 END
 cp header.c header.cpp

@@ -2,6 +2,7 @@
 and the text of `v7-explain -m`. Instructions are those of tests/oracles/disassembly.py."""
 import functools
 import itertools
+import re
 
 from tests.lib.programs import v7
 from tests.oracles import disassembly, model
@@ -186,6 +187,7 @@ class Mapped:
         self.texts = [*map(text_of, files)]
         self.starts = [*map(line_starts, self.texts)]
         names = Names(files, self.starts, arguments.forced, self.places, self.merged, laid)
+        self.symbols = [[symbol for _, _, symbol in names.uses_of[name]] for name in sorted(names.uses_of)]
         rows = [v7.MapObject(*(place[segment] for segment in model.SEGMENTS), len(file.symbols), *(file.size(segment) for segment in model.SEGMENTS))
                 for file, place in zip(files, self.places)]
         known = rows, names.names, names.uses, limits_of(files, arguments, self.merged, laid)
@@ -260,6 +262,11 @@ class Mapped:
             before = (before or f"  {self.found.objects[of].text + line:06o}") + f": {self.texts[of].whole_line(line // 2)[1]}"
         return f"                {segment} {address:06o}{before}"
 
+    def words(self, words):
+        """The lines of words that lead to a name."""
+        return [self.word("text" if word.kind == v7.TEXT_WORD else "data", word.address, (word.label, word.beyond), word.line, word.object)
+                for word in words]
+
     def title_of(self, number):
         """The line of a name, as nm has it; without an address if the link has none."""
         name = self.found.names[number]
@@ -269,10 +276,11 @@ class Mapped:
         best = sorted(symbols, key=lambda symbol: (symbol.kind == model.UNDEFINED, symbol.is_undefined))[:1] or [model.Symbol(b"", 0o40, 0)]
         return "      " + model.symbol_line(best[0])[6:9].decode() + shown(name.name)
 
-    def name_lines(self, number, has_sources=True, has_users=True):
-        """The line of a name, the objects that have it, and those that use it with their words."""
+    def name_lines(self, number, under, has_sources=True, has_users=True):
+        """The line of a name, the objects that have it, and those that use it with their words; or with the name `under` which the words
+        are that lead to the same address."""
         lines, definers, commons, users = [self.title_of(number)], [], [], []
-        for use, words in self.uses[number]:
+        for (use, words), symbol in zip(self.uses[number], self.symbols[number]):
             path = "-u" if use.object is None else self.paths[use.object]
             if use.kind == v7.DEFINES:
                 definers.append(f"    {'again' if definers else 'defined'} in".ljust(16) + path)
@@ -280,13 +288,14 @@ class Mapped:
                 commons.append(f"    common in   {path} ({use.offset})")
             if use.kind != v7.DEFINES or words:
                 users.append(f"    used in     {path}" + f" ({len(words)})" * (use.object is not None))
-                users += [self.word("text" if word.kind == v7.TEXT_WORD else "data", word.address, (word.label, word.beyond), word.line, use.object)
-                          for word in words]
+                first = under.setdefault((use.object, symbol.kind, symbol.value), symbol) if words and use.kind == v7.DEFINES else symbol
+                users += [f"                as {shown(text(first.name))}"] if first is not symbol else self.words(words)
         return lines + (definers + commons) * has_sources + users * has_users
 
     def section(self, title, has_name, **parts):
         """The names of a part, after its title; nothing if there is none."""
-        lines = [line for number in range(len(self.found.names)) if has_name(number) for line in self.name_lines(number, **parts)]
+        under = {}
+        lines = [line for number in range(len(self.found.names)) if has_name(number) for line in self.name_lines(number, under, **parts)]
         return ["", title, *lines] if lines else []
 
     def has_state(self, bit):
@@ -357,26 +366,41 @@ class Mapped:
             lines += ["    in          commons", self.word("commons", address, label_before(rows, model.BSS, address), 0, None)]
         return lines
 
+    def statics(self, names):
+        """The locals with these names, each with its address, its object, and the words that lead to it."""
+        lines = []
+        for place, file in enumerate(self.files):
+            for number, symbol in enumerate(file.symbols):
+                if not symbol.type & model.EXTERNAL and text(symbol.name) in names:
+                    moved = self.places[place][symbol.kind] - file.start(symbol.kind) if symbol.kind in model.SEGMENTS else 0
+                    row = model.Symbol(b"", symbol.type, (symbol.value + moved) % model.WORD)
+                    words = [*words_of(file, self.starts[place], place, None, number, self.places[place])]
+                    lines += [model.symbol_line(row).decode() + shown(text(symbol.name)), f"    defined in  {self.paths[place]}",
+                              *[f"    used in     {self.paths[place]} ({len(words)})"] * bool(words), *self.words(words)]
+        return ["", "Statics", *lines] if lines else []
+
     def asked(self, wanted):
         """The lines of the map for what is wanted: names, paths and addresses in octal. Whether all are there, too."""
         known = [name.name for name in self.found.names]
-        names, paths, addresses, absent = set(), [], [], []
+        there = {*known, *(text(symbol.name) for file in self.files for symbol in file.symbols)}
+        names, paths, addresses, absent, nowhere = set(), [], [], [], []
         for word in wanted:
-            if word[:8] in known:
+            if word[:8] in there:
                 names.add(word[:8])
             elif word in self.paths:
                 paths.append(word)
             elif lines := self.at_address(int(word, 8)) if word.isdigit() else []:
                 addresses += lines
             else:
-                absent.append(f"  {word}: not mentioned")
+                (nowhere if re.fullmatch("[0-7]+", word) else absent).append(f"  {word}: not mentioned")
+        addresses += nowhere
         lines = self.head() + ["", "Addresses", *addresses] * bool(addresses)
         for place in (place for path in paths for place, one in enumerate(self.paths) if one == path):
             lines += self.objects([place])
             lines += self.section("Defines", lambda number: self.has_symbol(number, place, True), has_sources=False)
             lines += self.section("Needs", lambda number: self.has_symbol(number, place, False), has_users=False)
         asked = self.section("Externals", lambda number: known[number] in names) or ["", "Externals"] * bool(absent)
-        return lines + asked + absent, not absent
+        return lines + self.statics(names) + asked + absent, not absent + nowhere
 
     def has_symbol(self, number, place, defines):
         """Whether an object has a symbol of a name, which defines it or does not."""

@@ -65,9 +65,9 @@ BESIDE = {
         ("a.o --list", "an option has one letter, but for --help and --version"), ("a.o -o", "-o needs the next argument as its value"),
         ("-o a -o b c.o", "-o takes one value"), ("-o a b.o c.o", "-o is for one file"), ("-dc a.o", "-d and -c exclude each other"),
         ("-R a.o", "-R needs -l"), ("a.o -m b.o", "-m has to be the first argument"),
-        ("-m -z a.o", "ld does not take the arguments after -m"), ("a.o -t b.o -x", "-t and -x exclude each other"),
-        ("-c -o b a.o", "-c and -o exclude each other"), ("-y f a.o", "-y needs -m"), ("-o -d a.o", "-o needs the next argument as its value"),
-        ("-c", "it needs a file"), ("-l -R -x a.o", "-l and -x exclude each other")],
+        ("-m -z a.o", "ld does not take the arguments after -m"), ("a.o -t b.o", "-t needs -c"),
+        ("-c -o b a.o", "-c and -o exclude each other"), ("-y f a.o b.o", "-y is for one file"), ("-o -d a.o", "-o needs the next argument as its value"),
+        ("-c", "it needs a file"), ("-l -R -s a.o", "-l and -s exclude each other")],
     "v7-object": [
         ("", "it takes two files"), ("a", "it takes two files"), ("a b c", "it takes two files"), ("-- -x", "it takes two files"),
         ("-", "it takes two files"), ("-x a b", "there is no option -x"), ("a b -yx", "there is no option -y"),
@@ -246,10 +246,15 @@ def check_page(words, tool, page):
     return check_text(words, f"v7 {tool}" if tool else "v7", f"v7-{tool}" if tool else "v7", page)
 
 
+def version():
+    return re.search(r'^#define V7_VERSION "(.*)"', read(f"{TOP}/include/v7.h"), re.M)[1]
+
+
 def check_beside():
     """The programs beside v7: help, anywhere before `--`, and why arguments are refused."""
     examples = set()
     for name, reasons in BESIDE.items():
+        same(f"{name} --version", ran(program(name), "--version"), (0, f"{name} {version()}\n".encode(), b""))
         for words in (["--help"], ["x", "--help"], ["-q", "--help", "--"]):
             status, page, error = ran(program(name), *words)
             same(f"{name} {words}: standard error and status", (error, status), (b"", 0))
@@ -275,9 +280,8 @@ def check_help():
         shown, page, status = at_terminal(words)
         same(f"{words}: standard error and status", (shown, status), ("", 0))
         examples.update(check_page(words, tool, page))
-    version = re.search(r'^#define V7_VERSION "(.*)"', read(f"{TOP}/include/v7.h"), re.M)[1]
-    notices(same, "--version", at_terminal(["--version"]), ("", f"v7 {version}\n", 1))
-    same("--version", at_terminal(["--version"]), ("", f"v7 {version}\n", 0))
+    notices(same, "--version", at_terminal(["--version"]), ("", f"v7 {version()}\n", 1))
+    same("--version", at_terminal(["--version"]), ("", f"v7 {version()}\n", 0))
     for command in [*sorted(examples), *check_beside()]:
         run_example(command)
     for words in [words for words, _ in HELP] + [["--version"]]:

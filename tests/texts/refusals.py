@@ -2,7 +2,7 @@
 `OutOfMemory` or an error by its number, none asks but those known what an error reports, and none is unsafe. A fault that says `no memory`
 holds a `Refused`, which is made of such an error: so a request was refused.
 
-tier: text, 1 seconds
+tier: text, 1 seconds; for: crates
 """
 import glob
 import re
@@ -10,7 +10,7 @@ import re
 from tests.lib.compare import same
 from tests.lib.files import read
 
-# the field of `Refused`; what tells a refusal by its kind alone: errors of `io` and of clap; and a box that is made of its pointer again
+# the field of `Refused`; what tells a refusal by its kind alone: errors of `io`, of clap, and of a writer in memory; and a box that is made of its pointer again
 KNOWN = [
     "crates/aout_core/src/refused.rt: error: AllocError,",
     "crates/aout_core/src/refused.rt: pub fn reported_by(error: &io::Error) -> Option<Refused> {",
@@ -19,6 +19,7 @@ KNOWN = [
     "crates/surroundings/src/held.rt: let _ = match Refused::reported_by(&error) {",
     "crates/v7_explain/src/disk_folders.rt: match Refused::reported_by(error) {",
     "crates/command_words/src/fault.rt: ErrorKind::OutOfMemory => WordsFault::Memory(Refused::from(AllocError)),",
+    "crates/library_calls/src/written.rt: Err(_) => Err(AllocError),",
     "crates/v7_c/src/loose.rt: unsafe { Box::from_raw(alloc, at) }",
 ]
 # tests make faults of each kind, and devices that fail in each way

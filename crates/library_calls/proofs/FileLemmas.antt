@@ -1,15 +1,12 @@
--- The file that bytes begin with, and its lines.
-use Rattle.std.proofs.Common.{◌≡◌, ℕ, ◌<◌, Bool, true, false, if◌then◌else◌, nat_lt, List, [], ◌∷◌, ◌++◌, append-nil, Result, Ok, Err, refl, Option, Some}
-use Rattle.std.proofs.Common.{None, ap, sym, ◌∙◌}
+-- The file that bytes begin with.
+use Rattle.std.proofs.Common.{◌≡◌, ℕ, ◌<◌, List, Result, Ok, Err, refl, Option, Some, None, ap, ◌∙◌}
 use Rattle.std.proofs.lemmas.Bool.{false≢true}
-use Rattle.std.specs.{Prelude.◌≢◌, Prelude.IfErr, Prelude.IsOk, List.flat_map}
+use Rattle.std.specs.Prelude.{◌≢◌, IfErr, IsOk}
 use Rattle.aout_core.specs.{Contents.Contents, Decoding.decode, Decoding.header_in, Encoding.file_length, declared.file.ReadFault.ReadFault}
 use Rattle.aout_core.specs.{Refusals.refused, WellFormed.first_object_fault, declared.object.ObjectFault.ObjectFault}
 use Rattle.link_out.specs.Steps.{and_then, refused_as, unless}
-use Rattle.symtools.specs.{NmLists.nm_text, NmLists.shown, SizeLines.size_line, SizeLines.size_text, SymbolLines.symbol_line}
-use Rattle.tool_options.specs.declared.nm_options.NmOptions.{NmOptions}
-use Rattle.library_calls.specs.FileAnswers.{file_in, names_in, nm_options_in, nm_options_of, object_in, object_of, sizes_in}
-use Rattle.library_calls.specs.declared.cause.Cause.TheVariants.{BadFile, BadObject, Memory, NoOption}
+use Rattle.library_calls.specs.FileAnswers.{file_in, object_in, object_of}
+use Rattle.library_calls.specs.declared.cause.Cause.TheVariants.{BadFile, BadObject, Memory}
 use Rattle.library_calls.specs.{declared.cause.Cause.Cause, Causes.cause_of_input, MemoryWanted.HasBody}
 use Rattle.link_out.specs.Inputs as inputs
 
@@ -44,25 +41,3 @@ pub object_refused : (bytes : List ℕ) (c : Contents) (r : Result Contents Caus
     IfErr r (λ cause. object_of c ≡ Err cause) → IfErr r (λ cause. cause ≢ Memory refused → object_in bytes ≡ Err cause)
 object_refused bytes c (Ok o) read h = tt
 object_refused bytes c (Err cause) read h = λ other. object_read bytes c (Err cause) read h
-
-pub sizes_shown : (bytes : List ℕ) (c : Contents) → decode bytes ≡ Ok c → sizes_in bytes ≡ Ok (size_line c.header ++ 10 ∷ [])
-sizes_shown bytes c read =
-    ap (λ (r : Result Contents ReadFault). and_then (refused_as BadFile r) (λ x. Ok (size_text (([], x) ∷ [])))) read
-    ∙ ap (λ (l : List ℕ). Ok l) (append-nil (size_line c.header ++ 10 ∷ []))
-
-pub names_listed : (bits : ℕ) (bytes : List ℕ) (o : NmOptions) (c : Contents) → Ok o ≡ nm_options_in bits → decode bytes ≡ Ok c →
-    names_in bits bytes ≡ Ok (flat_map symbol_line (shown o c))
-names_listed bits bytes o c asked read = by_test (nat_lt 31 bits) asked
-  where
-    options_if : Bool → Result NmOptions Cause
-    options_if b = if b then Err NoOption else Ok (nm_options_of bits)
-
-    by_test : (b : Bool) → Ok o ≡ options_if b →
-        and_then (options_if b) (λ p. and_then (file_in bytes) (λ x. Ok (nm_text p (([], x) ∷ [])))) ≡ Ok (flat_map symbol_line (shown o c))
-    by_test true h = absurd (cc)
-    by_test false h =
-        let same : o ≡ nm_options_of bits = cc in
-        ap (λ (r : Result Contents ReadFault).
-        and_then (refused_as BadFile r) (λ x. Ok (nm_text (nm_options_of bits) (([], x) ∷ [])))) read
-        ∙ ap (λ (l : List ℕ). Ok l) (append-nil (flat_map symbol_line (shown (nm_options_of bits) c)))
-        ∙ ap (λ (p : NmOptions). Ok (flat_map symbol_line (shown p c))) (sym same)

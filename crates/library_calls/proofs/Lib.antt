@@ -1,11 +1,15 @@
 pub mod FileLemmas
-pub mod ReportTextLemmas
+pub mod WrittenLemmas
 pub mod ForcedNameLemmas
 pub mod EachLemmas
 pub mod MapLemmas
 pub mod MemoryLemmas
 pub mod NumberLemmas
-pub mod GnuLemmas
+pub mod CountLemmas
+pub mod FurtherLemmas
+pub mod ObjectNumberLemmas
+pub mod PlaceLemmas
 pub mod RemarkLemmas
 pub mod KeptLemmas
+mod ReportCountLemmas
 pub mod SizeLemmas

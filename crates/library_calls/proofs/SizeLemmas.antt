@@ -1,4 +1,5 @@
--- The file of a link has no more than its objects have, one header, and a symbol for each forced name.
+-- The file of a link has no more than its objects have, one header, and a symbol for each forced name. Its report has no more names than
+-- these symbols, and four.
 use Rattle.std.proofs.Common.{◌≡◌, ℕ, zero, suc, ◌+◌, ◌*◌, ◌/◌, ◌≤◌, Bool, true, false, cond, not, ◌&&◌, eqb, List, [], ◌∷◌, ◌++◌, map}
 use Rattle.std.proofs.Common.{length, take, drop, Result, Ok, Err, refl, sym, ap, ◌∙◌, subst, arith, length-append, ◌%◌}
 use Rattle.std.proofs.lemmas.List.{length-map, map-append}
@@ -6,10 +7,8 @@ use Rattle.std.proofs.lemmas.List.Sums.{sum_by-cons, sum_by_push}
 use Rattle.std.specs.Prelude.{IfSome}
 use Rattle.std.specs.{List.flat_map, Prelude.Option, Prelude.Some, Prelude.None, Prelude.filter, Prelude.nat_lt, Prelude.sum_by}
 use Rattle.std.specs.Prelude.{◌-◌, ◌^◌, ◌<◌, min, zip}
-use Rattle.aout_core.specs.Words.{all_word_bytes}
-use Rattle.aout_core.specs.Encoding.{encoding, file_length, header_encoding, reloc_encoding, symbol_encoding}
+use Rattle.aout_core.specs.Encoding.{encoding, file_length}
 use Rattle.aout_core.specs.{declared.header.Header.Header, declared.reloc.Reloc.Reloc, declared.symbol.Symbol.Symbol}
-use Rattle.aout_core.specs.{declared.file.ReadFault.ReadFault, declared.object.ObjectFault.ObjectFault}
 use Rattle.aout_core.specs.{Contents.Contents, Decoding.decode, Decoding.header_in, WellFormed.first_object_fault}
 use Rattle.aout_core.specs.{WellFormed.is_external, declared.symbol.Segment.Segment}
 use Rattle.aout_core.specs.declared.symbol.Segment.TheVariants.{TextSeg, DataSeg}
@@ -17,19 +16,23 @@ use Rattle.aout_core.proofs.DecodingLemmas.{decoded_fits, decoded_passed}
 use Rattle.aout_core.proofs.EncodingLemmas.{length-parts, with_relocation-add}
 use Rattle.tool_options.specs.{declared.options.Keep.Keep, Choices.Choices, ForcedNames.takes, ForcedNames.with_name, NameLists.is_among}
 use Rattle.link_session.specs.Mentions.{externals_in, forced_mention, mention, mentions, mentions_in, names_by_first_mention, names_of}
-use Rattle.link_session.specs.{declared.entry.AddFault.AddFault, Cells.words_of, Earlier.with_earlier, Labelled.Labelled}
+use Rattle.link_session.specs.{Cells.words_of, Earlier.with_earlier, Labelled.Labelled}
 use Rattle.link_session.specs.{Labelled.objects, Limits.refusal, Mentions.Mention, Undo.Kept}
 use Rattle.link_session.proofs.LimitLemmas.{length-new_names}
 use Rattle.link_out.specs.function.Tables.{external_row, external_rows, final_reloc, final_relocs, is_kept_local, keeps, local_rows}
 use Rattle.link_out.specs.function.Tables.{moved_local, rows_kept, table}
 use Rattle.link_out.specs.{declared.linked.LinkFault.LinkFault, function.Link.link, function.Link.linked_file, function.Plans.Plan}
-use Rattle.link_out.specs.{function.Plans.plan, function.Words.final_word, function.Words.final_words, Results.Outcome}
+use Rattle.link_out.specs.{function.Plans.plan, function.Words.final_word, function.Words.final_words, Results.Outcome, Results.ReportNames}
 use Rattle.link_out.specs.Inputs.{at_path, with_input, with_inputs}
 use Rattle.link_out.specs.Steps.{and_then, refused_as, unless}
-use Rattle.link_out.proofs.OutcomeLemmas.{made_file}
+use Rattle.link_out.proofs.OutcomeLemmas.{made_file, made_report}
+use Rattle.link_out.specs.function.Reports.{report_of}
 use Rattle.library_calls.specs.{Causes.at, KeptAnswers.kept_run, KeptAnswers.kept_with, LinkAnswers.numbered, LinkAnswers.parts_linked, LinkAnswers.refusal_of}
 use Rattle.library_calls.specs.{LinkAnswers.taken_each, LinkRequests.choices_in, LinkRequests.forced_in, LinkRequests.name_of}
 use Rattle.library_calls.specs.{LinkRequests.with_names, RunAnswers.RunOutput, RunAnswers.link_run, RunAnswers.output_with, RunAnswers.run_output}
+use Rattle.library_calls.specs.{FindingPlaces.name_count, RunAnswers.no_run, RunAnswers.parts_run, RunAnswers.places_if, RunAnswers.results_of}
+use Rattle.library_calls.specs.{declared.places.FindingPlace.FindingPlace, Sizes.IsWithin}
+use Rattle.library_calls.proofs.ReportCountLemmas.{findings_most, given_places, reported_most}
 use Rattle.library_calls.specs.MapAnswers.{IsMapAnswer, linked_run, map_asked, map_of_all, objects_each, run_shown}
 use Rattle.library_calls.specs.{Sizes.IsMostOfMaps, Sizes.IsMostOfRuns, Sizes.IsMostOfSessions, Sizes.bytes_in_all, Sizes.most_of}
 use Rattle.library_calls.specs.declared.cause.Cause.TheVariants.{CutNames, ManyNames, NotLinked}
@@ -40,6 +43,28 @@ use Rattle.link_out.specs.{declared.linked.Linked.Linked, Outcomes.outcome_of}
 use Rattle.link_maps.specs.Links.{link_shown}
 use Rattle.link_out.specs.Inputs as inputs
 use Rattle.link_maps.specs.declared.outcome.Outcome as shown
+
+-- ---- steps that are made
+
+record Through {A B E : Type 0} (r : Result A E) (f : A → Result B E) (x : B) : Type 0 where
+  value : A
+  is : r ≡ Ok value
+  goes_on : f value ≡ Ok x
+
+through : {A B E : Type 0} (r : Result A E) (f : A → Result B E) (x : B) → and_then r f ≡ Ok x → Through r f x
+through (Ok y) f x h = record { value = y; is = refl; goes_on = h }
+through (Err e) f x h = absurd (cc)
+
+value_of : {A E : Type 0} (y x : A) → (let r : Result A E = Ok y in r) ≡ Ok x → y ≡ x
+value_of y x h = cc
+
+accepted : {A E F : Type 0} (name : F → E) (r : Result A F) (x : A) → refused_as name r ≡ Ok x → r ≡ Ok x
+accepted name (Ok y) x h = ap (λ z. Ok z) (value_of y x h)
+accepted name (Err fault) x h = absurd (cc)
+
+allowed : {A E F : Type 0} (name : F → E) (q : Option F) (y x : A) → unless name q y ≡ Ok x → y ≡ x
+allowed name None y x h = value_of y x h
+allowed name (Some fault) y x h = absurd (cc)
 
 -- ---- one object
 
@@ -181,8 +206,12 @@ table_most forced os o =
       mentions_counted forced os,
     )
 
+-- for so many bytes of objects
+abbrev room : List (List ℕ) → ℕ → ℕ
+room forced bytes = 16 + bytes + 12 * length forced
+
 file_most : (forced : List (List ℕ)) (os : List Contents) (o : Choices) →
-    length (encoding (linked_file (plan forced os o) os)) ≤ 16 + bytes_in_all os + 12 * length forced
+    length (encoding (linked_file (plan forced os o) os)) ≤ room forced (bytes_in_all os)
 file_most forced os o =
     let p : Plan = plan forced os o in
     omega (
@@ -196,11 +225,42 @@ file_most forced os o =
       objects_size o.keep os,
     )
 
+report_most : (forced : List (List ℕ)) (os : List Contents) (o : Choices) →
+    12 * name_count (report_of (plan forced os o)) ≤ room forced (bytes_in_all os) + 32
+report_most forced os o =
+    omega (arith, reported_most (plan forced os o), mentions_counted forced os, objects_size o.keep os)
+
+-- a link that gives no more
+abbrev Within : ℕ → Outcome → Type 0
+Within n x = (length (encoding x.file) ≤ n) × (12 * name_count x.report ≤ n + 32)
+
+widened : (m n : ℕ) (x : Outcome) → m ≤ n → Within m x → Within n x
+widened m n x fewer within = (omega (arith, fewer, within.0), omega (arith, fewer, within.1))
+
 link_most : (forced : List (List ℕ)) (os : List Contents) (o : Choices) (x : Outcome) → link forced os o ≡ Ok x →
-    length (encoding x.file) ≤ 16 + bytes_in_all os + 12 * length forced
+    Within (room forced (bytes_in_all os)) x
 link_most forced os o x h =
-    subst (λ (c : Contents). length (encoding c) ≤ 16 + bytes_in_all os + 12 * length forced) (made_file (plan forced os o) os x h)
-    (file_most forced os o)
+    let p : Plan = plan forced os o in (
+      subst (λ (c : Contents). length (encoding c) ≤ room forced (bytes_in_all os)) (made_file p os x h) (file_most forced os o),
+      subst (λ (f : ReportNames). 12 * name_count f ≤ room forced (bytes_in_all os) + 32) (made_report p os x h) (report_most forced os o),
+    )
+
+-- what the caller wants of a link
+given_within : (w : Wants) (places : List FindingPlace) (x : Outcome) (n : ℕ) → Within n x → length places ≤ name_count x.report →
+    IsWithin n (output_with w places x)
+given_within w places x n within few = record {
+  file = within.0;
+  findings = omega (arith, within.1, findings_most w.findings x.report);
+  places = omega (arith, within.1, few);
+}
+
+gives : {E : Type 0} (n : ℕ) (y x : RunOutput) → (let r : Result RunOutput E = Ok y in r) ≡ Ok x → IsWithin n y → IsWithin n x
+gives n y x h within = subst (λ (z : RunOutput). IsWithin n z) (value_of y x h) within
+
+run_within : (w : Wants) (forced : List (List ℕ)) (os : List Contents) (x : Outcome) (n : ℕ) → Within n x →
+    IsWithin n (run_output w forced os x)
+run_within w forced os x n within =
+    given_within w (places_if w.places forced os x.report) x n within (given_places w.places forced os x.report)
 
 -- ---- a link of parts
 
@@ -241,28 +301,17 @@ module _ (forced : List (List ℕ)) where
   -- an input that is taken
   input_most : (kept more : List Labelled) (label bytes : List ℕ) → with_input forced kept label bytes ≡ Ok more →
       bytes_in_all (objects more) ≤ bytes_in_all (objects kept) + length bytes
-  input_most kept more label bytes h = by_read (decode bytes) refl h
-    where
-      by_limit : (o : Contents) → decode bytes ≡ Ok o → (q : Option AddFault) →
-          unless inputs.not_added q (kept ++ record { label = label; object = o } ∷ []) ≡ Ok more →
-          bytes_in_all (objects more) ≤ bytes_in_all (objects kept) + length bytes
-      by_limit o d None e =
-          let same : kept ++ record { label = label; object = o } ∷ [] ≡ more = cc in
-          let whole = map-append (λ (l : Labelled). l.object) kept (record { label = label; object = o } ∷ []) in
-          let longer = ap bytes_in_all (sym whole ∙ ap objects same) in
-          omega (arith, longer, sum_by_push (λ o. length (encoding o)) (objects kept) o, read_size bytes o d)
-      by_limit o d (Some fault) e = absurd (cc)
-
-      by_fault : (o : Contents) → decode bytes ≡ Ok o → (f : Option ObjectFault) →
-          inputs.kept_with forced kept label (unless inputs.bad_object f o) ≡ Ok more →
-          bytes_in_all (objects more) ≤ bytes_in_all (objects kept) + length bytes
-      by_fault o d None e = by_limit o d (refusal forced (objects kept) o) e
-      by_fault o d (Some fault) e = absurd (cc)
-
-      by_read : (r : Result Contents ReadFault) → decode bytes ≡ r → inputs.kept_with forced kept label (inputs.object_in r) ≡ Ok more →
-          bytes_in_all (objects more) ≤ bytes_in_all (objects kept) + length bytes
-      by_read (Ok o) d e = by_fault o d (first_object_fault o) e
-      by_read (Err fault) d e = absurd (cc)
+  input_most kept more label bytes h =
+      let one : Contents → Labelled = λ o. record { label = label; object = o } in
+      let o = through (inputs.object_in (decode bytes)) (λ o. unless inputs.not_added (refusal forced (objects kept) o) (kept ++ one o ∷ [])) more h in
+      let c = through (refused_as inputs.bad_file (decode bytes)) (λ c. unless inputs.bad_object (first_object_fault c) c) o.value o.is in
+      let same = allowed inputs.bad_object (first_object_fault c.value) c.value o.value c.goes_on in
+      let read : decode bytes ≡ Ok o.value =
+      accepted inputs.bad_file (decode bytes) c.value c.is ∙ ap (λ (o : Contents). Ok o) same in
+      let put = allowed inputs.not_added (refusal forced (objects kept) o.value) (kept ++ one o.value ∷ []) more o.goes_on in
+      let whole = map-append (λ (l : Labelled). l.object) kept (one o.value ∷ []) in
+      let longer = ap bytes_in_all (sym whole ∙ ap objects put) in
+      omega (arith, longer, sum_by_push (λ o. length (encoding o)) (objects kept) o.value, read_size bytes o.value read)
 
   inputs_most : (number : ℕ) (parts : List (List ℕ)) (kept all : List Labelled) →
       with_inputs forced kept (numbered number parts) ≡ Ok all → bytes_in_all (objects all) ≤ bytes_in_all (objects kept) + sum_by length parts
@@ -270,130 +319,94 @@ module _ (forced : List (List ℕ)) where
       let same : kept ≡ all = cc in
       subst (λ (l : List Labelled). bytes_in_all (objects l) ≤ bytes_in_all (objects kept) + 0) same (omega arith)
   inputs_most number (bytes ∷ parts) kept all h =
-      by_first (with_input forced kept (number ∷ []) bytes) (λ more rest. inputs_most (number + 1) parts more all rest) refl h
-    where
-      by_first : (r : Result (List Labelled) inputs.Cause) → ((more : List Labelled) →
-          with_inputs forced more (numbered (number + 1) parts) ≡ Ok all → bytes_in_all (objects all) ≤ bytes_in_all (objects more) + sum_by length parts) →
-          with_input forced kept (number ∷ []) bytes ≡ r →
-          and_then (at_path (number ∷ []) r) (λ more. with_inputs forced more (numbered (number + 1) parts)) ≡ Ok all →
-          bytes_in_all (objects all) ≤ bytes_in_all (objects kept) + sum_by length (bytes ∷ parts)
-      by_first (Ok more) later first rest =
-          omega (arith, sum_by-cons length bytes parts, input_most kept more (number ∷ []) bytes first, later more rest)
-      by_first (Err cause) later first rest = absurd (cc)
+      let more = through (at_path (number ∷ []) (with_input forced kept (number ∷ []) bytes))
+      (λ more. with_inputs forced more (numbered (number + 1) parts)) all h in
+      let first = accepted (inputs.of_input (number ∷ [])) (with_input forced kept (number ∷ []) bytes) more.value more.is in
+      omega (
+        arith,
+        sum_by-cons length bytes parts,
+        input_most kept more.value (number ∷ []) bytes first,
+        inputs_most (number + 1) parts more.value all more.goes_on,
+      )
 
   parts_most : (o : Choices) (parts : List (List ℕ)) (x : Outcome) → parts_linked forced o parts ≡ Ok x →
-      length (encoding x.file) ≤ 16 + sum_by length parts + 12 * length forced
-  parts_most o parts x h = by_taken (with_inputs forced [] (numbered 0 parts)) refl h
-    where
-      by_link : (kept : List Labelled) → with_inputs forced [] (numbered 0 parts) ≡ Ok kept → (r : Result Outcome LinkFault) →
-          link forced (objects kept) o ≡ r → refused_as refusal_of (refused_as inputs.not_linked r) ≡ Ok x →
-          length (encoding x.file) ≤ 16 + sum_by length parts + 12 * length forced
-      by_link kept taken (Ok y) made e =
-          let same : y ≡ x = cc in
-          omega (arith, inputs_most 0 parts [] kept taken, link_most forced (objects kept) o x (made ∙ ap (λ (y : Outcome). Ok y) same))
-      by_link kept taken (Err fault) made e = absurd (cc)
-
-      by_taken : (r : Result (List Labelled) inputs.Refusal) → with_inputs forced [] (numbered 0 parts) ≡ r →
-          refused_as refusal_of (and_then r (λ kept. refused_as inputs.not_linked (link forced (objects kept) o))) ≡ Ok x →
-          length (encoding x.file) ≤ 16 + sum_by length parts + 12 * length forced
-      by_taken (Ok kept) taken e = by_link kept taken (link forced (objects kept) o) refl e
-      by_taken (Err refusal) taken e = absurd (cc)
+      Within (room forced (sum_by length parts)) x
+  parts_most o parts x h =
+      let kept = through (with_inputs forced [] (numbered 0 parts)) (λ kept. refused_as inputs.not_linked (link forced (objects kept) o)) x
+      (accepted refusal_of (inputs.linked forced (numbered 0 parts) o) x h) in
+      widened (room forced (bytes_in_all (objects kept.value))) (room forced (sum_by length parts)) x
+      (omega (arith, inputs_most 0 parts [] kept.value kept.is))
+      (link_most forced (objects kept.value) o x (accepted inputs.not_linked (link forced (objects kept.value) o) x kept.goes_on))
 
 -- ---- the calls
 
 module _ (bytes size most : ℕ) (enough : most_of bytes size ≤ most) where
+  within_most : (forced : List (List ℕ)) (n : ℕ) (x : Outcome) → n ≤ bytes → 8 * length forced ≤ size → Within (room forced n) x →
+      Within most x
+  within_most forced n x few short made = widened (room forced n) most x (omega (arith, enough, few, short)) made
+
+  named_most : (names : List ℕ) (forced : List (List ℕ)) → length names ≤ size → forced_in names ≡ Ok forced → 8 * length forced ≤ size
+  named_most names forced short named = omega (arith, short, forced_most names forced named)
+
+  none_within : IsWithin most no_run
+  none_within = record { file = omega arith; findings = omega arith; places = omega arith }
+
   most_of_runs : (w : Wants) (bits : ℕ) (entry names : List ℕ) (parts : List (List ℕ)) (x : RunOutput) →
-      sum_by length parts ≤ bytes → length names ≤ size → link_run w bits entry names parts ≡ Ok x → length x.file ≤ most
-  most_of_runs w bits entry names parts x few short h = by_choices (choices_in bits entry) h
-    where
-      by_taken : (forced : List (List ℕ)) (o : Choices) → forced_in names ≡ Ok forced → (r : Result (List Contents) Refusal) →
-          (s : Result Outcome Refusal) → parts_linked forced o parts ≡ s →
-          and_then r (λ os. and_then s (λ y. Ok (run_output w forced os y))) ≡ Ok x → length x.file ≤ most
-      by_taken forced o named (Ok os) (Ok y) linked e =
-          let given : run_output w forced os y ≡ x = cc in
-          omega (
-            arith,
-            enough,
-            few,
-            short,
-            parts_most forced o parts y linked,
-            forced_most names forced named,
-            ap (λ (z : RunOutput). length z.file) given,
-          )
-      by_taken forced o named (Ok os) (Err refusal) linked e = absurd (cc)
-      by_taken forced o named (Err refusal) s linked e = absurd (cc)
-
-      by_forced : (o : Choices) (r : Result (List (List ℕ)) Refusal) → forced_in names ≡ r →
-          and_then r (λ forced. and_then (taken_each forced parts) (λ os. and_then (parts_linked forced o parts)
-          (λ y. Ok (run_output w forced os y)))) ≡ Ok x → length x.file ≤ most
-      by_forced o (Ok forced) named e = by_taken forced o named (taken_each forced parts) (parts_linked forced o parts) refl e
-      by_forced o (Err refusal) named e = absurd (cc)
-
-      by_choices : (r : Result Choices Cause) → and_then (at 0 r) (λ o. and_then (forced_in names) (λ forced.
-          and_then (taken_each forced parts) (λ os. and_then (parts_linked forced o parts) (λ y. Ok (run_output w forced os y))))) ≡ Ok x →
-          length x.file ≤ most
-      by_choices (Ok o) e = by_forced o (forced_in names) refl e
-      by_choices (Err cause) e = absurd (cc)
+      sum_by length parts ≤ bytes → length names ≤ size → link_run w bits entry names parts ≡ Ok x → IsWithin most x
+  most_of_runs w bits entry names parts x few short h =
+      let o = through (at 0 (choices_in bits entry)) (λ o. and_then (forced_in names) (λ forced. parts_run w forced o parts)) x h in
+      let forced = through (forced_in names) (λ forced. parts_run w forced o.value parts) x o.goes_on in
+      let f = forced.value in
+      let os = through (taken_each f parts) (λ os. and_then (parts_linked f o.value parts) (λ y. Ok (run_output w f os y))) x forced.goes_on in
+      let y = through (parts_linked f o.value parts) (λ y. Ok (run_output w f os.value y)) x os.goes_on in
+      gives most (run_output w f os.value y.value) x y.goes_on (run_within w f os.value y.value most (within_most f (sum_by length parts) y.value few
+      (named_most names f short forced.is) (parts_most f o.value parts y.value y.is)))
 
   most_of_maps : (w : Wants) (bits : ℕ) (entry names : List ℕ) (parts : List (List ℕ)) (x : LinkOutput) → sum_by length parts ≤ bytes →
-      length names ≤ size → IsMapAnswer w (map_asked bits entry names parts) x → length x.run.file.items ≤ most
+      length names ≤ size → IsMapAnswer w (map_asked bits entry names parts) x → IsWithin most (results_of x.run)
   most_of_maps w bits entry names parts x few short h = by_choices (choices_in bits entry) h
     where
       by_link : (o : Choices) (forced : List (List ℕ)) → forced_in names ≡ Ok forced → (f : List (List ℕ)) (os : List Contents)
-          (r : Result Linked LinkFault) → inputs.linked forced (numbered 0 parts) o ≡ link_shown r → length (linked_run w f os r).file ≤ most
+          (r : Result Linked LinkFault) → inputs.linked forced (numbered 0 parts) o ≡ link_shown r → IsWithin most (linked_run w f os r)
       by_link o forced named f os (Ok l) e =
-          let file = parts_most forced o parts (outcome_of l) (ap (refused_as refusal_of) e) in
-          let fits : length (encoding (outcome_of l).file) ≤ most = omega (arith, enough, few, short, file, forced_most names forced named) in
-          fits
-      by_link o forced named f os (Err fault) e = omega arith
+          run_within w f os (outcome_of l) most (within_most forced (sum_by length parts) (outcome_of l) few
+          (named_most names forced short named) (parts_most forced o parts (outcome_of l) (ap (refused_as refusal_of) e)))
+      by_link o forced named f os (Err fault) e = none_within
 
       by_outcome : (o : Choices) (forced : List (List ℕ)) → forced_in names ≡ Ok forced → (f : List (List ℕ)) (os : List Contents)
           (r : Option shown.Outcome) → IfSome r (λ y. inputs.linked forced (numbered 0 parts) o ≡ link_shown y.linked) →
-          length (run_shown w f os r).file ≤ most
-      by_outcome o forced named f os None e = omega arith
+          IsWithin most (run_shown w f os r)
+      by_outcome o forced named f os None e = none_within
       by_outcome o forced named f os (Some y) e = by_link o forced named f os y.linked e
 
       by_objects : (o : Choices) (forced : List (List ℕ)) → forced_in names ≡ Ok forced → (r : Result (List Contents) Refusal) →
-          IsMapAnswer w (and_then r (λ os. Ok (map_of_all o forced (numbered 0 parts) os))) x → length x.run.file.items ≤ most
+          IsMapAnswer w (and_then r (λ os. Ok (map_of_all o forced (numbered 0 parts) os))) x → IsWithin most (results_of x.run)
       by_objects o forced named (Ok os) m =
           let f = m.all.session.forced in
           let kept = objects m.all.session.entries in
-          let same : length x.run.file.items ≡ length (run_shown w f kept m.map.outcome).file = ap (λ (z : RunOutput). length z.file) m.run in
-          omega (arith, same, by_outcome o forced named f kept m.map.outcome m.shows.made)
+          subst (λ (z : RunOutput). IsWithin most z) (sym m.run) (by_outcome o forced named f kept m.map.outcome m.shows.made)
       by_objects o forced named (Err refusal) m = absurd m
 
       by_forced : (o : Choices) (r : Result (List (List ℕ)) Refusal) → forced_in names ≡ r →
           IsMapAnswer w (and_then r (λ forced. and_then (objects_each parts) (λ os. Ok (map_of_all o forced (numbered 0 parts) os)))) x →
-          length x.run.file.items ≤ most
+          IsWithin most (results_of x.run)
       by_forced o (Ok forced) named m = by_objects o forced named (objects_each parts) m
       by_forced o (Err refusal) named m = absurd m
 
       by_choices : (r : Result Choices Cause) → IsMapAnswer w (and_then (at 0 r) (λ o. and_then (forced_in names) (λ forced.
-          and_then (objects_each parts) (λ os. Ok (map_of_all o forced (numbered 0 parts) os))))) x → length x.run.file.items ≤ most
+          and_then (objects_each parts) (λ os. Ok (map_of_all o forced (numbered 0 parts) os))))) x → IsWithin most (results_of x.run)
       by_choices (Ok o) m = by_forced o (forced_in names) refl m
       by_choices (Err cause) m = absurd m
 
   most_of_sessions : (w : Wants) (bits : ℕ) (entry : List ℕ) (k : Kept) (x : RunOutput) → bytes_in_all (objects k.entries) ≤ bytes →
-      8 * length k.forced ≤ size → kept_run w bits entry k ≡ Ok x → length x.file ≤ most
-  most_of_sessions w bits entry k x few short h = by_choices (choices_in bits entry) h
-    where
-      by_link : (o : Choices) (r : Result Outcome LinkFault) → link k.forced (objects k.entries) o ≡ r →
-          and_then (refused_as NotLinked r) (λ y. Ok (output_with w [] y)) ≡ Ok x → length x.file ≤ most
-      by_link o (Ok y) made e =
-          let given : output_with w [] y ≡ x = cc in
-          omega (
-            arith,
-            enough,
-            few,
-            short,
-            link_most k.forced (objects k.entries) o y made,
-            ap (λ (z : RunOutput). length z.file) given,
-          )
-      by_link o (Err fault) made e = absurd (cc)
-
-      by_choices : (r : Result Choices Cause) → and_then r (λ o. kept_with w o k) ≡ Ok x → length x.file ≤ most
-      by_choices (Ok o) e = by_link o (link k.forced (objects k.entries) o) refl e
-      by_choices (Err cause) e = absurd (cc)
+      8 * length k.forced ≤ size → kept_run w bits entry k ≡ Ok x → IsWithin most x
+  most_of_sessions w bits entry k x few short h =
+      let o = through (choices_in bits entry) (λ o. kept_with w o k) x h in
+      let y = through (refused_as NotLinked (link k.forced (objects k.entries) o.value)) (λ y. Ok (output_with w [] y)) x o.goes_on in
+      gives most (output_with w [] y.value) x y.goes_on (given_within w [] y.value most
+      (within_most k.forced (bytes_in_all (objects k.entries)) y.value few short
+      (link_most k.forced (objects k.entries) o.value y.value (accepted NotLinked (link k.forced (objects k.entries) o.value) y.value y.is)))
+      (omega arith))
 
 module _ (bytes size most : ℕ) (is : most ≡ min (most_of bytes size) (2 ^ 64 - 1)) (short : bytes + size < 2 ^ 63) where
   pub runs_most : IsMostOfRuns bytes size most

@@ -1,6 +1,7 @@
 -- Why a call has no answer, by the faults of the libraries below, and its number. (own choice)
 --
--- That memory ran out is one cause, of a request that was refused. A device is never read, so its fault never comes.
+-- That memory ran out is one cause, `Memory`, and no other has its number, 50. A device is never read. So the faults below that say
+-- one of these never come, and have the number 0.
 use Rattle.std.specs.Prelude.{ℕ, nat_lt, if◌then◌else◌, Result}
 use Rattle.aout_core.specs.declared.object.ObjectFault.{ObjectFault}
 use Rattle.gnu_objects.specs.declared.refusal.Size.{Size}
@@ -9,7 +10,7 @@ use Rattle.link_session.specs.declared.entry.AddFault.{AddFault}
 use Rattle.link_out.specs.{declared.linked.LinkFault.LinkFault, Steps.refused_as}
 use Rattle.listings.specs.{Reading.Mistakes, declared.fault.Reason.Reason}
 use Rattle.library_calls.specs.declared.cause.Cause.TheVariants.{NoOption, Excluded, LongName, CutNames, ManyNames, TooLong}
-use Rattle.library_calls.specs.declared.cause.Cause.TheVariants.{ShortStruct, NoSession, NoWant, SessionOpen, NothingKept}
+use Rattle.library_calls.specs.declared.cause.Cause.TheVariants.{ShortStruct, NoSession, NoWant, SessionOpen, NothingKept, NotKept}
 use Rattle.library_calls.specs.declared.cause.Cause.TheVariants.{BadFile, BadObject, NotAdded, NotLinked, BadListing, NotConverted, Memory}
 use Rattle.library_calls.specs.{declared.cause.Cause.Cause, declared.cause.Refusal.Refusal}
 use Rattle.aout_core.specs.declared.file.ReadFault.TheVariants as reads
@@ -77,7 +78,7 @@ gnu_number (refusals.OddSize size) = 13
 gnu_number refusals.Truncated = 14
 gnu_number (refusals.BadWord fault) = object_number fault
 gnu_number (refusals.TooManySymbols count) = 42
-gnu_number (refusals.Memory refused) = 50
+gnu_number (refusals.Memory refused) = 0
 gnu_number refusals.BadStrings = 81
 gnu_number (refusals.Overlay n) = 82
 gnu_number (refusals.BadPlace n) = 83
@@ -103,19 +104,19 @@ number_of (BadFile reads.ShortHeader) = 11
 number_of (BadFile reads.BadMagic) = 12
 number_of (BadFile reads.OddSize) = 13
 number_of (BadFile reads.Truncated) = 14
-number_of (BadFile (reads.Memory refused)) = 50
-number_of (BadFile (reads.Device _)) = 14
+number_of (BadFile _) = 0
 number_of (BadObject fault) = object_number fault
 number_of (NotAdded adds.TextFull) = 31
 number_of (NotAdded adds.DataFull) = 32
 number_of (NotAdded adds.BssFull) = 33
 number_of (NotAdded adds.NamesFull) = 34
-number_of (NotAdded (adds.Memory refused)) = 50
+number_of (NotAdded _) = 0
 number_of NothingKept = 35
+number_of NotKept = 36
 number_of (NotLinked links.DoesNotFit) = 41
 number_of (NotLinked links.TooManySymbols) = 42
 number_of (NotLinked links.SymbolNumber) = 43
-number_of (NotLinked (links.Memory refused)) = 50
+number_of (NotLinked _) = 0
 number_of (BadListing fault) = reason_number fault.reason
 number_of (NotConverted refusal) = gnu_number refusal
 number_of (Memory refused) = 50

@@ -5,7 +5,7 @@ use Rattle.std.specs.Prelude.{ℕ, ◌%◌, ◌/◌, Bool, false, eqb, nat_lt, i
 use Rattle.aout_core.specs.Encoding.{file_length, encoding}
 use Rattle.aout_core.specs.{Contents.Contents, Decoding.decode, Strip.stripped, WellFormed.first_object_fault}
 use Rattle.instructions.specs.declared.unix.Decoder.TheVariants.{Pdp11}
-use Rattle.disassemblies.specs.Columns.{disassembly}
+use Rattle.disassemblies.specs.Columns.{disassembly, plain_disassembly}
 use Rattle.link_out.specs.Steps.{and_then, refused_as, unless}
 use Rattle.tool_options.specs.declared.nm_options.NmOptions.{NmOptions}
 use Rattle.symtools.specs.{NmLists.nm_text, SizeLines.size_text}
@@ -38,6 +38,10 @@ sizes_in bytes = and_then (file_in bytes) (λ c. Ok (size_text (([], c) ∷ []))
 -- the text as instructions
 abbrev pub disassembled_in : List ℕ → Result (List ℕ) Cause
 disassembled_in bytes = and_then (file_in bytes) (λ c. Ok (disassembly Pdp11 c))
+
+-- words alone as instructions, the first of them at this address
+abbrev pub words_shown : ℕ → List ℕ → Result (List ℕ) Cause
+words_shown address words = Ok (plain_disassembly address words)
 
 -- the bit at a place, of value 1, 2, 4 ..
 abbrev pub has_bit : ℕ → ℕ → Bool

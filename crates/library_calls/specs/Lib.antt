@@ -1,5 +1,6 @@
 pub mod Causes
 pub mod FileAnswers
+pub mod FindingPlaces
 pub mod LinkRequests
 pub mod LinkAnswers
 pub mod ObjectParts

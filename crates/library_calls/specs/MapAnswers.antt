@@ -12,7 +12,7 @@ use Rattle.library_calls.specs.declared.cause.Cause.TheVariants.{NotAdded, NotLi
 use Rattle.library_calls.specs.LinkRequests.{choices_in, forced_in}
 use Rattle.library_calls.specs.{declared.cause.Refusal.Refusal, declared.map_call.MapHead.MapHead, declared.map_call.LinkOutput.LinkOutput}
 use Rattle.library_calls.specs.{Causes.at, Causes.number_of, LinkAnswers.numbered, LinkAnswers.refusal_of, MemoryWanted.MayRunOutInParts}
-use Rattle.library_calls.specs.{RunAnswers.RunOutput, RunAnswers.results_of, RunAnswers.run_output, declared.run_call.Wants.Wants}
+use Rattle.library_calls.specs.{RunAnswers.RunOutput, RunAnswers.no_run, RunAnswers.results_of, RunAnswers.run_output, declared.run_call.Wants.Wants}
 
 -- the objects that these parts begin with, or why one of them has none
 abbrev pub objects_each : List (List ℕ) → Result (List Contents) Refusal
@@ -26,35 +26,30 @@ pub record AreTaken (forced : List (List ℕ)) (os : List Contents) (all : Objec
 
 -- ---- what becomes of the link
 
-abbrev pub no_head : MapHead
-no_head = record {
-  text_end = 0;
-  data_start = 0;
-  data_end = 0;
-  bss_start = 0;
-  bss_end = 0;
-  place = 0;
-  fault = 0;
-  state = 0;
-  magic = 0;
-  entry_point = 0;
-  entry_name = no_label;
+-- where the segments lie; the object that is refused, and why there is no link; and what a link that is made has
+abbrev pub head : Bases → ℕ → ℕ → ℕ → ℕ → ℕ → List ℕ → MapHead
+head b place fault state magic entry_point entry_name = record {
+  text_end = b.text_end;
+  data_start = b.data_start;
+  data_end = b.data_end;
+  bss_start = b.bss_start;
+  bss_end = b.bss_end;
+  place = place;
+  fault = fault;
+  state = state;
+  magic = magic;
+  entry_point = entry_point;
+  entry_name = entry_name;
 }
 
+abbrev pub no_bases : Bases
+no_bases = record { text_end = 0; data_start = 0; data_end = 0; bss_start = 0; bss_end = 0 }
+
+abbrev pub no_head : MapHead
+no_head = head no_bases 0 0 0 0 0 no_label
+
 abbrev pub refused_head : AddFault → ℕ → MapHead
-refused_head cause place = record {
-  text_end = 0;
-  data_start = 0;
-  data_end = 0;
-  bss_start = 0;
-  bss_end = 0;
-  place = place;
-  fault = number_of (NotAdded cause);
-  state = 0;
-  magic = 0;
-  entry_point = 0;
-  entry_name = no_label;
-}
+refused_head cause place = head no_bases place (number_of (NotAdded cause)) 0 0 0 no_label
 
 abbrev pub name_or_none : Option (List ℕ) → List ℕ
 name_or_none None = no_label
@@ -62,35 +57,13 @@ name_or_none (Some name) = padded name
 
 -- 1 for a link that has something to report, 2 for an entry point that is not in text
 abbrev pub made_head : Bases → Linked → MapHead
-made_head b l = record {
-  text_end = b.text_end;
-  data_start = b.data_start;
-  data_end = b.data_end;
-  bss_start = b.bss_start;
-  bss_end = b.bss_end;
-  place = 0;
-  fault = 0;
-  state = status_of (outcome_of l).report + bit (is_some l.report.entry_bad) 2;
-  magic = l.file.header.magic;
-  entry_point = l.file.header.entry_point;
-  entry_name = name_or_none l.report.entry_bad;
-}
+made_head b l =
+    head b 0 0 (status_of (outcome_of l).report + bit (is_some l.report.entry_bad) 2) l.file.header.magic l.file.header.entry_point
+    (name_or_none l.report.entry_bad)
 
 -- the addresses of the segments, and a fault
 abbrev pub placed_head : Bases → ℕ → MapHead
-placed_head b fault = record {
-  text_end = b.text_end;
-  data_start = b.data_start;
-  data_end = b.data_end;
-  bss_start = b.bss_start;
-  bss_end = b.bss_end;
-  place = 0;
-  fault = fault;
-  state = 0;
-  magic = 0;
-  entry_point = 0;
-  entry_name = no_label;
-}
+placed_head b fault = head b 0 fault 0 0 0 no_label
 
 abbrev pub linked_head : Bases → Result Linked LinkFault → MapHead
 linked_head b (Ok l) = made_head b l
@@ -122,10 +95,6 @@ map_asked bits entry forced parts =
     (λ os. Ok (map_of_all o names (numbered 0 parts) os))))
 
 -- ---- the file and the report
-
--- a link that is not made gives nothing, and its map is what there is to report
-abbrev pub no_run : RunOutput
-no_run = record { status = 1; file = []; report = []; findings = []; places = [] }
 
 abbrev pub linked_run : Wants → List (List ℕ) → List Contents → Result Linked LinkFault → RunOutput
 linked_run w forced os (Ok l) = run_output w forced os (outcome_of l)

@@ -1,11 +1,11 @@
 -- What a call answers for a link of objects whose bytes are apart: the report as lines and as a list, and the objects of what is
 -- reported. (ld(1))
-use Rattle.std.specs.Prelude.{ℕ, Bool, false, if◌then◌else◌, List, [], Result, Ok}
+use Rattle.std.specs.Prelude.{ℕ, Bool, if◌then◌else◌, List, [], Result, Ok}
 use Rattle.aout_core.specs.{Contents.Contents, Encoding.encoding}
 use Rattle.tool_options.specs.Choices.{Choices}
 use Rattle.link_out.specs.{function.Link.Outcome, function.Link.link, function.Reports.report_text, function.Reports.status_of}
 use Rattle.link_out.specs.{Results.ReportNames, Steps.and_then, Steps.refused_as}
-use Rattle.finding_objects.specs.{declared.places.FindingPlace.FindingPlace, Places.finding_places}
+use Rattle.library_calls.specs.{declared.places.FindingPlace.FindingPlace, FindingPlaces.finding_places}
 use Rattle.library_calls.specs.{declared.cause.Cause.Cause, declared.cause.Cause.TheVariants.NotLinked, declared.cause.Refusal.Refusal}
 use Rattle.library_calls.specs.{declared.reported.ReportedName.ReportedName, declared.run_call.RunResult.RunResult, Causes.at}
 use Rattle.library_calls.specs.declared.run_call.Wants.{Wants}
@@ -21,9 +21,9 @@ pub record RunOutput : Type 0 where
   pub findings : List ReportedName
   pub places : List FindingPlace
 
--- the file alone
-abbrev pub no_report : Wants
-no_report = record { report = false; findings = false; places = false }
+-- a link that is not made gives nothing, and why is what there is to report
+abbrev pub no_run : RunOutput
+no_run = record { status = 1; file = []; report = []; findings = []; places = [] }
 
 -- the lines of a report, its list, and the objects of what it has in a link of these, if they are wanted
 abbrev pub lines_if : Bool → ReportNames → List ℕ

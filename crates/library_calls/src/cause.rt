@@ -15,13 +15,13 @@ use std::alloc::AllocError;
 #[derive(Clone, Copy, Debug, PartialEq, Eq)]
 pub enum LongPart {
     /// 1: the words of the text.
-    Text,
+    Text = 1,
     /// 2: the words of the data.
-    Data,
+    Data = 2,
     /// 3: bss.
-    Bss,
+    Bss = 3,
     /// 4: the symbols.
-    Symbols,
+    Symbols = 4,
 }
 
 /// Why a call has no answer. If memory runs out it is `Memory`, whatever was being done. (own choice)
@@ -43,7 +43,7 @@ pub enum Cause {
     ShortStruct,
     /// 8: no session is begun.
     NoSession,
-    /// 9: a bit of what is wanted stands for nothing, or for what a session does not keep.
+    /// 9: a bit of what is wanted stands for nothing.
     NoWant,
     /// 10: a session is begun already.
     SessionOpen,
@@ -55,6 +55,8 @@ pub enum Cause {
     NotAdded(AddFault),
     /// 35: a session keeps no object.
     NothingKept,
+    /// 36: a session does not keep what is wanted: the objects of what is reported, or those of a map.
+    NotKept,
     /// 41 to 43: the objects can't be linked.
     NotLinked(LinkFault),
     /// 61 to 80: a listing has this mistake.
@@ -141,19 +143,6 @@ impl From<Refused> for Refusal {
     }
 }
 
-fn read_number(fault: ReadFault) -> u32
-    ensures { result ≡ number_of (Cause.BadFile fault) }
-{
-    match fault {
-        ReadFault::ShortHeader => 11,
-        ReadFault::BadMagic => 12,
-        ReadFault::OddSize => 13,
-        // a device is never read
-        ReadFault::Device(_) | ReadFault::Truncated => 14,
-        ReadFault::Memory(_) => 50,
-    }
-}
-
 fn object_number(fault: ObjectFault) -> u32
     ensures { result ≡ number_of (Cause.BadObject fault) }
 {
@@ -162,30 +151,6 @@ fn object_number(fault: ObjectFault) -> u32
         ObjectFault::NoRelocation => 22,
         ObjectFault::BadRelocation(_) => 23,
         ObjectFault::BadSymbolNumber(_) => 24,
-    }
-}
-
-/// The number of a limit that an object passes.
-fn addition_number(fault: AddFault) -> u32
-    ensures { result ≡ number_of (Cause.NotAdded fault) }
-{
-    match fault {
-        AddFault::TextFull => 31,
-        AddFault::DataFull => 32,
-        AddFault::BssFull => 33,
-        AddFault::NamesFull => 34,
-        AddFault::Memory(_) => 50,
-    }
-}
-
-fn link_number(fault: LinkFault) -> u32
-    ensures { result ≡ number_of (Cause.NotLinked fault) }
-{
-    match fault {
-        LinkFault::DoesNotFit => 41,
-        LinkFault::TooManySymbols => 42,
-        LinkFault::SymbolNumber => 43,
-        LinkFault::Memory(_) => 50,
     }
 }
 
@@ -226,7 +191,8 @@ fn gnu_number(refusal: gnu_objects::Refusal) -> u32
         gnu_objects::Refusal::Truncated => 14,
         gnu_objects::Refusal::BadWord(fault) => object_number(fault),
         gnu_objects::Refusal::TooManySymbols(_) => 42,
-        gnu_objects::Refusal::Memory(_) => 50,
+        // the cause is `Cause::Memory` then
+        gnu_objects::Refusal::Memory(_) => 0,
         gnu_objects::Refusal::BadStrings => 81,
         gnu_objects::Refusal::Overlay(_) => 82,
         gnu_objects::Refusal::BadPlace(_) => 83,
@@ -236,17 +202,6 @@ fn gnu_number(refusal: gnu_objects::Refusal) -> u32
         gnu_objects::Refusal::AlikeNames(_, _) => 87,
         gnu_objects::Refusal::StabWord(_) => 88,
         gnu_objects::Refusal::LocalWord(_, _) => 89,
-    }
-}
-
-fn part_number(part: LongPart) -> u32
-    ensures { result ≡ word_of (Cause.TooLong part) }
-{
-    match part {
-        LongPart::Text => 1,
-        LongPart::Data => 2,
-        LongPart::Bss => 3,
-        LongPart::Symbols => 4,
     }
 }
 
@@ -323,14 +278,27 @@ impl Cause {
             Cause::NoSession => 8,
             Cause::NoWant => 9,
             Cause::SessionOpen => 10,
-            Cause::BadFile(fault) => read_number(fault),
+            Cause::BadFile(ReadFault::ShortHeader) => 11,
+            Cause::BadFile(ReadFault::BadMagic) => 12,
+            Cause::BadFile(ReadFault::OddSize) => 13,
+            Cause::BadFile(ReadFault::Truncated) => 14,
             Cause::BadObject(fault) => object_number(fault),
-            Cause::NotAdded(fault) => addition_number(fault),
+            Cause::NotAdded(AddFault::TextFull) => 31,
+            Cause::NotAdded(AddFault::DataFull) => 32,
+            Cause::NotAdded(AddFault::BssFull) => 33,
+            Cause::NotAdded(AddFault::NamesFull) => 34,
             Cause::NothingKept => 35,
-            Cause::NotLinked(fault) => link_number(fault),
+            Cause::NotKept => 36,
+            Cause::NotLinked(LinkFault::DoesNotFit) => 41,
+            Cause::NotLinked(LinkFault::TooManySymbols) => 42,
+            Cause::NotLinked(LinkFault::SymbolNumber) => 43,
             Cause::BadListing(fault) => reason_number(fault.reason),
             Cause::NotConverted(refusal) => gnu_number(refusal),
             Cause::Memory(_) => 50,
+            // no device is read, and what memory is missing for is `Memory`
+            Cause::BadFile(ReadFault::Memory(_) | ReadFault::Device(_))
+            | Cause::NotAdded(AddFault::Memory(_))
+            | Cause::NotLinked(LinkFault::Memory(_)) => 0,
         }
     }
 
@@ -341,7 +309,7 @@ impl Cause {
         ensures { result ≡ word_of self.now }
     {
         match *self {
-            Cause::TooLong(part) => part_number(part),
+            Cause::TooLong(part) => part as u32,
             Cause::BadObject(fault) => object_word(fault),
             Cause::BadListing(fault) => column_word(fault.column),
             Cause::NotConverted(refusal) => gnu_word(refusal),

@@ -1,9 +1,9 @@
 //! Words as instructions: those of the text of a file, and words alone.
-ghost use Rattle.std.specs.Prelude.{◌≡◌, ◌≢◌, [], Ok, Err, IsErr, IsOk, IfOk, IfErr};
+ghost use Rattle.std.specs.Prelude.{◌≡◌, ◌≢◌, [], Ok, Err, IsOk, IfOk, IfErr};
 ghost use Rattle.aout_core.specs.Refusals.{refused};
 ghost use Rattle.instructions.specs.declared.unix.Decoder.TheVariants.{Pdp11};
-ghost use Rattle.disassemblies.specs.Columns.{disassembly, plain_disassembly};
-ghost use Rattle.library_calls.specs.FileAnswers.{disassembled_in};
+ghost use Rattle.disassemblies.specs.Columns.{disassembly};
+ghost use Rattle.library_calls.specs.FileAnswers.{disassembled_in, words_shown};
 ghost use Rattle.library_calls.specs.declared.cause.Cause.TheVariants.{Memory};
 
 use crate::cause::Cause;
@@ -41,9 +41,9 @@ pub fn disassemble(alloc: Global, bytes: &[u8]) -> Result<Vec<u8>, Cause>
 ///
 /// An error: `Memory`, 50, if there are words and memory runs out.
 pub fn disassemble_words(alloc: Global, address: u16, words: &[u16]) -> Result<Vec<u8>, Cause>
-    ensures ok { IfOk result (λ text. text.items ≡ plain_disassembly address words.now) }
-    ensures err { IfErr result (λ cause. cause ≡ Memory refused) }
-    ensures memory { IsErr result → words.now ≢ [] }
+    ensures ok { IfOk result (λ text. words_shown address words.now ≡ Ok text.items) }
+    ensures err { IfErr result (λ cause. cause ≢ Memory refused → words_shown address words.now ≡ Err cause) }
+    ensures memory { IfErr result (λ cause. cause ≡ Memory refused → words.now ≢ []) }
 {
     let mut text = Text::new(alloc);
     put_plain_disassembly(&mut text, address, words);

@@ -1,11 +1,8 @@
 //! What is said of one file that comes as bytes.
-ghost use Rattle.std.specs.Prelude.{◌≡◌, ◌≢◌, ◌++◌, ◌∷◌, [], Ok, Err, IsOk, IfOk, IfErr};
-ghost use Rattle.std.specs.List.{flat_map};
+ghost use Rattle.std.specs.Prelude.{◌≡◌, ◌≢◌, ◌∷◌, [], Ok, Err, IsOk, IfOk, IfErr};
 ghost use Rattle.aout_core.specs.Refusals.{refused};
-ghost use Rattle.symtools.specs.NmLists.{shown};
-ghost use Rattle.symtools.specs.SizeLines.{size_line};
-ghost use Rattle.symtools.specs.SymbolLines.{symbol_line};
-ghost use Rattle.texts.specs.Texts.{Puts};
+ghost use Rattle.symtools.specs.NmLists.{nm_text};
+ghost use Rattle.symtools.specs.SizeLines.{size_text};
 ghost use Rattle.library_calls.specs.FileAnswers.{checked_in, names_in, sizes_in, stripped_in};
 ghost use Rattle.library_calls.specs.MemoryWanted.{HasBody};
 ghost use Rattle.library_calls.specs.declared.cause.Cause.TheVariants.{Memory};
@@ -13,11 +10,10 @@ ghost use Rattle.library_calls.specs.declared.cause.Cause.TheVariants.{Memory};
 use crate::cause::Cause;
 use crate::first::{file_length, first_file, first_object};
 use crate::requests::nm_options;
-use crate::written::bytes_of;
-use aout_core::{File, Header, Symbol, strip_file};
+use crate::written::{bytes_of, taken};
+use aout_core::{File, Wire, strip_file};
 use std::alloc::{AllocError, Global};
-use symtools::{NmOptions, line_of, shown, size_line};
-use texts::Text;
+use symtools::{NmOptions, nm, size};
 
 /// Checks that the bytes begin with an object, and returns how many bytes it takes. What is after it is not looked at.
 /// (a.out(5))
@@ -46,45 +42,38 @@ pub fn strip(alloc: Global, bytes: &[u8]) -> Result<Vec<u8>, Cause>
     Ok(bytes_of(alloc, &strip_file(file))?)
 }
 
-/// The line of size for a file with this header.
-fn sizes_of(alloc: Global, header: &Header) -> Result<Vec<u8>, AllocError>
-    ensures { IfOk result (λ text. text.items ≡ size_line header.now ++ 10 ∷ []) }
+/// The line of size for a file without a path.
+#[tactic(auto, using(crate::proofs::WrittenLemmas::sizes_written))]
+fn sizes_of(alloc: Global, file: File) -> Result<Vec<u8>, AllocError>
+    ensures { IfOk result (λ text. text.items ≡ size_text (([], file) ∷ [])) }
 {
-    let mut text = Text::new(alloc);
-    text.put_bytes(size_line(header).as_bytes());
-    text.finish()
+    let files = [(String::new(alloc), file)];
+    let mut wire = Wire::new(Vec::new(alloc));
+    let written = size(&files, &mut wire);
+    taken(wire, written)
 }
 
 /// The line of size, without a path, of the file that the bytes begin with. (size(1))
 ///
 /// Errors: `BadFile`, 11 to 14, if the bytes do not begin with a file; else `Memory`, 50, if memory runs out.
-#[tactic(auto, using(crate::proofs::FileLemmas::sizes_shown))]
 pub fn show_sizes(alloc: Global, bytes: &[u8]) -> Result<Vec<u8>, Cause>
     ensures ok { IfOk result (λ text. sizes_in bytes.now ≡ Ok text.items) }
     ensures err { IfErr result (λ cause. cause ≢ Memory refused → sizes_in bytes.now ≡ Err cause) }
     ensures memory { IfErr result (λ cause. cause ≡ Memory refused → IsOk (sizes_in bytes.now)) }
 {
     let file = first_file(alloc, bytes)?;
-    Ok(sizes_of(alloc, file.header())?)
-}
-
-/// Puts the line of each symbol.
-fn put_lines(text: &mut Text, symbols: &[Symbol])
-    ensures { Puts text.old text.new (flat_map symbol_line symbols.now) }
-{
-    for symbol in symbols {
-        text.put_bytes(line_of(symbol).as_bytes());
-    }
+    Ok(sizes_of(alloc, file)?)
 }
 
 /// The lines of nm for a file without a path.
-fn names_of(alloc: Global, options: NmOptions, file: &File) -> Result<Vec<u8>, AllocError>
-    ensures { IfOk result (λ text. text.items ≡ flat_map symbol_line (shown options file.now)) }
+#[tactic(auto, using(crate::proofs::WrittenLemmas::names_written))]
+fn names_of(alloc: Global, options: NmOptions, file: File) -> Result<Vec<u8>, AllocError>
+    ensures { IfOk result (λ text. text.items ≡ nm_text options (([], file) ∷ [])) }
 {
-    let symbols = shown(alloc, file.symbols(), options)?;
-    let mut text = Text::new(alloc);
-    put_lines(&mut text, &symbols);
-    text.finish()
+    let files = [(String::new(alloc), file)];
+    let mut wire = Wire::new(Vec::new(alloc));
+    let written = nm(alloc, &files, options, &mut wire);
+    taken(wire, written)
 }
 
 /// The lines of nm, without a path, of the file that the bytes begin with. The options are bits: 1 for `-g`, 2 `-n`,
@@ -92,7 +81,6 @@ fn names_of(alloc: Global, options: NmOptions, file: &File) -> Result<Vec<u8>, A
 ///
 /// Errors, the first that applies: `NoOption`, 1, if a bit is not an option; `BadFile`, 11 to 14, if the bytes do not
 /// begin with a file; `Memory`, 50, if memory runs out.
-#[tactic(auto, using(crate::proofs::FileLemmas::names_listed))]
 pub fn list_symbols(alloc: Global, options: u32, bytes: &[u8]) -> Result<Vec<u8>, Cause>
     ensures ok { IfOk result (λ text. names_in options bytes.now ≡ Ok text.items) }
     ensures err { IfErr result (λ cause. cause ≢ Memory refused → names_in options bytes.now ≡ Err cause) }
@@ -100,5 +88,5 @@ pub fn list_symbols(alloc: Global, options: u32, bytes: &[u8]) -> Result<Vec<u8>
 {
     let choices = nm_options(options)?;
     let file = first_file(alloc, bytes)?;
-    Ok(names_of(alloc, choices, &file)?)
+    Ok(names_of(alloc, choices, file)?)
 }

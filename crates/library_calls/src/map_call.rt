@@ -5,7 +5,7 @@ ghost use Rattle.link_session.specs.Labelled.{objects};
 ghost use Rattle.link_maps.specs.Links.{read_inputs};
 ghost use Rattle.link_maps.specs.Members.{all_of, cause_of};
 ghost use Rattle.library_calls.specs.LinkAnswers.{each_of};
-ghost use Rattle.library_calls.specs.MapAnswers.{AreTaken, HasNoMap, IsMapAnswer, IsMapped, MapMayRunOut, head_by, linked_head, made_head, map_asked, map_of_all, no_run, objects_each, placed_head, run_shown};
+ghost use Rattle.library_calls.specs.MapAnswers.{AreTaken, HasNoMap, IsMapAnswer, IsMapped, MapMayRunOut, head_by, linked_head, made_head, map_asked, map_of_all, objects_each, placed_head, run_shown};
 ghost use Rattle.library_calls.specs.MemoryWanted.{HasBody, MayRunOutInParts};
 ghost use Rattle.library_calls.specs.RunAnswers.{results_of};
 ghost use Rattle.library_calls.specs.internal.Taken.{with_read};
@@ -185,19 +185,6 @@ fn head_of(map: &LinkMap, all: &Objects) -> MapHead
     }
 }
 
-/// Nothing but a status, for a link that is not made.
-fn no_run(alloc: Global) -> RunResult
-    ensures { results_of result ≡ no_run }
-{
-    RunResult {
-        status: 1,
-        file: Vec::new(alloc),
-        report: Vec::new(alloc),
-        findings: Vec::new(alloc),
-        places: Vec::new(alloc),
-    }
-}
-
 /// The file of the link that a map shows, and what is wanted of its report; nothing if there is no link.
 fn run_shown(
     alloc: Global,
@@ -211,9 +198,9 @@ fn run_shown(
     match &map.outcome {
         Some(outcome) => match &outcome.linked {
             Ok(linked) => result_of(alloc, wants, session, linked),
-            Err(_) => Ok(no_run(alloc)),
+            Err(_) => Ok(RunResult::nothing(alloc)),
         },
-        None => Ok(no_run(alloc)),
+        None => Ok(RunResult::nothing(alloc)),
     }
 }
 

@@ -1,16 +1,12 @@
-//! The report of a link, as a list and as lines.
-ghost use Rattle.std.specs.Prelude.{◌≡◌, ◌++◌, codes, map, IfOk};
-ghost use Rattle.std.specs.List.{flat_map};
+//! The report of a link, as a list.
+ghost use Rattle.std.specs.Prelude.{◌≡◌, map, IfOk};
 ghost use Rattle.link_out.specs.Outcomes.{report_names};
-ghost use Rattle.link_out.specs.function.Reports.{entry_lines, line, report_text, undefined_lines};
-ghost use Rattle.texts.specs.Texts.{Puts};
 ghost use Rattle.library_calls.specs.LinkAnswers.{all_findings, entry_findings, finding_of};
 
 use aout_core::Name;
 use link_maps::padded;
 use link_out::Report;
 use std::alloc::{AllocError, Global};
-use texts::Text;
 
 /// A name of a report, and why it is reported. (ld(1); the numbers: own choice)
 #[repr(C)]
@@ -61,54 +57,4 @@ pub(crate) fn all_findings(alloc: Global, report: &Report) -> Result<Vec<Reporte
     found.extend_from_slice(&entry_findings(alloc, &report.entry_bad)?)?;
     found.extend_from_slice(&named(alloc, 4, &report.undefined)?)?;
     Ok(found)
-}
-
-/// Puts a line for each name: the name, and what ends the line.
-fn put_names(text: &mut Text, names: &[Name], end: &str)
-    ensures { Puts text.old text.new (flat_map (λ n. n ++ end.now) names.now) }
-{
-    for name in names {
-        text.put_bytes(name.as_bytes());
-        text.put(end);
-    }
-}
-
-#[tactic(auto, using(crate::proofs::ReportTextLemmas::by_part))]
-fn put_multiples(text: &mut Text, report: &Report)
-    ensures { Puts text.old text.new (flat_map (λ n. line (n ++ codes ": Multiply defined"))
-        (report.now.multiples.items ++ report.now.reserved.items)) }
-{
-    put_names(text, &report.multiples, ": Multiply defined\n");
-    put_names(text, &report.reserved, ": Multiply defined\n");
-}
-
-#[tactic(auto, using(crate::proofs::ReportTextLemmas::by_part))]
-fn put_entry(text: &mut Text, entry: &Option<Name>)
-    ensures { Puts text.old text.new (entry_lines entry.now) }
-{
-    if let Some(name) = entry {
-        text.put_bytes(name.as_bytes());
-        text.put(": Entry point not in text\n");
-    }
-}
-
-#[tactic(auto, using(crate::proofs::ReportTextLemmas::by_part))]
-fn put_undefined(text: &mut Text, names: &[Name])
-    ensures { Puts text.old text.new (undefined_lines names.now) }
-{
-    if !names.is_empty() {
-        text.put("Undefined:\n");
-        put_names(text, names, "\n");
-    }
-}
-
-/// The lines of a report.
-pub(crate) fn lines_of(alloc: Global, report: &Report) -> Result<Vec<u8>, AllocError>
-    ensures { IfOk result (λ lines. lines.items ≡ report_text (report_names report.now)) }
-{
-    let mut text = Text::new(alloc);
-    put_multiples(&mut text, report);
-    put_entry(&mut text, &report.entry_bad);
-    put_undefined(&mut text, &report.undefined);
-    text.finish()
 }

@@ -7,16 +7,16 @@ ghost use Rattle.link_out.specs.Steps.{refused_as};
 ghost use Rattle.link_out.specs.function.Link.{link};
 ghost use Rattle.library_calls.specs.LinkAnswers.{each_of};
 ghost use Rattle.library_calls.specs.MemoryWanted.{LinkMayRunOut, MayRunOutInLink};
-ghost use Rattle.library_calls.specs.RunAnswers.{findings_if, lines_if, link_run, objects_run, output_with, parts_run, places_if, results_of, run_output};
+ghost use Rattle.library_calls.specs.RunAnswers.{findings_if, lines_if, link_run, no_run, objects_run, output_with, parts_run, places_if, results_of, run_output};
 ghost use Rattle.library_calls.specs.declared.cause.Cause.TheVariants.{Memory, NotLinked};
 
 use crate::cause::{Cause, Refusal};
 use crate::parts::ObjectBytes;
-use crate::reported::{ReportedName, all_findings, lines_of};
+use crate::places::{FindingPlace, places_of};
+use crate::reported::{ReportedName, all_findings};
 use crate::requests::{LinkRequest, forced_names, tool_options};
 use crate::taking::take_each;
-use crate::written::bytes_of;
-use finding_objects::{FindingPlace, places_of};
+use crate::written::{bytes_of, lines_of};
 use link_out::{Linked, Options, Report, finish};
 use link_session::{Forced, Session};
 use std::alloc::{AllocError, Global};
@@ -45,6 +45,21 @@ pub struct RunResult {
     pub findings: Vec<ReportedName>,
     /// The objects of what is reported, by their numbers among those that are linked.
     pub places: Vec<FindingPlace>,
+}
+
+impl RunResult {
+    /// Nothing but a status, for a link that is not made. (own choice)
+    pub fn nothing(alloc: Global) -> RunResult
+        ensures { results_of result ≡ no_run }
+    {
+        RunResult {
+            status: 1,
+            file: Vec::new(alloc),
+            report: Vec::new(alloc),
+            findings: Vec::new(alloc),
+            places: Vec::new(alloc),
+        }
+    }
 }
 
 /// The link of the objects in a session.

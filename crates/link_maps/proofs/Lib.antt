@@ -2,8 +2,6 @@ pub mod LabelLemmas
 pub mod LeadLemmas
 pub mod LeadingLemmas
 pub mod LinkLemmas
-pub mod MemberLemmas
-pub mod OddityLemmas
 pub mod PaddedLemmas
 pub mod RecordLemmas
 pub mod RowLemmas

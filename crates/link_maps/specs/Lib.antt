@@ -5,10 +5,10 @@ pub mod Uses
 pub mod Members
 pub mod Taking
 pub mod Rows
+pub mod Groups
 pub mod Records
 pub mod MapLimits
 pub mod Maps
 pub mod Spots
 pub mod Links
-pub mod Oddities
 pub mod internal

@@ -3,7 +3,7 @@ use Rattle.std.specs.Prelude.{◌≡◌, not, is_some, ℕ, List, map, IfSome}
 use Rattle.link_session.specs.Labelled.{objects}
 use Rattle.tool_options.specs.Choices.{Choices}
 use Rattle.link_maps.specs.Members.{all_of, first_places, member_of, places_from}
-use Rattle.link_maps.specs.Records.{by_name, knowledge_of, object_records, record_of, records_from}
+use Rattle.link_maps.specs.Records.{by_name, object_records, record_of, records_from}
 use Rattle.link_maps.specs.{declared.map.LinkMap.LinkMap, declared.map_records.MapRecords.MapRecords, declared.members.Objects.Objects}
 use Rattle.link_maps.specs.{MapLimits.map_limits, Rows.IsOutcome, Rows.bases_of, Uses.uses_in_order}
 
@@ -18,6 +18,6 @@ pub record IsMapOf (all : Objects) (forced : List (List ℕ)) (o : Choices) (m :
 -- the records of a map
 pub record AreRecords (all : Objects) (o : Choices) (m : LinkMap) (r : MapRecords) : Type 0 where
   pub objects : r.objects.items ≡ object_records m.members.items m.places.items
-  pub names : r.names.items ≡ map (record_of (knowledge_of m.outcome all.session)) (by_name m.uses.items)
+  pub names : r.names.items ≡ map (record_of m.outcome all.session) (by_name m.uses.items)
   pub uses : r.uses.items ≡ records_from m.places.items 0 (by_name m.uses.items)
   pub limits : r.limits.items ≡ map_limits o.relocatable all.session m.members.items m.outcome

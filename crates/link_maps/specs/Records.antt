@@ -2,19 +2,18 @@
 --
 -- Objects and names are numbered from 0, names in their order. The uses of a name are one after another, and after each the words
 -- of its object that refer to the name.
-use Rattle.std.specs.Prelude.{ℕ, suc, ◌+◌, Bool, not, ◌&&◌, ◌||◌, is_some, if◌then◌else◌, Option, Some, None, Result, Ok, Err, List, []}
-use Rattle.std.specs.Prelude.{◌∷◌, ◌++◌, drop, map, replicate, zip, Vec, bytes_eq, position, slice_get}
-use Rattle.std.specs.{List.flat_map, declared.alloc.Global.Global}
+use Rattle.std.specs.Prelude.{ℕ, suc, ◌+◌, Bool, not, ◌&&◌, is_some, if◌then◌else◌, Option, Some, None, List, []}
+use Rattle.std.specs.Prelude.{◌∷◌, ◌++◌, drop, map, replicate, zip, bytes_eq, position, slice_get}
+use Rattle.std.specs.List.{flat_map}
 use Rattle.aout_core.specs.{Names.padded, declared.symbol.Symbol.Symbol, declared.part.Part.Part, declared.part.Part.TheVariants.Text}
 use Rattle.aout_core.specs.{declared.part.Part.TheVariants.Data}
-use Rattle.tool_options.specs.NameLists.{is_among}
-use Rattle.link_session.specs.{Labelled.number_or_none, Labelled.objects, Mentions.externals, Undo.Kept, Undo.image_of}
-use Rattle.link_out.specs.{declared.linked.Linked.Linked, declared.linked.LinkFault.LinkFault}
+use Rattle.link_session.specs.{Labelled.number_or_none, Undo.Kept}
 use Rattle.link_maps.specs.Members.{Member, capped, start_in}
 use Rattle.link_maps.specs.Uses.{Use, is_common, is_definition, name_of, stays_undefined}
 use Rattle.link_maps.specs.{declared.outcome.Outcome.Outcome, declared.places.Places.Places, declared.name_records.NameRecord.NameRecord}
 use Rattle.link_maps.specs.{declared.records.ObjectRecord.ObjectRecord, declared.records.UseRecord.UseRecord}
-use Rattle.link_maps.specs.{declared.references.Before.Before, declared.references.ReferringWord.ReferringWord, Rows.row_at}
+use Rattle.link_maps.specs.{declared.references.Before.Before, declared.references.ReferringWord.ReferringWord}
+use Rattle.link_maps.specs.Rows.{is_multiple_in, row_among, rows_in}
 
 -- ---- objects
 
@@ -116,49 +115,14 @@ name_record name row is_multiple us = record {
   value = value_shown row;
 }
 
--- what a link knows of names: the session, the rows of its externals if it fits, and the names of the linker that are taken
-pub record Knowledge : Type 0 where
-  pub session : Kept
-  pub rows : Option (List Symbol)
-  pub reserved : List (List ℕ)
-
-abbrev pub reserved_names_in : Result Linked LinkFault → List (List ℕ)
-reserved_names_in (Err fault) = []
-reserved_names_in (Ok l) = l.report.reserved.items
-
-abbrev pub reserved_in : Option Outcome → List (List ℕ)
-reserved_in None = []
-reserved_in (Some o) = reserved_names_in o.linked
-
-abbrev pub rows_of : Option (Vec Symbol Global) → Option (List Symbol)
-rows_of None = None
-rows_of (Some rows) = Some rows.items
-
-abbrev pub rows_in : Option Outcome → Option (List Symbol)
-rows_in None = None
-rows_in (Some o) = rows_of o.externals
-
-abbrev pub knowledge_of : Option Outcome → Kept → Knowledge
-knowledge_of outcome k = record { session = k; rows = rows_in outcome; reserved = reserved_in outcome }
-
--- the row of a name, if it has one
-abbrev pub row_among : Option (List Symbol) → Kept → List ℕ → Option Symbol
-row_among None k name = None
-row_among (Some rows) k name = row_at rows (position (bytes_eq name) (externals k.forced (objects k.entries)))
-
-abbrev pub is_multiple_in : Knowledge → List ℕ → Bool
-is_multiple_in k name = is_among (image_of k.session).multiples name || is_among k.reserved name
-
--- the record of the name of some uses
-abbrev pub record_with : Knowledge → List Use → List ℕ → NameRecord
-record_with k us name = name_record name (row_among k.rows k.session name) (is_multiple_in k name) us
-
 abbrev pub name_in : Option Use → List ℕ
 name_in None = []
 name_in (Some u) = name_of u
 
-abbrev pub record_of : Knowledge → List Use → NameRecord
-record_of k us = record_with k us (name_in (slice_get us 0))
+-- the record of the name of some uses, in a link of what a session keeps
+abbrev pub record_of : Option Outcome → Kept → List Use → NameRecord
+record_of x k us =
+    (let name = name_in (slice_get us 0) in name_record name (row_among (rows_in x) k name) (is_multiple_in x k name) us)
 
 -- ---- uses
 

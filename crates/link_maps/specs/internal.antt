@@ -1,4 +1,2 @@
-pub mod Groups
-pub mod Known
 pub mod Labels
 pub mod Leading

@@ -11,7 +11,7 @@ use aout_core::{Segment, Symbol};
 use std::alloc::{AllocError, Global};
 
 /// Whether a symbol is that of a function, if it is one of text: an external, or a local whose name begins with `_`, as C names it.
-fn is_function(symbol: &Symbol) -> bool
+pub fn is_function(symbol: &Symbol) -> bool
     ensures { result ≡ is_function symbol.now }
 {
     symbol.is_external() || matches!(symbol.name.as_bytes(), [b'_', ..])

@@ -7,7 +7,9 @@ ghost use Rattle.link_maps.specs.Leads.{operand_at, operand_target, target_in, t
 
 use crate::references::{address_in, line_of, part_words, relocs_of};
 use aout_core::{File, Kind, Part, Reloc, Segment, Symbol, pc_target};
-use instructions::{Instruction, Operand, branch_back_target, branch_target, is_relocated};
+use instructions::{
+    Addressing, Instruction, Operand, branch_back_target, branch_target, is_relocated,
+};
 use std::alloc::{AllocError, Global};
 
 /// Where a word leads.
@@ -120,6 +122,32 @@ fn text_target(file: &File, line: u16, offset: u16, word: u16) -> Option<u16>
 {
     let instruction = instruction_at(file.text_words(), usize::from(line / 2));
     target_in(instruction, line, offset, word)
+}
+
+/// Where a word of text leads in a linked file of this magic number, by its line, as far as it shows: the target of a branch, or the
+/// address of an operand of mode 37, 67 or 77. With separate spaces only branches and jumps lead to text. (as(1))
+pub(crate) fn linked_target(
+    file: &File,
+    segment: Segment,
+    line: u16,
+    offset: u16,
+    word: u16,
+) -> Option<u16> {
+    let instruction = instruction_at(file.text_words(), usize::from(line / 2))?;
+    let is_of_text = offset == line || instruction.row.operation.jumps();
+    if file.header().magic == 0o411 && is_of_text != (segment == Segment::TextSeg) {
+        return None;
+    }
+    if let Some(target) = text_target(file, line, offset, word) {
+        return Some(target);
+    }
+    match operand_at(&instruction, offset.saturating_sub(line) / 2) {
+        Some(Operand::General(mode, register))
+            if line < offset && mode.addressing(register) == Some(Addressing::Absolute) => Some(
+            word,
+        ),
+        _ => None,
+    }
 }
 
 fn text_aim(address: Option<u16>) -> Option<Aim>

@@ -4,11 +4,11 @@
 //! An example:
 //!
 //! ```
-//! /// Who refers to what no object defines, in the link of some objects.
+//! /// How many symbols there are of names that stay undefined, in the link of some objects.
 //! fn undefined_uses(alloc: Global, objects: &Objects, forced: &Forced, options: &Options) -> Result<usize> {
 //!     let map = map_of(alloc, objects, forced, options)?;
 //!     let mut count = 0usize;
-//!     for uses in map.uses.chunk_by(|a, b| a.symbol.name == b.symbol.name) {
+//!     for uses in &map.by_name(alloc)? {
 //!         if stays_undefined(uses) {
 //!             count = count.saturating_add(uses.len());
 //!         }
@@ -19,6 +19,7 @@
 #![tactic(auto)]
 
 mod gather;
+mod groups;
 mod labels;
 mod leading;
 mod leads;
@@ -28,7 +29,6 @@ mod map_records;
 mod members;
 mod name_records;
 mod names;
-mod oddities;
 mod outcome;
 mod places;
 mod records;
@@ -36,17 +36,17 @@ mod references;
 mod spots;
 mod uses;
 
+pub use labels::is_function;
 pub use leads::is_at;
 pub use limit_records::{LimitRecord, limits_of};
 pub use map::{LinkMap, map_of};
 pub use map_records::{MapRecords, records_of};
-pub use members::{Left, Member, Objects, Refused};
+pub use members::{Listed, Member, Objects, Refused};
 pub use name_records::NameRecord;
 pub use names::{is_any_definition, stays_undefined, telling};
-pub use oddities::{Oddity, oddities_of};
 pub use outcome::{Outcome, largest_number, row_of};
 pub use places::Places;
-pub use records::{ObjectRecord, UseRecord, padded, uses_of_name};
-pub use references::{Before, ReferringWord, put_line_of};
+pub use records::{ObjectRecord, UseRecord, padded};
+pub use references::{Before, ReferringWord, put_line_of, words_at, words_to};
 pub use spots::{Spot, label_before, spots_at, word_at};
 pub use uses::Use;

@@ -1,17 +1,22 @@
 //! The whole map.
-ghost use Rattle.std.specs.Prelude.{◌≡◌, is_some, not, map, IfOk, IfSome};
+ghost use Rattle.std.specs.Prelude.{◌≡◌, is_some, not, map, option_copied, IfOk, IfSome};
 ghost use Rattle.link_session.specs.Labelled.{objects};
 ghost use Rattle.link_maps.specs.Uses.{uses_in_order};
 ghost use Rattle.link_maps.specs.Members.{all_of, first_places, member_of, places_from};
-ghost use Rattle.link_maps.specs.Rows.{IsOutcome, bases_of};
+ghost use Rattle.link_maps.specs.Records.{by_name};
+ghost use Rattle.link_maps.specs.Groups.{groups_of};
+ghost use Rattle.link_maps.specs.Rows.{IsOutcome, bases_of, is_multiple_in, linked_in, reserved_by, row_among, rows_in};
+ghost use Rattle.tool_options.specs.NameLists.{is_among};
 
 use crate::gather::{Gathered, gather};
+use crate::groups::by_name;
 use crate::members::{Member, Objects};
-use crate::outcome::{Outcome, outcome_of};
+use crate::outcome::{Outcome, outcome_of, row_of};
 use crate::places::{Places, places_of};
 use crate::uses::Use;
-use link_out::{Bases, Options};
-use link_session::Forced;
+use aout_core::{Name, Symbol};
+use link_out::{Bases, Linked, Options};
+use link_session::{Forced, Session};
 use std::alloc::{AllocError, Global};
 
 /// The map of a link.
@@ -42,6 +47,73 @@ fn outcome_unless_refused(
     }
     let outcome = outcome_of(alloc, &objects.session, options)?;
     Ok(Some(outcome))
+}
+
+impl LinkMap {
+    /// The link, if one is made.
+    pub fn linked(&self) -> Option<&Linked>
+        ensures { option_copied result ≡ linked_in self.now.outcome }
+    {
+        match &self.outcome {
+            Some(outcome) => match &outcome.linked {
+                Ok(linked) => Some(linked),
+                Err(_) => None,
+            },
+            None => None,
+        }
+    }
+
+    /// The rows of the externals by first mention; none if the link does not fit.
+    pub fn rows(&self) -> &[Symbol]
+        ensures { result.now ≡ rows_in self.now.outcome }
+    {
+        match &self.outcome {
+            Some(outcome) => match &outcome.externals {
+                Some(rows) => rows,
+                None => &[],
+            },
+            None => &[],
+        }
+    }
+
+    /// The names of the linker that are defined or common, if there is a link.
+    fn reserved(&self) -> &[Name]
+        ensures { result.now ≡ reserved_by (linked_in self.now.outcome) }
+    {
+        match self.linked() {
+            Some(linked) => &linked.report.reserved,
+            None => &[],
+        }
+    }
+
+    /// The uses of each name, in the order of the names. Make them once for all that is asked of a map.
+    ///
+    /// An error: out of memory.
+    pub fn by_name(&self, alloc: Global) -> Result<Vec<&[Use]>, AllocError>
+        ensures { IfOk result (λ groups. groups_of groups.items ≡ by_name self.now.uses.items) }
+    {
+        by_name(alloc, &self.uses)
+    }
+
+    /// The row of a name in the link of a session, if it has one.
+    pub fn row(&self, session: &Session, name: &Name) -> Option<Symbol>
+        ensures { result ≡ row_among (rows_in self.now.outcome) session.now name.now }
+    {
+        row_of(session, self.rows(), name)
+    }
+
+    /// Whether the report of the link of a session has a name among those multiply defined.
+    pub fn is_multiple(&self, session: &Session, name: &Name) -> bool
+        ensures { result ≡ is_multiple_in self.now.outcome session.now name.now }
+    {
+        is_in(session.multiples(), name) || is_in(self.reserved(), name)
+    }
+}
+
+fn is_in(names: &[Name], name: &Name) -> bool
+    ensures { result ≡ is_among names.now name.now }
+{
+    names.iter().any(|one| one == name)
 }
 
 /// Where the segments of a link lie, if there is one.

@@ -1,6 +1,5 @@
 //! The objects of a link: those that a session takes, and those that are left if it refuses one.
-ghost use Rattle.std.specs.Prelude.{◌≡◌, ◌++◌, ◌∷◌, [], None, option_copied, slice_get, IfOk, IsOk, OnOk};
-ghost use Rattle.link_session.specs.Labelled.{objects};
+ghost use Rattle.std.specs.Prelude.{◌≡◌, ◌++◌, ◌∷◌, [], None, IfOk, IsOk, OnOk};
 ghost use Rattle.link_session.specs.Sessions.{labelled, nothing_kept};
 ghost use Rattle.link_maps.specs.Members.{all_of, cause_of, left_of, member_of};
 ghost use Rattle.link_maps.specs.Taking.{split_of, split_with, with_object};
@@ -118,7 +117,7 @@ impl Objects {
     }
 
     /// The objects that are left, the one that was refused first.
-    pub fn left(&self) -> &[Left]
+    fn left(&self) -> &[Left]
         ensures { result.now ≡ left_of self.now.refused }
     {
         match &self.refused {
@@ -127,19 +126,44 @@ impl Objects {
         }
     }
 
-    /// The object with this number, counted from 0, if there are so many.
-    pub fn object(&self, number: usize) -> Option<&Object>
-        ensures { option_copied result ≡ slice_get (objects (all_of self.now)) number }
+    /// All objects, those that the session took before those that are left.
+    ///
+    /// An error: out of memory.
+    pub fn all(&self, alloc: Global) -> Result<Vec<Listed<'_>>, AllocError>
+        ensures { IfOk result (λ all. all.items ≡ all_of self.now) }
     {
+        let mut all = Vec::new(alloc);
         let entries = self.session.entries();
-        match entries.get(number) {
-            Some(entry) => Some(entry.object()),
-            None => match self.left().get(number - entries.len()) {
-                Some(one) => Some(&one.object),
-                None => None,
-            },
+        for entry in entries {
+            all.push(Listed {
+                label: entry.label(),
+                file: entry.object().file(),
+            })?;
         }
+        let left = self.left();
+        for one in left {
+            all.push(Listed {
+                label: one.label.as_str(),
+                file: one.object.file(),
+            })?;
+        }
+        Ok(all)
     }
+}
+
+/// An object of a link, taken or left, and its label. Contracts see the bytes of the label.
+#[derive(Debug, Drop)]
+pub struct Listed<'a> {
+    pub label: &'a str,
+    pub file: &'a File,
+}
+
+impl<'a> Model for Listed<'a> {
+    ghost use Rattle.link_session.specs.Labelled.{Labelled};
+
+    ghost Value = { Labelled };
+
+    ghost view = { λ l. record { label = l.label.now; object = l.file.now } };
 }
 
 /// An object: its label, and what its header and its table tell.
@@ -165,16 +189,14 @@ impl Model for Member {
 pub(crate) fn put_member(
     alloc: Global,
     members: &mut Vec<Member>,
-    label: &str,
-    file: &File,
+    object: &Listed<'_>,
 ) -> Result<(), AllocError>
-    ensures { OnOk result (members.new.items
-        ≡ members.old.items ++ member_of (record { label = label.now; object = file.now }) ∷ []) }
+    ensures { OnOk result (members.new.items ≡ members.old.items ++ member_of object.now ∷ []) }
 {
     members.push(Member {
-        label: String::from_str(alloc, label)?,
-        header: *file.header(),
-        symbols: file.symbols().len(),
+        label: String::from_str(alloc, object.label)?,
+        header: *object.file.header(),
+        symbols: object.file.symbols().len(),
     })?;
     Ok(())
 }

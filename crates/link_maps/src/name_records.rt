@@ -1,12 +1,11 @@
 //! The names of a map as records.
-ghost use Rattle.std.specs.Prelude.{◌≡◌, map, position, IfOk};
-ghost use Rattle.tool_options.specs.NameLists.{is_among};
-ghost use Rattle.link_maps.specs.internal.Known.{knowledge};
-ghost use Rattle.link_maps.specs.Records.{after, bit, by_name, definer, first_user, is_multiple_in, is_user, name_state, next_definer, object_at, record_of, record_with, row_among, type_shown, value_shown};
+ghost use Rattle.std.specs.Prelude.{◌≡◌, map as mapped, position, slice_get, IfOk};
+ghost use Rattle.link_maps.specs.Records.{after, bit, definer, first_user, is_user, name_in, name_state, next_definer, object_at, record_of, type_shown, value_shown};
+ghost use Rattle.link_maps.specs.Groups.{groups_of};
 
+use crate::map::LinkMap;
 use crate::names::{first_definition, stays_undefined};
-use crate::outcome::row_of;
-use crate::records::{number_or_none, padded, uses_of_name};
+use crate::records::{number_or_none, padded};
 use crate::uses::Use;
 use aout_core::{Name, Symbol};
 use link_session::Session;
@@ -30,16 +29,6 @@ pub struct NameRecord {
     pub type_bits: u16,
     /// The value of that symbol, likewise.
     pub value: u16,
-}
-
-/// What a link knows of names.
-#[derive(Clone, Copy)]
-pub(crate) struct Known<'a> {
-    pub(crate) session: &'a Session,
-    /// The rows of its externals by first mention, if it fits.
-    pub(crate) rows: Option<&'a [Symbol]>,
-    /// The names of the linker that are defined or common.
-    pub(crate) reserved: &'a [Name],
 }
 
 /// The object of the use at a place.
@@ -117,12 +106,6 @@ fn value_shown(row: &Option<Symbol>) -> u16
     }
 }
 
-fn is_in(names: &[Name], name: &Name) -> bool
-    ensures { result ≡ is_among names.now name.now }
-{
-    names.iter().any(|one| one == name)
-}
-
 fn bit(is_set: bool, number: u32) -> u32
     ensures { result ≡ bit is_set number }
 {
@@ -135,53 +118,46 @@ fn name_state(is_placed: bool, is_multiple: bool, uses: &[Use]) -> u32
     bit(is_placed, 1) + (bit(stays_undefined(uses), 2) + bit(is_multiple, 4))
 }
 
-/// The row of a name, if it has one.
-fn row_among(known: &Known<'_>, name: &Name) -> Option<Symbol>
-    ensures { result ≡ row_among (knowledge known.now).rows known.now.session.now name.now }
+/// The name of some uses.
+fn name_in(uses: &[Use]) -> Name
+    ensures { result ≡ name_in (slice_get uses.now 0) }
 {
-    match known.rows {
-        Some(rows) => row_of(known.session, rows, name),
-        None => None,
+    match uses.first() {
+        Some(first) => first.symbol.name,
+        None => Name::from_bytes(b""),
     }
 }
 
-fn is_multiple(known: &Known<'_>, name: &Name) -> bool
-    ensures { result ≡ is_multiple_in (knowledge known.now) name.now }
-{
-    is_in(known.session.multiples(), name) || is_in(known.reserved, name)
-}
-
 /// The record of the name of some uses.
-fn name_record(known: &Known<'_>, name: &Name, uses: &[Use]) -> NameRecord
-    ensures { result ≡ record_with (knowledge known.now) uses.now name.now }
+fn name_record(map: &LinkMap, session: &Session, uses: &[Use]) -> NameRecord
+    ensures { result ≡ record_of map.now.outcome session.now uses.now }
 {
-    let row = row_among(known, name);
+    let name = &name_in(uses);
+    let row = map.row(session, name);
     NameRecord {
         name: padded(name),
         definer: definer(uses),
         next_definer: next_definer(uses),
         user: first_user(uses),
-        state: name_state(row.is_some(), is_multiple(known, name), uses),
+        state: name_state(row.is_some(), map.is_multiple(session, name), uses),
         type_bits: type_shown(&row),
         value: value_shown(&row),
     }
 }
 
-/// The names, from uses in the order of their names. An error: out of memory.
+/// The names. An error: out of memory.
 pub(crate) fn name_records(
     alloc: Global,
-    known: &Known<'_>,
-    uses: &[Use],
+    map: &LinkMap,
+    session: &Session,
+    groups: &[&[Use]],
 ) -> Result<Vec<NameRecord>, AllocError>
     ensures { IfOk result (λ records.
-        records.items ≡ map (record_of (knowledge known.now)) (by_name uses.now)) }
+        records.items ≡ mapped (record_of map.now.outcome session.now) (groups_of groups.now)) }
 {
     let mut records = Vec::new(alloc);
-    let mut rest = uses;
-    while let Some(first) = rest.first() {
-        let (named, after) = rest.split_at(uses_of_name(rest));
-        records.push(name_record(known, &first.symbol.name, named))?;
-        rest = after;
+    for uses in groups {
+        records.push(name_record(map, session, uses))?;
     }
     Ok(records)
 }

@@ -2,7 +2,6 @@
 ghost use Rattle.std.specs.Prelude.{◌≡◌, position, slice_get};
 ghost use Rattle.std.specs.List.{list_any};
 ghost use Rattle.link_maps.specs.Uses.{is_definition, is_common, telling_place, telling, is_missing_in, stays_undefined};
-ghost use Rattle.link_maps.specs.Oddities.{is_there};
 
 use crate::uses::Use;
 use aout_core::{Segment, Symbol};
@@ -83,11 +82,4 @@ pub fn stays_undefined(uses: &[Use]) -> bool
     ensures { result ≡ stays_undefined uses.now }
 {
     !is_any_definition(uses) && !is_any_common(uses) && is_missing_in(uses)
-}
-
-/// Whether an object defines the name of these uses, or wants it as a common.
-pub(crate) fn is_there(uses: &[Use]) -> bool
-    ensures { result ≡ is_there uses.now }
-{
-    is_any_definition(uses) || is_any_common(uses)
 }

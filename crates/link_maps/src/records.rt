@@ -1,9 +1,10 @@
 //! The map of a link as lists of records that have no lists of their own: objects, and the uses of names.
-ghost use Rattle.std.specs.Prelude.{◌≡◌, ◌++◌, ◌<◌, ◌≤◌, length, map, IfOk, OnOk};
+ghost use Rattle.std.specs.Prelude.{◌≡◌, ◌++◌, map, IfOk, OnOk};
 ghost use Rattle.std.specs.List.{flat_map};
 ghost use Rattle.aout_core.specs.Names.{padded};
 ghost use Rattle.link_session.specs.Labelled.{number_or_none};
-ghost use Rattle.link_maps.specs.Records.{beyond_label, by_name, is_same_name, label_shown, object_record, object_records, places_in, records_from, use_kind, use_record, use_records, uses_of_name, word_kind, word_record};
+ghost use Rattle.link_maps.specs.Records.{beyond_label, label_shown, object_record, object_records, places_in, records_from, use_kind, use_record, use_records, word_kind, word_record};
+ghost use Rattle.link_maps.specs.Groups.{groups_of};
 
 use crate::members::Member;
 use crate::places::Places;
@@ -235,43 +236,18 @@ fn put_uses(
     Ok(())
 }
 
-fn is_same_name(one: &Use, other: &Use) -> bool
-    ensures { result ≡ is_same_name one.now other.now }
-{
-    one.symbol.name == other.symbol.name
-}
-
-/// How many uses, which are in the order of their names, are of the name of the first one.
-pub fn uses_of_name(uses: &[Use]) -> usize
-    requires { 0 < length uses.now }
-    ensures value { result ≡ uses_of_name uses.now }
-    ensures some { 0 < result }
-    ensures within { result ≤ length uses.now }
-{
-    let mut last = 0;
-    while last + 1 < uses.len() && is_same_name(&uses[last], &uses[last + 1]) {
-        last += 1;
-    }
-    last + 1
-}
-
-/// The uses of all names, from uses in the order of their names. An error: out of memory.
+/// The uses of all names. An error: out of memory.
 pub(crate) fn use_records(
     alloc: Global,
     places: &[Places],
-    uses: &[Use],
+    groups: &[&[Use]],
 ) -> Result<Vec<UseRecord>, AllocError>
     ensures { IfOk result (λ records.
-        records.items ≡ records_from places.now 0 (by_name uses.now)) }
+        records.items ≡ records_from places.now 0 (groups_of groups.now)) }
 {
     let mut records = Vec::new(alloc);
-    let mut number = 0;
-    let mut rest = uses;
-    while !rest.is_empty() {
-        let (named, after) = rest.split_at(uses_of_name(rest));
-        put_uses(&mut records, places, number, named)?;
-        number += 1;
-        rest = after;
+    for (number, uses) in groups.iter().enumerate() {
+        put_uses(&mut records, places, number, uses)?;
     }
     Ok(records)
 }

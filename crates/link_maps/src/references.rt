@@ -11,7 +11,7 @@ ghost use Rattle.link_maps.specs.References.{address_in, before_line, line_of, p
 
 use crate::labels::Labels;
 use crate::leading::Leading;
-use crate::leads::{Lead, leads_in};
+use crate::leads::{Lead, leads_in, linked_target};
 use aout_core::{File, Name, Part, Reloc, Segment, Symbol};
 use disassemblies::{NamedFile, line_start, line_starts, put_line_text};
 use instructions::Decoder;
@@ -227,4 +227,52 @@ impl<'a> LinedFile<'a> {
         self.put_words(&mut found, leading, number, symbol)?;
         Ok(found)
     }
+}
+
+/// The words of an object that lead to its symbol with a number, in the order of their places, text before data.
+///
+/// An error: out of memory.
+pub fn words_to(
+    alloc: Global,
+    file: &File,
+    number: usize,
+) -> Result<Vec<ReferringWord>, AllocError> {
+    match file.symbols().get(number) {
+        Some(symbol) => LinedFile::new(alloc, file)?.references_to(alloc, number, symbol),
+        None => Ok(Vec::new(alloc)),
+    }
+}
+
+/// The words of a linked file that lead to an address of a segment, as far as its text shows: branches, and operands of modes 37, 67 and 77.
+///
+/// An error: out of memory.
+pub fn words_at(
+    alloc: Global,
+    file: &File,
+    segment: Segment,
+    address: u16,
+) -> Result<Vec<ReferringWord>, AllocError> {
+    let mut found = Vec::new(alloc);
+    if !matches!(
+        segment,
+        Segment::TextSeg | Segment::DataSeg | Segment::BssSeg
+    ) {
+        return Ok(found);
+    }
+    let starts = line_starts(alloc, Decoder::Unix, file)?;
+    let labels = Labels::new(alloc, file.symbols())?;
+    let mut offset = 0u16;
+    for word in file.text_words() {
+        let line = line_of(&starts, Part::Text, offset);
+        if linked_target(file, segment, line, offset, *word) == Some(address) {
+            found.push(ReferringWord {
+                part: Part::Text,
+                offset,
+                line,
+                before: labels.before(Segment::TextSeg, line),
+            })?;
+        }
+        offset = offset.wrapping_add(2);
+    }
+    Ok(found)
 }

@@ -1,8 +1,9 @@
 -- Files that are read up to so many bytes.
-use Rattle.std.proofs.Common.{◌≤◌, ◌<◌, ℕ, List, length, Some, None, refl, ap, ◌∙◌, inl, inr, arith, length-take, take_all}
-use Rattle.std.specs.Prelude.{codes}
-use Rattle.surroundings.specs.{Answers.HasAnswer, Answers.failed_at, Events.History, declared.answer.Fault.Fault}
-use Rattle.surroundings.specs.{Sources.EndsReading, Sources.ReadsAt, Sources.ReadsFront, internal.Readings.Opens}
+use Rattle.std.proofs.Common.{◌≤◌, ◌<◌, ℕ, List, length, Some, None, true, ap, ◌∙◌, arith, length-take, take_all}
+use Rattle.aout_core.specs.declared.whole.FileFault.{FileFault}
+use Rattle.aout_core.specs.declared.whole.FileFault.TheVariants.{NotOpened, Failed, Memory}
+use Rattle.surroundings.specs.{Answers.Stops, Events.History, declared.answer.Fault.Fault}
+use Rattle.surroundings.specs.{Sources.EndsReading, Sources.ReadsAt, Sources.ReadsFront, internal.Readings.ReadsNot}
 
 module _ (old new : History) (path : List ℕ) where
   -- what has fewer bytes than were asked for has them all
@@ -13,10 +14,11 @@ module _ (old new : History) (path : List ℕ) where
       (Some all, grows, is ∙ take_all limit all (omega (arith, length-take limit all, ap length is, small, below)))
 
   -- what has more is too long
-  pub reads_too_much : (limit : ℕ) (program bytes : List ℕ) (fault : Fault) → ReadsFront limit old new path bytes →
-      HasAnswer fault (failed_at program path (codes "file too long")) → EndsReading program old new path fault
-  reads_too_much limit program bytes fault (known, grows, is) answered = (_, (Some known, grows, inr refl), answered)
+  pub reads_too_much : (limit : ℕ) (bytes : List ℕ) (fault : Fault) → ReadsFront limit old new path bytes → Stops true 2 fault →
+      EndsReading old new path fault
+  reads_too_much limit bytes fault (known, grows, is) stops = ((Some known, grows), stops)
 
-  pub reads_not : (program : List ℕ) (fault : Fault) → Opens old new path →
-      HasAnswer fault (failed_at program path (codes "read error")) → EndsReading program old new path fault
-  reads_not program fault (known, grows) answered = (_, (Some known, grows, inl refl), answered)
+  pub reads_not : (why : FileFault) (fault : Fault) → ReadsNot old new path why → Stops true 2 fault → EndsReading old new path fault
+  reads_not NotOpened fault grows stops = ((None, grows), stops)
+  reads_not Failed fault (known, grows) stops = ((Some known, grows), stops)
+  reads_not (Memory r) fault (known, grows) stops = ((Some known, grows), stops)

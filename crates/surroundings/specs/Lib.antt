@@ -6,6 +6,5 @@ pub mod Answers
 pub mod Sources
 pub mod Nodes
 pub mod Programs
-pub mod Reasons
 pub mod Arguments
 pub mod internal

@@ -2,9 +2,9 @@
 --
 -- Two paths lead to one file if the system has the same device and the same number for both, whatever their names and links are. Only
 -- regular files count: nothing is lost of another one if it is written to.
-use Rattle.std.specs.Prelude.{ℕ, nat_eq, Bool, false, ◌&&◌, if◌then◌else◌, List, [], ◌∷◌, Option, Some, None, Result, codes}
+use Rattle.std.specs.Prelude.{ℕ, nat_eq, Bool, false, ◌&&◌, List, [], ◌∷◌, Option, Some, None, Result}
 use Rattle.std.specs.List.{list_any}
-use Rattle.surroundings.specs.{Answer.Answer, Answers.Checks, Answers.failed_at, Events.Event, Events.History, Events.Extends, Events.looked}
+use Rattle.surroundings.specs.{Answers.Refuses, Events.Event, Events.History, Events.Extends, Events.looked}
 use Rattle.surroundings.specs.{declared.answer.Fault.Fault, declared.nodes.Node.Node, declared.nodes.Nodes.Nodes}
 
 -- whether a path leads to this file
@@ -24,12 +24,7 @@ is_input found (Some output) = has_input found output
 abbrev pub looks : List ℕ → List ℕ → Nodes → List Event
 looks from to nodes = looked from nodes.input ∷ looked to nodes.output ∷ []
 
--- a program refuses an output that is its one input
-abbrev pub output_answer : List ℕ → Nodes → List ℕ → Option Answer
-output_answer program nodes to =
-    if is_input (nodes ∷ []) nodes.output then Some (failed_at program to (codes "the output is one of the inputs")) else None
-
--- the files are asked for, and the output is not its one input, or is refused
-abbrev pub ChecksOutput : List ℕ → List ℕ → List ℕ → History → History → Result (Unit {0}) Fault → Type 0
-ChecksOutput program from to old new result =
-    (nodes : Nodes) × Extends old new (looks from to nodes) × Checks (output_answer program nodes to) result
+-- the files are asked for, and the output is not the one input, or is refused
+abbrev pub ChecksOutput : List ℕ → List ℕ → History → History → Result (Unit {0}) Fault → Type 0
+ChecksOutput from to old new result =
+    (nodes : Nodes) × Extends old new (looks from to nodes) × Refuses 2 (is_input (nodes ∷ []) nodes.output) result

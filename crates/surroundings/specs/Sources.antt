@@ -1,6 +1,6 @@
--- A file that is read whole, and why one is not; and what is reported of a file that is not stored. (own choice)
-use Rattle.std.specs.Prelude.{◌≡◌, ◌⊎◌, ℕ, List, [], ◌∷◌, take, Option, Some, None, IfSome, codes}
-use Rattle.surroundings.specs.{Answer.Answer, Answers.HasAnswer, Answers.failed_at, Events.History, Events.Extends, Events.opened}
+-- A file that is read whole, or is not, and one that is stored, or is not. (own choice)
+use Rattle.std.specs.Prelude.{◌≡◌, ℕ, Bool, true, false, List, [], ◌∷◌, take, Option, Some, IfSome}
+use Rattle.surroundings.specs.{Answers.Stops, Events.History, Events.Extends, Events.opened}
 use Rattle.surroundings.specs.{declared.answer.Fault.Fault, declared.office.Stored.Stored}
 use Rattle.surroundings.specs.declared.office.Stored.TheVariants as office
 
@@ -13,24 +13,16 @@ abbrev pub ReadsFront : ℕ → History → History → List ℕ → List ℕ �
 ReadsFront most old new path bytes =
     (known : Option (List ℕ)) × Extends old new (opened path (Some known) ∷ []) × IfSome known (λ all. bytes ≡ take most all)
 
--- the answer of status 2 for a file that was not opened (`None`), or was opened, and not read or too long
-abbrev pub IsUnread : List ℕ → List ℕ → Option (Option (List ℕ)) → Answer → Type 0
-IsUnread program path None answer = answer ≡ failed_at program path (codes "cannot open")
-IsUnread program path (Some known) answer =
-    (answer ≡ failed_at program path (codes "read error")) ⊎ (answer ≡ failed_at program path (codes "file too long"))
+-- the file at a path was opened, or was not (`None`), and nothing is known of its bytes
+abbrev pub ReadsNone : History → History → List ℕ → Type 0
+ReadsNone old new path = (found : Option (Option (List ℕ))) × Extends old new (opened path found ∷ [])
 
--- the file at a path was not read, which the answer reports
-abbrev pub ReadsNone : List ℕ → History → History → List ℕ → Answer → Type 0
-ReadsNone program old new path answer =
-    (found : Option (Option (List ℕ))) × Extends old new (opened path found ∷ []) × IsUnread program path found answer
+-- it was not read: the answer has the status 2; or memory ran out
+abbrev pub EndsReading : History → History → List ℕ → Fault → Type 0
+EndsReading old new path fault = ReadsNone old new path × Stops true 2 fault
 
--- the file at a path was not read, which is the fault; or memory ran out
-abbrev pub EndsReading : List ℕ → History → History → List ℕ → Fault → Type 0
-EndsReading program old new path fault =
-    (answer : Answer) × ReadsNone program old new path answer × HasAnswer fault answer
-
--- what is reported of the path of a file that was to be stored
-abbrev pub stored_text : Stored → Option (List ℕ)
-stored_text office.Kept = None
-stored_text office.NotCreated = Some (codes "cannot create")
-stored_text (office.Failed _) = Some (codes "write error")
+-- a file that was to be stored is
+abbrev pub is_kept : Stored → Bool
+is_kept office.Kept = true
+is_kept office.NotCreated = false
+is_kept (office.Failed _) = false

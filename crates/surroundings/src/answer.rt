@@ -1,17 +1,20 @@
 //! What a program answers: what it writes, and its status.
-ghost use Rattle.std.specs.Prelude.{◌≡◌, ◌++◌, [], false, IfOk};
+ghost use Rattle.std.specs.Prelude.{◌≡◌, Some, false, true, IfOk};
+ghost use Rattle.std.specs.Option.{option_map};
 ghost use Rattle.aout_core.specs.Refusals.{refused};
 ghost use Rattle.aout_core.specs.Wires.{Writes};
 ghost use Rattle.surroundings.specs.declared.answer.Fault.TheVariants.{Memory};
-ghost use Rattle.surroundings.specs.Answers.{AnswersStored, Gives, HasAnswer, answer_in, errors_unless, failed_at, fault_answer, only_errors, says_reason, status_unless};
-ghost use Rattle.surroundings.specs.Sources.{stored_text};
+ghost use Rattle.surroundings.specs.Answers.{Ends, Gives, Stops, answer_in, only_errors, output_in, status_in};
+ghost use Rattle.surroundings.specs.Answer.{Answer};
+ghost use Rattle.surroundings.specs.Programs.{AnswersStored};
+ghost use Rattle.surroundings.specs.Sources.{is_kept};
 
-use crate::lines::{put_fault_line, put_why_refused};
 use crate::office::{Stored, stored_text};
 use crate::outputs::Outputs;
 use crate::reasons::Reason;
 use aout_core::{DeviceFault, Refused, Wire};
 use std::alloc::{AllocError, AllocFailed, Global};
+use std::fmt::Display;
 use std::io::Write;
 use std::marker::Model;
 use texts::Text;
@@ -71,20 +74,13 @@ pub fn error_answer(alloc: Global, errors: Text, status: u8) -> Result<Answer, A
     })
 }
 
-/// The answer of status 2 in which a program says a text of a path: `PROGRAM: PATH: TEXT`.
-fn answer_at(alloc: Global, program: &str, path: &str, text: &str) -> Result<Answer, AllocError>
-    ensures { IfOk result (λ a. a ≡ failed_at program.now path.now text.now) }
+/// The fault in which a program says a text of a path: `PROGRAM: PATH: TEXT`, with the status 2. (own choice)
+pub fn fault_at<D: Display + Drop>(alloc: Global, program: &str, path: &str, text: D) -> Fault
+    ensures { Stops true 2 result }
 {
     let mut line = Text::new(alloc);
-    put_fault_line(&mut line, program, path, text);
-    error_answer(alloc, line, 2)
-}
-
-/// The fault in which a program says a text of a path: `PROGRAM: PATH: TEXT`, with the status 2. (own choice)
-pub fn fault_at(alloc: Global, program: &str, path: &str, text: &str) -> Fault
-    ensures { HasAnswer result (failed_at program.now path.now text.now) }
-{
-    match answer_at(alloc, program, path, text) {
+    line.say(format_args!("{program}: {path}: {text}\n"));
+    match error_answer(alloc, line, 2) {
         Ok(answer) => Fault::Answered(answer),
         Err(error) => Fault::from(error),
     }
@@ -97,10 +93,10 @@ pub fn refused_answer(
     usage: &str,
     reason: Reason,
 ) -> Result<Answer, AllocError>
-    ensures { IfOk result (λ a. a ≡ says_reason program.now usage.now reason) }
+    ensures { IfOk result (λ a. Ends 2 a) }
 {
     let mut errors = Text::new(alloc);
-    put_why_refused(&mut errors, program, usage, reason);
+    errors.say(format_args!("{usage}{program}: {reason}\n"));
     error_answer(alloc, errors, 2)
 }
 
@@ -114,7 +110,7 @@ pub fn answer_stored(
     stored: Stored,
     answer: Answer,
 ) -> Result<Answer, Fault>
-    ensures { AnswersStored program.now path.now answer (stored_text stored) result }
+    ensures { AnswersStored answer (is_kept stored) result }
 {
     match stored_text(stored) {
         None => Ok(answer),
@@ -122,21 +118,23 @@ pub fn answer_stored(
     }
 }
 
-/// Writes the name of a program, and a text after it.
-fn put_line<E: Write>(program: &str, text: &str, error: &mut Wire<E>) -> Result<(), DeviceFault>
-    ensures { Writes E.contents result error.old error.new (program.now ++ text.now) }
+/// The answer of a program, if memory did not run out for it.
+fn answer_in(answer: &Result<Answer, Fault>) -> Option<&Answer>
+    ensures { option_map (λ a. a.now) result ≡ answer_in answer.now }
 {
-    error.put_both(program.as_bytes(), text.as_bytes())
+    match answer {
+        Ok(answer) | Err(Fault::Answered(answer)) => Some(answer),
+        Err(Fault::Memory(_)) => None,
+    }
 }
 
-/// Writes what a fault has for standard error.
-fn put_fault<E: Write>(program: &str, fault: &Fault, error: &mut Wire<E>) -> Result<(), DeviceFault>
-    ensures { Writes E.contents result error.old error.new
-        (fault_answer program.now fault.now).errors }
+/// Writes what an answer has for standard output.
+fn put_output<W: Write>(found: Option<&Answer>, output: &mut Wire<W>) -> Result<(), DeviceFault>
+    ensures { Writes W.contents result output.old output.new (output_in (option_map (λ a. a.now) found.entry)) }
 {
-    match fault {
-        Fault::Answered(answer) => error.put(&answer.errors),
-        Fault::Memory(_) => put_line(program, ": no memory\n", error),
+    match found {
+        Some(answer) => output.put(&answer.output),
+        None => output.put(b""),
     }
 }
 
@@ -144,44 +142,26 @@ fn put_fault<E: Write>(program: &str, fault: &Fault, error: &mut Wire<E>) -> Res
 fn put_errors<E: Write>(
     program: &str,
     is_failed: bool,
-    answer: &Result<Answer, Fault>,
+    found: Option<&Answer>,
     error: &mut Wire<E>,
 ) -> Result<(), DeviceFault>
-    ensures { Writes E.contents result error.old error.new
-        (errors_unless program.now is_failed (answer_in program.now answer.now)) }
+    ensures { (answer : Answer) → option_map (λ a. a.now) found.entry ≡ Some answer → is_failed ≡ false
+        → Writes E.contents result error.old error.new answer.errors }
 {
-    if is_failed {
-        return put_line(program, ": write error\n", error);
-    }
-    match answer {
-        Ok(answer) => error.put(&answer.errors),
-        Err(fault) => put_fault(program, fault, error),
-    }
-}
-
-/// Writes what goes to standard output.
-fn put_output<W: Write>(
-    answer: &Result<Answer, Fault>,
-    output: &mut Wire<W>,
-) -> Result<(), DeviceFault>
-    ensures { Writes W.contents result output.old output.new (answer_in [] answer.now).output }
-{
-    match answer {
-        Ok(answer) | Err(Fault::Answered(answer)) => output.put(&answer.output),
-        Err(Fault::Memory(_)) => output.put(b""),
+    match found {
+        _ if is_failed => error.put_both(program.as_bytes(), b": write error\n"),
+        Some(answer) => error.put(&answer.errors),
+        None => error.put_both(program.as_bytes(), b": no memory\n"),
     }
 }
 
 /// The status of an answer.
-fn status_of(is_failed: bool, answer: &Result<Answer, Fault>) -> u8
-    ensures { result ≡ status_unless is_failed (answer_in [] answer.now) }
+fn status_in(is_failed: bool, found: Option<&Answer>) -> u8
+    ensures { result ≡ status_in is_failed (option_map (λ a. a.now) found.entry) }
 {
-    if is_failed {
-        return 2;
-    }
-    match answer {
-        Ok(answer) | Err(Fault::Answered(answer)) => answer.status,
-        Err(Fault::Memory(_)) => 2,
+    match found {
+        Some(answer) if !is_failed => answer.status,
+        _ => 2,
     }
 }
 
@@ -192,10 +172,11 @@ pub fn give<W: Write, E: Write>(
     answer: &Result<Answer, Fault>,
     outputs: &mut Outputs<W, E>,
 ) -> u8
-    ensures { Gives W.contents E.contents program.now (answer_in program.now answer.now)
+    ensures { Gives W.contents E.contents (answer_in answer.now)
         outputs.old.output outputs.new.output outputs.old.error outputs.new.error result }
 {
-    let is_failed = put_output(answer, &mut outputs.output).is_err();
-    let _ = put_errors(program, is_failed, answer, &mut outputs.error);
-    status_of(is_failed, answer)
+    let found = answer_in(answer);
+    let is_failed = put_output(found, &mut outputs.output).is_err();
+    let _ = put_errors(program, is_failed, found, &mut outputs.error);
+    status_in(is_failed, found)
 }

@@ -1,6 +1,6 @@
 //! What arguments give a program: letters of options, the values of some of them, and paths.
 ghost use Rattle.std.specs.Prelude.{◌≡◌, Ok, map, option_map, string_bytes, IfOk, OnOk};
-ghost use Rattle.surroundings.specs.Arguments.{excluded_in, first_in, given_in, has_letter, letters_of, letter_read, letters_read, long_read, next_letter, nothing_given, option_read, other_in, plain_read, value_of, valued_read, with_letter, with_path, with_value, word_by, word_read};
+ghost use Rattle.surroundings.specs.Arguments.{excluded_in, first_in, given_in, has_letter, letters_of, letters_read, next_letter, nothing_given, option_read, other_in, plain_read, value_of, with_path, with_value, word_read};
 ghost use Rattle.surroundings.specs.internal.Readings.{after};
 
 use crate::arguments::letters_of;
@@ -146,48 +146,8 @@ impl Given {
         }
     }
 
-    /// Adds a letter.
-    fn push_letter(&mut self, letter: u8) -> Result<(), AllocError>
-        ensures { OnOk result (self.new ≡ with_letter self.old letter) }
-    {
-        self.letters.push(letter)?;
-        Ok(())
-    }
-
-    /// Adds a letter that takes a value.
-    fn add_valued(&mut self, letter: u8) -> Result<Option<Reason>, AllocError>
-        ensures { IfOk result (λ found. after found self.new ≡ valued_read self.old letter) }
-    {
-        if has_letter(&self.letters, letter) {
-            return Ok(Some(Reason::SecondValue(letter)));
-        }
-        self.push_letter(letter)?;
-        self.waiting = Some(letter);
-        Ok(None)
-    }
-
-    /// Adds a letter, if there is an option of it.
-    fn add_letter(
-        &mut self,
-        flags: &[u8],
-        valued: &[u8],
-        letter: u8,
-    ) -> Result<Option<Reason>, AllocError>
-        ensures { IfOk result (λ found.
-            after found self.new ≡ letter_read flags.now valued.now self.old letter) }
-    {
-        if has_letter(valued, letter) {
-            return self.add_valued(letter);
-        }
-        if has_letter(flags, letter) {
-            self.push_letter(letter)?;
-            return Ok(None);
-        }
-        Ok(Some(Reason::NoOption(letter)))
-    }
-
     /// Adds the next letter of an argument.
-    fn add_next(
+    fn add_letter(
         &mut self,
         flags: &[u8],
         valued: &[u8],
@@ -196,10 +156,21 @@ impl Given {
         ensures { IfOk result (λ found.
             after found self.new ≡ next_letter flags.now valued.now self.old letter) }
     {
-        match self.waiting {
-            Some(waiting) => Ok(Some(Reason::NoValue(waiting))),
-            None => self.add_letter(flags, valued, letter),
+        if let Some(waiting) = self.waiting {
+            return Ok(Some(Reason::NoValue(waiting)));
         }
+        let takes_value = has_letter(valued, letter);
+        if takes_value && has_letter(&self.letters, letter) {
+            return Ok(Some(Reason::SecondValue(letter)));
+        }
+        if !takes_value && !has_letter(flags, letter) {
+            return Ok(Some(Reason::NoOption(letter)));
+        }
+        self.letters.push(letter)?;
+        if takes_value {
+            self.waiting = Some(letter);
+        }
+        Ok(None)
     }
 
     /// Adds the letters of an argument.
@@ -213,25 +184,14 @@ impl Given {
             after found self.new ≡ letters_read flags.now valued.now self.old letters.now) }
     {
         for letter in letters {
-            if let Some(reason) = self.add_next(flags, valued, *letter)? {
+            if let Some(reason) = self.add_letter(flags, valued, *letter)? {
                 return Ok(Some(reason));
             }
         }
         Ok(None)
     }
 
-    /// Ends the options at `--`; there are no others of two hyphens.
-    fn end_options(&mut self, rest: &[u8]) -> Option<Reason>
-        ensures { after result self.new ≡ long_read self.old rest.now }
-    {
-        if !rest.is_empty() {
-            return Some(Reason::NoLongOption);
-        }
-        self.has_ended = true;
-        None
-    }
-
-    /// Adds what follows the hyphen of an argument.
+    /// Adds what follows the hyphen of an argument: `--` ends the options, and there are no others of two hyphens.
     fn add_option(
         &mut self,
         flags: &[u8],
@@ -246,28 +206,12 @@ impl Given {
                 self.add_path("-")?;
                 Ok(None)
             }
-            [b'-', rest @ ..] => Ok(self.end_options(rest)),
-            _ => self.add_letters(flags, valued, letters),
-        }
-    }
-
-    /// Adds an argument before `--`.
-    fn add_any(
-        &mut self,
-        flags: &[u8],
-        valued: &[u8],
-        word: &str,
-    ) -> Result<Option<Reason>, AllocError>
-        ensures { IfOk result (λ found. after found self.new
-            ≡ word_by flags.now valued.now self.old word.now (letters_of word.now)) }
-    {
-        match (letters_of(word), self.waiting) {
-            (None, _) => {
-                self.add_plain(word)?;
+            [b'-'] => {
+                self.has_ended = true;
                 Ok(None)
             }
-            (Some(_), Some(letter)) => Ok(Some(Reason::NoValue(letter))),
-            (Some(letters), None) => self.add_option(flags, valued, letters),
+            [b'-', ..] => Ok(Some(Reason::NoLongOption)),
+            _ => self.add_letters(flags, valued, letters),
         }
     }
 
@@ -285,7 +229,14 @@ impl Given {
             self.add_path(word)?;
             return Ok(None);
         }
-        self.add_any(flags, valued, word)
+        match (letters_of(word), self.waiting) {
+            (None, _) => {
+                self.add_plain(word)?;
+                Ok(None)
+            }
+            (Some(_), Some(letter)) => Ok(Some(Reason::NoValue(letter))),
+            (Some(letters), None) => self.add_option(flags, valued, letters),
+        }
     }
 }
 

@@ -1,5 +1,5 @@
 //! Standard streams that are closed.
-use aout_core::Refused;
+use aout_core::{FileFault, Refused};
 use std::fs::File;
 use std::os::fd::AsRawFd;
 use std::{fs, io};
@@ -28,7 +28,7 @@ pub fn end(rt: &HostRuntime, program: &str, usage: &str, ended: io::Result<u8>) 
     let _ = match Refused::reported_by(&error) {
         Some(refused) => eprintln!(rt; "{program}: {refused}"),
         None if error.kind() == io::ErrorKind::InvalidData => rt.eprint(usage),
-        None => eprintln!(rt; "{program}: /: cannot open"),
+        None => eprintln!(rt; "{program}: /: {}", FileFault::NotOpened),
     };
     2
 }

@@ -21,13 +21,14 @@
 //! - `read_whole`, `read_front`: all bytes of a file, and so many from its beginning
 //! - `store_on`, `store_text_on`: stores a file, or a text, on a device
 //! - `stored_text`: what is said of a file that was not stored
-//! - `nodes_at`, `is_input`, `check_output`: the files to which paths lead; whether an output is one of the inputs, and refuses it
+//! - `nodes_at`, `is_input`, `check_output`, `output_is_input`: the files to which paths lead; whether an output is one of the inputs, and refuses it
 //! - `shown_in`, `show`: what the arguments ask a program to show of itself; shows it
 //! - `refuse`: says why arguments are refused
 //! - `error_answer`, `fault_at`, `refused_answer`, `shown_answer`, `answer_stored`: answers
-//! - `put_line_front`, `put_fault_line`: the lines in which a program says something of a path
-//! - `put_object_fault`: why a file is not an object, in such a line
 //! - `give`: writes an answer
+//! - `outputs_of`: the standard streams of a runtime
+//!
+//! Only tested: in which words a program speaks of faults and of itself.
 #![tactic(auto)]
 
 mod answer;
@@ -35,7 +36,6 @@ mod arguments;
 mod disk;
 mod given;
 mod held;
-mod lines;
 mod nodes;
 mod office;
 mod outputs;
@@ -50,11 +50,10 @@ pub use arguments::{readable, readable_words, words};
 pub use disk::{Disk, special_at, store_on, store_text_on};
 pub use given::{Given, given_in};
 pub use held::{end, hold_streams};
-pub use lines::{put_fault_line, put_line_front, put_object_fault};
-pub use nodes::{Node, Nodes, check_output, is_input, nodes_at};
+pub use nodes::{Node, Nodes, check_output, is_input, nodes_at, output_is_input};
 pub use office::{Office, Stored, stored_text};
 pub use outputs::Outputs;
 pub use reasons::Reason;
-pub use shown::{Shown, VERSION, refuse, show, shown_answer, shown_in};
+pub use shown::{Shown, VERSION, outputs_of, refuse, show, shown_answer, shown_in};
 pub use sources::{read_front, read_whole};
 pub use standard_error::StandardError;

@@ -1,7 +1,8 @@
 //! Files to which paths lead. An output that is one of the inputs is refused by what it is, and not by its name.
-ghost use Rattle.std.specs.Prelude.{◌≡◌, ◌∷◌, []};
+ghost use Rattle.std.specs.Prelude.{◌≡◌, ◌∷◌, [], true};
+ghost use Rattle.surroundings.specs.Answers.{Stops};
 ghost use Rattle.surroundings.specs.Events.{Extends};
-ghost use Rattle.surroundings.specs.Nodes.{ChecksOutput, has_input, is_input, is_node, looks, output_answer};
+ghost use Rattle.surroundings.specs.Nodes.{ChecksOutput, has_input, is_input, is_node, looks};
 
 use crate::answer::{Fault, fault_at};
 use crate::office::Office;
@@ -62,6 +63,13 @@ pub fn nodes_at<O: Office>(office: &mut O, input: &str, output: &str) -> Nodes
     Nodes { input, output }
 }
 
+/// The fault that an output is one of the inputs. (own choice)
+pub fn output_is_input(alloc: Global, program: &str, output: &str) -> Fault
+    ensures { Stops true 2 result }
+{
+    fault_at(alloc, program, output, "the output is one of the inputs")
+}
+
 /// Checks that the output of a program is not its one input. (own choice)
 ///
 /// Errors: `Answered` if it is; `Memory` if memory runs out.
@@ -72,12 +80,12 @@ pub fn check_output<O: Office>(
     input: &str,
     output: &str,
 ) -> Result<(), Fault>
-    ensures { ChecksOutput program.now input.now output.now
+    ensures { ChecksOutput input.now output.now
         (O.history office.old) (O.history office.new) result }
 {
     let nodes = nodes_at(office, input, output);
     if is_input(&[nodes], nodes.output) {
-        return Err(fault_at(alloc, program, output, "the output is one of the inputs"));
+        return Err(output_is_input(alloc, program, output));
     }
     Ok(())
 }

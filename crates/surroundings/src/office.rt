@@ -1,7 +1,8 @@
 //! What opens and stores the files of a command.
 ghost use Rattle.std.specs.Prelude.{◌≡◌, [], ◌∷◌, List, None, Option};
 ghost use Rattle.std.specs.Option.{option_map};
-ghost use Rattle.surroundings.specs.Sources.{stored_text};
+ghost use Rattle.surroundings.specs.Answers.{is_none};
+ghost use Rattle.surroundings.specs.Sources.{is_kept};
 ghost use Rattle.surroundings.specs.Events.{Event, Extends, looked, opened, stored, written};
 
 use crate::nodes::Node;
@@ -48,7 +49,7 @@ pub trait Office {
 
 /// What is said of the path of a file that was not stored. (own choice)
 pub fn stored_text(stored: Stored) -> Option<&'static str>
-    ensures { option_map (λ text. text.now) result ≡ stored_text stored }
+    ensures { is_none result ≡ is_kept stored }
 {
     match stored {
         Stored::Kept => None,

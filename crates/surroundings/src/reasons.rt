@@ -1,8 +1,6 @@
-//! Why arguments are refused.
-ghost use Rattle.surroundings.specs.Reasons.{about_both, about_option, option_text, reason_text};
-ghost use Rattle.texts.specs.Texts.{Puts};
-
-use texts::Text;
+//! Why arguments are refused. Only tested: the words.
+use std::fmt::{self, Display, Formatter, Write};
+use texts::Printable;
 
 /// Why arguments are refused. (own choice)
 #[derive(Clone, Copy, Debug, PartialEq, Eq)]
@@ -33,61 +31,46 @@ pub enum Reason {
     NotTwoFiles,
 }
 
-/// Puts the letter of an option, after a hyphen.
-#[tactic(auto, unfolding(crate::specs::Reasons::option_text))]
-fn put_option(line: &mut Text, letter: u8)
-    ensures { Puts line.old line.new (option_text letter) }
-{
-    line.put("-");
-    line.put_printable_byte(letter);
+/// The letter of an option, after a hyphen.
+#[derive(Clone, Copy)]
+struct Letter(u8);
+
+impl Display for Letter {
+    fn fmt<W: Write>(&self, f: &mut Formatter<W>) -> fmt::Result {
+        write!(f, "-{}", Printable(&[self.0]))
+    }
 }
 
-/// Puts the letter of an option between two texts.
-#[tactic(auto, unfolding(crate::specs::Reasons::about_option))]
-fn put_about(line: &mut Text, front: &str, letter: u8, back: &str)
-    ensures { Puts line.old line.new (about_option front.now letter back.now) }
-{
-    line.put(front);
-    put_option(line, letter);
-    line.put(back);
-}
-
-/// Puts the letters of two options, with a text after each.
-#[tactic(auto, unfolding(crate::specs::Reasons::about_both))]
-fn put_about_both(line: &mut Text, one: u8, between: &str, other: u8, back: &str)
-    ensures { Puts line.old line.new (about_both one between.now other back.now) }
-{
-    put_option(line, one);
-    line.put(between);
-    put_option(line, other);
-    line.put(back);
-}
-
-/// Puts why arguments are refused. (own choice)
-pub(crate) fn put_reason(line: &mut Text, reason: Reason)
-    ensures { Puts line.old line.new (reason_text reason) }
-{
-    match reason {
-        Reason::NoOption(letter) => put_about(line, "there is no option ", letter, ""),
-        Reason::NoLongOption => line.put("an option has one letter, but for --help and --version"),
-        Reason::NoValue(letter) => put_about(
-            line,
-            "",
-            letter,
-            " needs the next argument as its value",
-        ),
-        Reason::SecondValue(letter) => put_about(line, "", letter, " takes one value"),
-        Reason::NotANumber(letter) => put_about(line, "", letter, " needs a number from 1 on"),
-        Reason::Excluded(one, other) => {
-            put_about_both(line, one, " and ", other, " exclude each other");
+impl Display for Reason {
+    fn fmt<W: Write>(&self, f: &mut Formatter<W>) -> fmt::Result {
+        match *self {
+            Reason::NoOption(letter) => write!(f, "there is no option {}", Letter(letter)),
+            Reason::NoLongOption => {
+                f.write_str("an option has one letter, but for --help and --version")
+            }
+            Reason::NoValue(letter) => {
+                write!(f, "{} needs the next argument as its value", Letter(letter))
+            }
+            Reason::SecondValue(letter) => write!(f, "{} takes one value", Letter(letter)),
+            Reason::NotANumber(letter) => write!(f, "{} needs a number from 1 on", Letter(letter)),
+            Reason::Excluded(one, other) => {
+                write!(
+                    f,
+                    "{} and {} exclude each other",
+                    Letter(one),
+                    Letter(other)
+                )
+            }
+            Reason::Needs(one, other) => write!(f, "{} needs {}", Letter(one), Letter(other)),
+            Reason::NotFirst(letter) => {
+                write!(f, "{} has to be the first argument", Letter(letter))
+            }
+            Reason::NotOfLd(letter) => {
+                write!(f, "ld does not take the arguments after {}", Letter(letter))
+            }
+            Reason::NoFile => f.write_str("it needs a file"),
+            Reason::NotOneFile(letter) => write!(f, "{} is for one file", Letter(letter)),
+            Reason::NotTwoFiles => f.write_str("it takes two files"),
         }
-        Reason::Needs(one, other) => put_about_both(line, one, " needs ", other, ""),
-        Reason::NotFirst(letter) => put_about(line, "", letter, " has to be the first argument"),
-        Reason::NotOfLd(letter) => {
-            put_about(line, "ld does not take the arguments after ", letter, "");
-        }
-        Reason::NoFile => line.put("it needs a file"),
-        Reason::NotOneFile(letter) => put_about(line, "", letter, " is for one file"),
-        Reason::NotTwoFiles => line.put("it takes two files"),
     }
 }

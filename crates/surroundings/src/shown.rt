@@ -1,6 +1,6 @@
 //! What a program shows in place of its work: the answers to `--help` and `--version`.
-ghost use Rattle.std.specs.Prelude.{◌≡◌, ◌≤◌, map, string_bytes, IfOk};
-ghost use Rattle.surroundings.specs.Answers.{shown_by, shown_in, shows};
+ghost use Rattle.std.specs.Prelude.{◌≡◌, ◌≤◌, [], map, string_bytes, IfOk};
+ghost use Rattle.surroundings.specs.Answers.{shown_by, shown_in};
 
 use crate::answer::{Answer, Fault, give, refused_answer};
 use crate::outputs::Outputs;
@@ -56,17 +56,12 @@ pub fn shown_answer(
     help: &str,
     shown: Shown,
 ) -> Result<Answer, AllocError>
-    ensures { IfOk result (λ a. a ≡ shows program.now help.now shown) }
+    ensures { IfOk result (λ a. (a.errors ≡ []) × (a.status ≡ 0)) }
 {
     let mut output = Text::new(alloc);
     match shown {
         Shown::Help => output.put(help),
-        Shown::Version => {
-            output.put(program);
-            output.put(" ");
-            output.put(VERSION);
-            output.put("\n");
-        }
+        Shown::Version => output.say(format_args!("{program} {VERSION}\n")),
     }
     Ok(Answer {
         output: output.finish()?,
@@ -75,8 +70,8 @@ pub fn shown_answer(
     })
 }
 
-/// The streams of a runtime.
-fn outputs_of<H: Runtime>(rt: &H) -> Outputs<Printer<'_, H>, StandardError<'_, H>> {
+/// The standard streams of a runtime. (own choice)
+pub fn outputs_of<H: Runtime>(rt: &H) -> Outputs<Printer<'_, H>, StandardError<'_, H>> {
     Outputs {
         output: Wire::new(io::writer(rt)),
         error: Wire::new(StandardError::new(rt)),

@@ -40,13 +40,12 @@ pub fn read_front<O: Office>(
     ensures ok { IfOk result (λ bytes.
         ReadsFront most (O.history office.old) (O.history office.new) path.now bytes.items) }
     ensures err { IfErr result (λ fault.
-        EndsReading program.now (O.history office.old) (O.history office.new) path.now fault) }
+        EndsReading (O.history office.old) (O.history office.new) path.now fault) }
 {
     match bytes_at(alloc, office, path, most) {
         Ok(bytes) => Ok(bytes),
-        Err(FileFault::NotOpened) => Err(fault_at(alloc, program, path, "cannot open")),
-        Err(FileFault::Failed) => Err(fault_at(alloc, program, path, "read error")),
         Err(FileFault::Memory(refused)) => Err(Fault::Memory(refused)),
+        Err(fault) => Err(fault_at(alloc, program, path, fault)),
     }
 }
 
@@ -64,7 +63,7 @@ pub fn read_whole<O: Office>(
         ReadsAt (O.history office.old) (O.history office.new) path.now bytes.items) }
     ensures within { IfOk result (λ bytes. length bytes.items ≤ most) }
     ensures err { IfErr result (λ fault.
-        EndsReading program.now (O.history office.old) (O.history office.new) path.now fault) }
+        EndsReading (O.history office.old) (O.history office.new) path.now fault) }
 {
     let bytes = read_front(alloc, office, program, path, u64::from(most) + 1)?;
     if bytes.len() > most as usize {

@@ -8,10 +8,10 @@ use Rattle.library_calls.specs.declared.cause.Cause.TheVariants.{Memory}
 use Rattle.library_calls.specs.{declared.cause.Cause.Cause, declared.cause.Refusal.Refusal, declared.map_call.LinkOutput.LinkOutput}
 use Rattle.library_calls.specs.KeptAnswers.{HasJournal, MayRunOutToLink, kept_run, shown_in}
 use Rattle.library_calls.specs.RunAnswers.{RunOutput, results_of}
-use Rattle.v7_c.specs.KeptLeft.{IsGiven, Keeps, LeavesChange, LeavesShown, LinkMayRunOut, kept_in, of_session}
-use Rattle.v7_c.specs.{Left.Left, Left.bytes_or, Left.done_by, Left.left_at, Left.of_none, Left.refusal_in}
+use Rattle.v7_c.specs.KeptLeft.{Keeps, LeavesChange, LeavesShown, LinkMayRunOut, kept_in, of_session}
+use Rattle.v7_c.specs.Left.{IsGiven, Left, Unplaced, bytes_left, bytes_or, done_by, of_none, refusal_in}
 use Rattle.v7_c.specs.{RunLeft.or_unread, RunLeft.results_or, RunLeft.unread, RunLeft.wants_of, declared.run.Request.Request}
-use Rattle.v7_c.proofs.RunLemmas.{never_memory}
+use Rattle.v7_c.proofs.{LeftLemmas.refusal_by, RunLemmas.never_memory}
 
 pub change_left : {A B : Type 0} (asked : Result A Refusal) (MayRunOut : Type 0) (Changes : Option Kept → Option Kept → Type 0)
     (old new : Option Kept) (l : Left) (r : Result B Refusal) → l ≡ done_by (refusal_in r) → OnOk r (Changes old new) →
@@ -20,16 +20,21 @@ pub change_left : {A B : Type 0} (asked : Result A Refusal) (MayRunOut : Type 0)
     LeavesChange asked MayRunOut Changes old new l
 change_left asked MayRunOut Changes old new l (Ok x) is ok err memory unchanged = record { refusal = None; made = ok; is = is }
 change_left asked MayRunOut Changes old new l (Err refusal) is ok err memory unchanged =
-    record { refusal = Some refusal; made = (unchanged, record { same = err; memory = memory }); is = is }
+    record { refusal = Some refusal; made = (unchanged, refusal_by asked (Unplaced MayRunOut) refusal err memory); is = is }
 
-pub state_shown : (form : ℕ) (kept : Option Kept) (room : List ℕ) (l : Left) (r : Result (Vec ℕ Global) Refusal) → l ≡ left_at (bytes_or r) room →
+pub state_shown : (form : ℕ) (kept : Option Kept) (room : List ℕ) (l : Left) (r : Result (Vec ℕ Global) Refusal) → l ≡ bytes_left room (bytes_or r) →
     IfOk r (λ state. of_session (shown_in form) kept ≡ Ok state.items) →
     IfErr r (λ refusal. refusal.cause ≢ Memory refused → of_session (shown_in form) kept ≡ Err refusal) →
     IfErr r (λ refusal. refusal.cause ≡ Memory refused → (refusal.place ≡ 0) × Keeps (λ k. IsOk (shown_in form k)) kept) →
     IfOk r (λ state. Keeps HasJournal kept) → LeavesShown form kept room l
 state_shown form kept room l (Ok state) is ok err memory journal = record { answer = Ok state.items; given = ok; journal = journal; is = is }
 state_shown form kept room l (Err refusal) is ok err memory journal =
-    record { answer = Err refusal; given = record { same = err; memory = memory }; journal = tt; is = is }
+    record {
+      answer = Err refusal;
+      given = refusal_by (of_session (shown_in form) kept) (Unplaced (Keeps (λ k. IsOk (shown_in form k)) kept)) refusal err memory;
+      journal = tt;
+      is = is;
+    }
 
 module _ (kept : Option Kept) (q : Request) (size : ℕ) where
   abbrev pub run : Result RunOutput Refusal
@@ -41,18 +46,17 @@ module _ (kept : Option Kept) (q : Request) (size : ℕ) where
   pub link_given : (r : Result LinkOutput Refusal) → unread 3 q size ≡ None → IfOk r (λ given. run ≡ Ok (results_of given.run)) →
       IfErr r (λ refusal. refusal.cause ≢ Memory refused → run ≡ Err refusal) →
       IfErr r (λ refusal. refusal.cause ≡ Memory refused → (refusal.place ≡ 0) × Keeps (MayRunOutToLink q.options q.entry.now) kept) →
-      IsGiven (kept_in kept q size) (LinkMayRunOut kept q size) (results_or r)
+      IsGiven (kept_in kept q size) (Unplaced (LinkMayRunOut kept q size)) (results_or r)
   link_given (Ok given) known ok err memory = by_request None known ∙ ok
-  link_given (Err refusal) known ok err memory = record {
-    same = λ other. by_request None known ∙ err other;
-    memory = λ out. ((memory out).0, (known, (memory out).1));
-  }
+  link_given (Err refusal) known ok err memory =
+      refusal_by (kept_in kept q size) (Unplaced (LinkMayRunOut kept q size)) refusal (λ other. by_request None known ∙ err other)
+      (λ out. ((memory out).0, (known, (memory out).1)))
 
   pub link_unread : (r : Refusal) (cause : Cause) → unread 3 q size ≡ Some cause → r ≡ of_none cause →
-      IsGiven (kept_in kept q size) (LinkMayRunOut kept q size) (Err r)
-  link_unread r cause is same = record {
-    same = λ other. by_request (Some cause) is ∙ ap (λ (x : Refusal). Err x) (sym same);
-    memory = λ out. absurd (never_memory 3 q size r cause is same out);
-  }
+      IsGiven (kept_in kept q size) (Unplaced (LinkMayRunOut kept q size)) (Err r)
+  link_unread r cause is same =
+      refusal_by (kept_in kept q size) (Unplaced (LinkMayRunOut kept q size)) r
+      (λ other. by_request (Some cause) is ∙ ap (λ (x : Refusal). Err x) (sym same))
+      (λ out. absurd (never_memory 3 q size r cause is same out))
 
 pub ruleset by_link = (link_given, link_unread)

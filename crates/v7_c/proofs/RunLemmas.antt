@@ -1,27 +1,31 @@
 -- What the library answers to a request.
-use Rattle.std.proofs.Common.{◌≡◌, ◌≢◌, ℕ, Bool, true, false, nat_lt, if◌then◌else◌, Option, Some, None, Result, Ok, Err, IfOk, IfErr, ap, ◌∙◌}
+use Rattle.std.proofs.Common.{◌≡◌, ◌≢◌, ℕ, Bool, true, false, nat_lt, if◌then◌else◌, Option, Some, None, Result, Ok, Err, IfOk, IfErr, ap, ◌∙◌, length}
 use Rattle.std.proofs.Common.{subst, sym}
 use Rattle.aout_core.specs.Refusals.{refused}
 use Rattle.library_calls.specs.MapAnswers.{HasNoMap, IsMapAnswer, MapMayRunOut, MapOf, map_asked}
-use Rattle.library_calls.specs.RunAnswers.{RunOutput, link_run, results_of}
-use Rattle.library_calls.specs.declared.cause.Cause.TheVariants.{Memory, NoWant, ShortStruct}
+use Rattle.library_calls.specs.RunAnswers.{RunOutput, link_run, no_run, results_of}
+use Rattle.library_calls.specs.declared.cause.Cause.TheVariants.{Memory, NoWant, NotKept, ShortStruct}
 use Rattle.library_calls.specs.{declared.cause.Cause.Cause, declared.cause.Refusal.Refusal, declared.map_call.LinkOutput.LinkOutput, declared.run_call.RunResult.RunResult}
-use Rattle.library_calls.specs.{FileAnswers.has_bit, LinkAnswers.each_of, MemoryWanted.LinkMayRunOut}
-use Rattle.v7_c.specs.{declared.run.Request.Request, RunLeft.AnswerBy, RunLeft.IsAnswer, RunLeft.is_enough, RunLeft.map_in}
-use Rattle.v7_c.specs.{Left.of_none, RunLeft.or_unread, RunLeft.run_in, RunLeft.unread, RunLeft.wants_of}
+use Rattle.library_calls.specs.{Causes.number_of, Causes.word_of, FileAnswers.has_bit, LinkAnswers.each_of, MemoryWanted.LinkMayRunOut}
+use Rattle.v7_c.specs.{Left.refused as refused_as_said, declared.answer.Answer.Answer}
+use Rattle.v7_c.specs.{declared.run.Request.Request, RunLeft.AnswerBy, RunLeft.IsAnswer, RunLeft.MapRunsOut, RunLeft.RunMayRunOut, RunLeft.is_enough}
+use Rattle.v7_c.specs.{Left.of_none, RunLeft.RunCounts, RunLeft.RunLeft, RunLeft.answered, RunLeft.counts_of, RunLeft.map_in, RunLeft.nothing}
+use Rattle.v7_c.specs.{RunLeft.or_unread, RunLeft.run_in, RunLeft.unread, RunLeft.wants_of}
+use Rattle.v7_c.proofs.LeftLemmas.{refusal_by}
 
-never_by : (short unknown enough : Bool) → (if short then Some ShortStruct else if unknown then Some NoWant else if enough then None
-    else Some ShortStruct) ≡ Some (Memory refused) → ⊥
-never_by true unknown enough h = absurd (cc)
-never_by false true enough h = absurd (cc)
-never_by false false true h = absurd (cc)
-never_by false false false h = absurd (cc)
+never_by : (short unknown unkept enough : Bool) → (if short then Some ShortStruct else if unknown then Some NoWant
+    else if unkept then Some NotKept else if enough then None else Some ShortStruct) ≡ Some (Memory refused) → ⊥
+never_by true unknown unkept enough h = absurd (cc)
+never_by false true unkept enough h = absurd (cc)
+never_by false false true enough h = absurd (cc)
+never_by false false false true h = absurd (cc)
+never_by false false false false h = absurd (cc)
 
 -- memory is not why a request cannot be read
 pub never_memory : (most : ℕ) (q : Request) (size : ℕ) (r : Refusal) (cause : Cause) → unread most q size ≡ Some cause → r ≡ of_none cause →
     r.cause ≡ Memory refused → ⊥
 never_memory most q size r cause is same out =
-    never_by (nat_lt q.size 64) (nat_lt most q.wants) (is_enough q.wants size)
+    never_by (nat_lt q.size 64) (nat_lt 15 q.wants) (nat_lt most q.wants) (is_enough q.wants size)
     (is ∙ ap (λ (c : Cause). Some c) (sym (ap (λ (x : Refusal). x.cause) same) ∙ out))
 
 module _ (q : Request) (size : ℕ) where
@@ -48,7 +52,8 @@ module _ (q : Request) (size : ℕ) where
   map_answer (Ok x) known wanted ok err memory =
       by_bit true (Ok x) wanted (subst (λ (r : Result MapOf Refusal). IsMapAnswer (wants_of q.wants) r x) (sym (map_is None known)) ok)
   map_answer (Err refusal) known wanted ok err memory =
-      by_bit true (Err refusal) wanted (λ other. map_is None known ∙ err other, λ out. (known, memory out))
+      by_bit true (Err refusal) wanted
+      (refusal_by (map_in q size) (MapRunsOut q size) refusal (λ other. map_is None known ∙ err other) (λ out. (known, memory out)))
 
   pub run_answer : (x : LinkOutput) (run : RunResult) → unread 15 q size ≡ None → has_bit q.wants 8 ≡ false → x.run ≡ run → HasNoMap x →
       run_asked ≡ Ok (results_of run) → IsAnswer q size (Ok x)
@@ -63,14 +68,42 @@ module _ (q : Request) (size : ℕ) where
       (refusal.cause ≡ Memory refused → LinkMayRunOut q.options q.entry.now q.forced.now (each_of q.objects.now) refusal.place) →
       IsAnswer q size (Err refusal)
   run_refused refusal known unwanted err memory =
-      by_bit false (Err refusal) unwanted (λ other. run_is None known ∙ err other, λ out. (known, memory out))
+      by_bit false (Err refusal) unwanted
+      (refusal_by (run_in q size) (RunMayRunOut q size) refusal (λ other. run_is None known ∙ err other) (λ out. (known, memory out)))
 
   pub unread_answer : (r : Refusal) (cause : Cause) → unread 15 q size ≡ Some cause → r ≡ of_none cause → IsAnswer q size (Err r)
   unread_answer r cause is same =
       by_bits (has_bit q.wants 8)
     where
       by_bits : (b : Bool) → AnswerBy b q size (Err r)
-      by_bits true = (λ other. map_is (Some cause) is ∙ ap (λ (x : Refusal). Err x) (sym same), λ out. absurd (never_memory 15 q size r cause is same out))
-      by_bits false = (λ other. run_is (Some cause) is ∙ ap (λ (x : Refusal). Err x) (sym same), λ out. absurd (never_memory 15 q size r cause is same out))
+      by_bits true =
+          refusal_by (map_in q size) (MapRunsOut q size) r (λ other. map_is (Some cause) is ∙ ap (λ (x : Refusal). Err x) (sym same))
+          (λ out. absurd (never_memory 15 q size r cause is same out))
+      by_bits false =
+          refusal_by (run_in q size) (RunMayRunOut q size) r (λ other. run_is (Some cause) is ∙ ap (λ (x : Refusal). Err x) (sym same))
+          (λ out. absurd (never_memory 15 q size r cause is same out))
 
 pub ruleset by_answer = (map_answer, run_answer, run_refused, unread_answer)
+
+-- nothing is counted where nothing is given
+pub none_counted : (x : LinkOutput) (run : RunResult) (said : Answer) (r : Refusal) (status : ℕ) (l after : RunLeft) → x.run ≡ run →
+    HasNoMap x → results_of run ≡ no_run → said ≡ refused_as_said r →
+    after ≡ answered status said.fault said.word said.place (counts_of x) l →
+    after ≡ answered status (number_of r.cause) (word_of r.cause) r.place nothing l
+none_counted x run said r status l after same no_map none is_said is =
+    let all : results_of x.run ≡ no_run = ap results_of same ∙ none in
+    let counts : counts_of x ≡ nothing = λ i. record {
+      file = length (all i).file;
+      report = length (all i).report;
+      findings = length (all i).findings;
+      places = length (all i).places;
+      records = record {
+        objects = length (no_map.objects i);
+        names = length (no_map.names i);
+        uses = length (no_map.uses i);
+        limits = length (no_map.limits i);
+      };
+    } in
+    is
+    ∙ ap (λ (a : Answer). answered status a.fault a.word a.place (counts_of x) l) is_said
+    ∙ ap (λ (c : RunCounts). answered status (number_of r.cause) (word_of r.cause) r.place c l) counts

@@ -1,12 +1,12 @@
 -- What a handle keeps for C between calls, and what a call on it leaves. (own choice)
-use Rattle.std.specs.Prelude.{◌≡◌, ◌≢◌, ℕ, Bool, true, eqb, if◌then◌else◌, List, Option, Some, None, Result, Ok, Err, IsOk, IfOk}
-use Rattle.aout_core.specs.Refusals.{refused}
+use Rattle.std.specs.Prelude.{◌≡◌, ℕ, eqb, if◌then◌else◌, List, Option, Some, None, Result, Ok, Err, IsOk, IfOk}
 use Rattle.link_session.specs.Undo.{Kept}
-use Rattle.library_calls.specs.declared.cause.Cause.TheVariants.{Memory, NoSession, SessionOpen}
+use Rattle.library_calls.specs.declared.cause.Cause.TheVariants.{NoSession, SessionOpen}
 use Rattle.library_calls.specs.{declared.cause.Cause.Cause, declared.cause.Refusal.Refusal, declared.map_call.LinkOutput.LinkOutput, Causes.at}
 use Rattle.library_calls.specs.KeptAnswers.{AddsBytes, HasJournal, MayRunOutToAdd, MayRunOutToLink, TakesLast, begun_in, kept_run, last_in, shown_in, taken_in}
 use Rattle.library_calls.specs.{MapAnswers.HasNoMap, RunAnswers.RunOutput}
-use Rattle.v7_c.specs.{Left.Left, Left.done_by, Left.left_at, Left.of_none, RunLeft.answer_left, RunLeft.or_unread, RunLeft.unread}
+use Rattle.v7_c.specs.Left.{IsGiven, IsRefusal, Left, Unplaced, bytes_left, done_by, of_none}
+use Rattle.v7_c.specs.{RunLeft.answer_left, RunLeft.or_unread, RunLeft.unread}
 use Rattle.v7_c.specs.{RunLeft.left_in, RunLeft.results_or, RunLeft.wants_of, declared.handle.Handle.Handle}
 use Rattle.v7_c.specs.{declared.run.Request.Request, declared.run.RunAnswer.RunAnswer}
 
@@ -32,16 +32,11 @@ Both P (Some old) (Some new) = P old new
 
 -- ---- changes
 
--- a refusal is that of what is asked for, or memory ran out, at place 0, for what it may run out for
-pub record RefusedBy {A : Type 0} (asked : Result A Refusal) (MayRunOut : Type 0) (r : Refusal) : Type 0 where
-  pub same : r.cause ≢ Memory refused → asked ≡ Err r
-  pub memory : r.cause ≡ Memory refused → (r.place ≡ 0) × MayRunOut
-
 -- a change was made, or it was refused and what is kept is as it was
 abbrev pub IsChange : {A : Type 0} → Result A Refusal → Type 0 → (Option Kept → Option Kept → Type 0) → Option Kept → Option Kept →
     Option Refusal → Type 0
 IsChange asked MayRunOut Changes old new None = Changes old new
-IsChange asked MayRunOut Changes old new (Some r) = (new ≡ old) × RefusedBy asked MayRunOut r
+IsChange asked MayRunOut Changes old new (Some r) = (new ≡ old) × IsRefusal asked (Unplaced MayRunOut) r
 
 pub record LeavesChange {A : Type 0} (asked : Result A Refusal) (MayRunOut : Type 0) (Changes : Option Kept → Option Kept → Type 0)
     (old new : Option Kept) (l : Left) : Type 0 where
@@ -73,16 +68,11 @@ LeavesWithdrawn old new l = LeavesChange (of_session last_in old) ⊥ (Both Take
 
 -- ---- what is given
 
--- an answer is what is asked for, or a refusal
-abbrev pub IsGiven : {A : Type 0} → Result A Refusal → Type 0 → Result A Refusal → Type 0
-IsGiven asked MayRunOut (Ok x) = asked ≡ Ok x
-IsGiven asked MayRunOut (Err r) = RefusedBy asked MayRunOut r
-
 pub record LeavesShown (form : ℕ) (kept : Option Kept) (room : List ℕ) (l : Left) : Type 0 where
   pub answer : Result (List ℕ) Refusal
-  pub given : IsGiven (of_session (shown_in form) kept) (Keeps (λ k. IsOk (shown_in form k)) kept) answer
+  pub given : IsGiven (of_session (shown_in form) kept) (Unplaced (Keeps (λ k. IsOk (shown_in form k)) kept)) answer
   pub journal : IfOk answer (λ state. Keeps HasJournal kept)
-  pub is : l ≡ left_at answer room
+  pub is : l ≡ bytes_left room answer
 
 -- the link of what is kept, for a caller with a result of this size; neither the objects of what is reported nor a map is known
 abbrev pub kept_in : Option Kept → Request → ℕ → Result RunOutput Refusal
@@ -95,6 +85,6 @@ LinkMayRunOut kept q size = (unread 3 q size ≡ None) × Keeps (MayRunOutToLink
 -- a status, and a result before and after the call
 pub record LeavesLink (kept : Option Kept) (q : Request) (old new : RunAnswer) (status : ℕ) : Type 0 where
   pub answer : Result LinkOutput Refusal
-  pub given : IsGiven (kept_in kept q old.size) (LinkMayRunOut kept q old.size) (results_or answer)
+  pub given : IsGiven (kept_in kept q old.size) (Unplaced (LinkMayRunOut kept q old.size)) (results_or answer)
   pub alone : IfOk answer (λ x. HasNoMap x)
   pub is : left_in status new ≡ answer_left answer (left_in 0 old)

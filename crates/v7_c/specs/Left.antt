@@ -3,14 +3,15 @@
 -- Bytes are given at the beginning of a buffer. If a buffer is too short nothing is written, and the answer has the number of bytes
 -- that are needed. A refusal is a number, with the place of what is refused.
 use Rattle.std.specs.declared.alloc.Global.{Global}
-use Rattle.std.specs.Prelude.{ℕ, ◌||◌, nat_lt, if◌then◌else◌, List, [], ◌++◌, drop, length, Option, Some, None, Vec, Result, Ok, Err}
+use Rattle.std.specs.Prelude.{◌≡◌, ◌≢◌, ℕ, ◌||◌, nat_lt, if◌then◌else◌, List, [], ◌++◌, drop, length, Option, Some, None, Vec, Result, Ok, Err}
 use Rattle.aout_core.specs.declared.header.Header.{Header}
 use Rattle.library_calls.specs.{declared.cause.Cause.Cause, declared.cause.Cause.TheVariants.Memory, declared.cause.Refusal.Refusal}
 use Rattle.library_calls.specs.{declared.parts.FileLists.FileLists, declared.parts.ObjectWord.ObjectWord}
 use Rattle.library_calls.specs.{declared.parts.PartLists.PartLists, declared.parts.SymbolRow.SymbolRow}
 use Rattle.library_calls.specs.{declared.remarks_call.RemarkRecord.RemarkRecord, declared.remarks_call.Remarks.Remarks}
-use Rattle.library_calls.specs.{Causes.number_of, Causes.word_of, ObjectParts.Pieces, ObjectParts.Whole}
-use Rattle.library_calls.specs.{ObjectParts.pieces_in, ObjectParts.whole_of, RemarkAnswers.Output, RemarkAnswers.remarks_in}
+use Rattle.library_calls.specs.{Causes.at, Causes.number_of, Causes.word_of, ObjectParts.Pieces, ObjectParts.Whole}
+use Rattle.library_calls.specs.{ObjectParts.pieces_in, ObjectParts.whole_of}
+use Rattle.library_calls.specs.RemarkAnswers.{IsRemarked, Output, remarks_in}
 use Rattle.v7_c.specs.{declared.answer.Answer.Answer, declared.answer.Counts.Counts, declared.answer.FileHeader.FileHeader}
 use Rattle.aout_core.specs.Refusals as memory
 
@@ -30,6 +31,31 @@ of_none cause = record { cause = cause; place = 0 }
 abbrev pub given : ℕ → ℕ → ℕ → Answer
 given fault size report_size = record { fault = fault; word = 0; place = 0; size = size; report_size = report_size }
 
+-- ---- an answer
+
+-- a refusal is the one that there is, or memory ran out, at a place where it may
+pub record IsRefusal {A : Type 0} (asked : Result A Refusal) (MayRunOut : ℕ → Type 0) (r : Refusal) : Type 0 where
+  pub same : number_of r.cause ≢ 50 → asked ≡ Err r
+  pub memory : number_of r.cause ≡ 50 → (r.cause ≡ Memory memory.refused) × MayRunOut r.place
+
+-- an answer is what is asked for, or a refusal
+abbrev pub IsGiven : {A : Type 0} → Result A Refusal → (ℕ → Type 0) → Result A Refusal → Type 0
+IsGiven asked MayRunOut (Ok x) = asked ≡ Ok x
+IsGiven asked MayRunOut (Err r) = IsRefusal asked MayRunOut r
+
+-- memory may run out, which has no place
+abbrev pub Unplaced : Type 0 → ℕ → Type 0
+Unplaced MayRunOut place = (place ≡ 0) × MayRunOut
+
+-- what a call leaves, by its answer
+pub record Leaves {A L : Type 0} (asked : Result A Refusal) (MayRunOut : ℕ → Type 0) (left_by : Result A Refusal → L) (l : L) :
+    Type 0 where
+  pub answer : Result A Refusal
+  pub given : IsGiven asked MayRunOut answer
+  pub is : l ≡ left_by answer
+
+-- ---- bytes, or their number
+
 -- the status, the answer, and what is in the buffer
 pub record Left : Type 0 where
   pub status : ℕ
@@ -39,17 +65,27 @@ pub record Left : Type 0 where
 abbrev pub left : ℕ → Answer → List ℕ → Left
 left status answer buffer = record { status = status; answer = answer; buffer = buffer }
 
--- what is left by a call that gives bytes
-abbrev pub left_by : Result (List ℕ) Cause → List ℕ → Left
-left_by (Err cause) buffer = left 2 (refused (of_none cause)) buffer
-left_by (Ok bytes) buffer =
+-- what is left in a buffer by a call that gives bytes
+abbrev pub bytes_left : List ℕ → Result (List ℕ) Refusal → Left
+bytes_left buffer (Err r) = left 2 (refused r) buffer
+bytes_left buffer (Ok bytes) =
     if nat_lt (length buffer) (length bytes) then left 2 (given 60 (length bytes) 0) buffer
     else left 0 (given 0 (length bytes) 0) (put_in buffer bytes)
 
+abbrev pub LeavesBytesAt : Result (List ℕ) Refusal → (ℕ → Type 0) → List ℕ → Left → Type 0
+LeavesBytesAt asked MayRunOut buffer l = Leaves asked MayRunOut (bytes_left buffer) l
+
+-- the same of a call whose refusals have no places
+abbrev pub LeavesBytes : Result (List ℕ) Cause → Type 0 → List ℕ → Left → Type 0
+LeavesBytes asked MayRunOut buffer l = LeavesBytesAt (at 0 asked) (Unplaced MayRunOut) buffer l
+
 -- what is left by a call that gives a number of bytes
-abbrev pub counted_by : Result ℕ Cause → Left
-counted_by (Err cause) = left 2 (refused (of_none cause)) []
-counted_by (Ok count) = left 0 (given 0 count 0) []
+abbrev pub count_left : Result ℕ Refusal → Left
+count_left (Err r) = left 2 (refused r) []
+count_left (Ok count) = left 0 (given 0 count 0) []
+
+abbrev pub LeavesCount : Result ℕ Cause → Type 0 → Left → Type 0
+LeavesCount asked MayRunOut l = Leaves (at 0 asked) (Unplaced MayRunOut) count_left l
 
 -- what is left by a call that gives nothing but its status, by the refusal, if there is one
 abbrev pub done_by : Option Refusal → Left
@@ -60,40 +96,37 @@ abbrev pub refusal_in : {A : Type 0} → Result A Refusal → Option Refusal
 refusal_in (Ok x) = None
 refusal_in (Err r) = Some r
 
--- what is left by a call for which memory ran out
-abbrev pub no_bytes : List ℕ → Left
-no_bytes buffer = left_by (Err (Memory memory.refused)) buffer
-
--- the same of a call whose refusals have places
-abbrev pub left_at : Result (List ℕ) Refusal → List ℕ → Left
-left_at (Err r) buffer = left 2 (refused r) buffer
-left_at (Ok bytes) buffer = left_by (Ok bytes) buffer
-
--- what it leaves if memory ran out, at this place
-abbrev pub no_bytes_at : ℕ → List ℕ → Left
-no_bytes_at place buffer = left_at (Err (record { cause = Memory memory.refused; place = place })) buffer
+-- ---- remarks
 
 -- the same with a second buffer, for records
-pub record BothLeft (A : Type 0) : Type 0 where
+pub record BothLeft : Type 0 where
   pub status : ℕ
   pub answer : Answer
   pub buffer : List ℕ
-  pub records : List A
+  pub records : List RemarkRecord
 
-abbrev pub both_left : {A : Type 0} → ℕ → Answer → List ℕ → List A → BothLeft A
+abbrev pub both_left : ℕ → Answer → List ℕ → List RemarkRecord → BothLeft
 both_left status answer buffer records = record { status = status; answer = answer; buffer = buffer; records = records }
 
 -- what is left by a call that gives bytes and records: both, or neither
-abbrev pub output_left : {A : Type 0} → Result (Output A) Refusal → List ℕ → List A → BothLeft A
-output_left (Err r) buffer records = both_left 2 (refused r) buffer records
-output_left (Ok x) buffer records =
+abbrev pub remarks_left : List ℕ → List RemarkRecord → Result (Output RemarkRecord) Refusal → BothLeft
+remarks_left buffer records (Err r) = both_left 2 (refused r) buffer records
+remarks_left buffer records (Ok x) =
     if nat_lt (length buffer) (length x.bytes) || nat_lt (length records) (length x.records)
     then both_left 2 (given 60 (length x.bytes) (length x.records)) buffer records
     else both_left x.status (given 0 (length x.bytes) (length x.records)) (put_in buffer x.bytes) (put_in records x.records)
 
--- what it leaves if memory ran out
-abbrev pub no_output : {A : Type 0} → ℕ → List ℕ → List A → BothLeft A
-no_output place buffer records = output_left (Err (record { cause = Memory memory.refused; place = place })) buffer records
+-- the remarks on these bytes; nothing is refused, but memory may run out
+abbrev pub AreRemarks : List ℕ → Result (Output RemarkRecord) Refusal → Type 0
+AreRemarks bytes (Ok x) = IsRemarked bytes x
+AreRemarks bytes (Err r) = r ≡ of_none (Memory memory.refused)
+
+pub record LeavesRemarks (bytes buffer : List ℕ) (records : List RemarkRecord) (l : BothLeft) : Type 0 where
+  pub answer : Result (Output RemarkRecord) Refusal
+  pub given : AreRemarks bytes answer
+  pub is : l ≡ remarks_left buffer records answer
+
+-- ---- parts of a file
 
 -- what taking an object apart leaves: its words and symbols, and how many there are
 pub record PartsLeft : Type 0 where
@@ -115,12 +148,15 @@ abbrev pub counts_of : Pieces → Counts
 counts_of p = record { text = length p.text; «data» = length p.«data»; symbols = length p.symbols; bss = p.bss }
 
 -- all parts, or none
-abbrev pub apart_left : Result Pieces Cause → List ObjectWord → List ObjectWord → List SymbolRow → PartsLeft
-apart_left (Err cause) text datas symbols = parts_left 2 (refused (of_none cause)) no_counts text datas symbols
-apart_left (Ok p) text datas symbols =
+abbrev pub apart_left : List ObjectWord → List ObjectWord → List SymbolRow → Result Pieces Refusal → PartsLeft
+apart_left text datas symbols (Err r) = parts_left 2 (refused r) no_counts text datas symbols
+apart_left text datas symbols (Ok p) =
     if nat_lt (length text) (length p.text) || (nat_lt (length datas) (length p.«data») || nat_lt (length symbols) (length p.symbols))
     then parts_left 2 (given 60 0 0) (counts_of p) text datas symbols
     else parts_left 0 (given 0 0 0) (counts_of p) (put_in text p.text) (put_in datas p.«data») (put_in symbols p.symbols)
+
+abbrev pub LeavesParts : Result Pieces Cause → Type 0 → List ObjectWord → List ObjectWord → List SymbolRow → PartsLeft → Type 0
+LeavesParts asked MayRunOut text datas symbols l = Leaves (at 0 asked) (Unplaced MayRunOut) (apart_left text datas symbols) l
 
 -- the words of a header
 abbrev pub header_of : Header → FileHeader
@@ -146,27 +182,36 @@ pub record FileLeft : Type 0 where
 abbrev pub file_left : FileHeader → PartsLeft → FileLeft
 file_left header parts = record { header = header; parts = parts }
 
-abbrev pub read_left : Result Whole Cause → List ObjectWord → List ObjectWord → List SymbolRow → FileLeft
-read_left (Err cause) text datas symbols = file_left no_header (apart_left (Err cause) text datas symbols)
-read_left (Ok f) text datas symbols = file_left (header_of f.header) (apart_left (Ok f.parts) text datas symbols)
+abbrev pub read_left : List ObjectWord → List ObjectWord → List SymbolRow → Result Whole Refusal → FileLeft
+read_left text datas symbols (Err r) = file_left no_header (apart_left text datas symbols (Err r))
+read_left text datas symbols (Ok f) = file_left (header_of f.header) (apart_left text datas symbols (Ok f.parts))
 
--- the results of the code as those of the definitions
-abbrev pub items_of : Result (Vec ℕ Global) Cause → Result (List ℕ) Cause
-items_of (Ok bytes) = Ok bytes.items
-items_of (Err cause) = Err cause
+abbrev pub LeavesFile : Result Whole Cause → Type 0 → List ObjectWord → List ObjectWord → List SymbolRow → FileLeft → Type 0
+LeavesFile asked MayRunOut text datas symbols l = Leaves (at 0 asked) (Unplaced MayRunOut) (read_left text datas symbols) l
+
+-- ---- the results of the code as those of the definitions
+
+abbrev pub view_of : {A B E : Type 0} → (B → A) → Result B E → Result A E
+view_of view (Ok x) = Ok (view x)
+view_of view (Err e) = Err e
+
+abbrev pub items : Vec ℕ Global → List ℕ
+items v = v.items
 
 abbrev pub bytes_or : Result (Vec ℕ Global) Refusal → Result (List ℕ) Refusal
-bytes_or (Ok bytes) = Ok bytes.items
-bytes_or (Err r) = Err r
+bytes_or r = view_of items r
 
-abbrev pub remarks_or : Result Remarks Cause → Result (Output RemarkRecord) Refusal
-remarks_or (Ok x) = Ok (remarks_in x)
-remarks_or (Err cause) = Err (of_none cause)
+abbrev pub bytes_of : Result (Vec ℕ Global) Cause → Result (List ℕ) Refusal
+bytes_of r = at 0 (view_of items r)
 
-abbrev pub pieces_or : Result PartLists Cause → Result Pieces Cause
-pieces_or (Ok p) = Ok (pieces_in p)
-pieces_or (Err cause) = Err cause
+abbrev pub count_of : Result ℕ Cause → Result ℕ Refusal
+count_of r = at 0 r
 
-abbrev pub wholes_or : Result FileLists Cause → Result Whole Cause
-wholes_or (Ok f) = Ok (whole_of f)
-wholes_or (Err cause) = Err cause
+abbrev pub remarks_of : Result Remarks Cause → Result (Output RemarkRecord) Refusal
+remarks_of r = at 0 (view_of remarks_in r)
+
+abbrev pub pieces_or : Result PartLists Cause → Result Pieces Refusal
+pieces_or r = at 0 (view_of pieces_in r)
+
+abbrev pub whole_or : Result FileLists Cause → Result Whole Refusal
+whole_or r = at 0 (view_of whole_of r)

@@ -4,7 +4,7 @@ use Rattle.link_maps.specs.{declared.limit_records.LimitRecord.LimitRecord, decl
 use Rattle.link_maps.specs.{declared.name_records.NameRecord.NameRecord, declared.records.ObjectRecord.ObjectRecord}
 use Rattle.link_maps.specs.{declared.records.UseRecord.UseRecord}
 use Rattle.library_calls.specs.{declared.map_call.LinkOutput.LinkOutput, declared.map_call.MapHead.MapHead}
-use Rattle.v7_c.specs.{Left.put_in, declared.map.MapAnswer.MapAnswer, declared.map.RecordCounts.RecordCounts}
+use Rattle.v7_c.specs.{Left.put_in, declared.map.MapAnswer.MapAnswer}
 
 -- what is in the struct
 pub record MapLeft : Type 0 where
@@ -32,6 +32,12 @@ left_in x = record {
 }
 
 -- how many records there are of each kind
+pub record RecordCounts : Type 0 where
+  pub objects : ℕ
+  pub names : ℕ
+  pub uses : ℕ
+  pub limits : ℕ
+
 abbrev pub counts_of : MapRecords → RecordCounts
 counts_of r = record {
   objects = length r.objects.items;

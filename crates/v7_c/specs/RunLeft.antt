@@ -3,20 +3,19 @@
 -- A request and a result begin with their sizes in bytes. A caller may have a shorter result, without the last fields: a link whose
 -- report is wanted as lines alone does not need them. So it is with the objects of what is reported. Fields that a result lacks stay as
 -- they are, but for those that every answer fills: the fault, its word and its place, and the sizes of file and report.
-use Rattle.std.specs.Prelude.{◌≡◌, ◌≢◌, ℕ, Bool, true, false, ◌||◌, ◌&&◌, not, nat_lt, nat_le, if◌then◌else◌, List, length, Result}
+use Rattle.std.specs.Prelude.{◌≡◌, ℕ, Bool, true, false, ◌||◌, ◌&&◌, not, nat_lt, nat_le, if◌then◌else◌, List, length, Result}
 use Rattle.std.specs.Prelude.{Option, None, Some, Ok, Err}
-use Rattle.aout_core.specs.Refusals.{refused}
 use Rattle.library_calls.specs.MapAnswers.{HasNoMap, IsMapAnswer, MapMayRunOut, MapOf, map_asked}
 use Rattle.library_calls.specs.RunAnswers.{RunOutput, link_run, results_of}
-use Rattle.library_calls.specs.declared.cause.Cause.TheVariants.{Memory, NoWant, ShortStruct}
+use Rattle.library_calls.specs.declared.cause.Cause.TheVariants.{NoWant, NotKept, ShortStruct}
 use Rattle.library_calls.specs.declared.run_call.Wants.{Wants}
 use Rattle.library_calls.specs.{declared.cause.Cause.Cause, declared.cause.Refusal.Refusal, declared.reported.ReportedName.ReportedName}
 use Rattle.library_calls.specs.{declared.map_call.LinkOutput.LinkOutput, Causes.number_of, Causes.word_of, FileAnswers.has_bit}
 use Rattle.library_calls.specs.{LinkAnswers.each_of, MemoryWanted.LinkMayRunOut}
-use Rattle.finding_objects.specs.declared.places.FindingPlace.{FindingPlace}
-use Rattle.v7_c.specs.MapLeft.{MapLeft, counted, no_records, left_in as map_left_in, counts_of as record_counts}
+use Rattle.library_calls.specs.declared.places.FindingPlace.{FindingPlace}
+use Rattle.v7_c.specs.MapLeft.{MapLeft, RecordCounts, counted, no_records, left_in as map_left_in, counts_of as record_counts}
 use Rattle.v7_c.specs.MapLeft.{filled as map_filled, is_short as map_is_short}
-use Rattle.v7_c.specs.{Left.of_none, Left.put_in, declared.run.RunCounts.RunCounts, declared.run.Request.Request, declared.run.RunAnswer.RunAnswer}
+use Rattle.v7_c.specs.{Left.IsRefusal, Left.of_none, Left.put_in, declared.run.Request.Request, declared.run.RunAnswer.RunAnswer}
 
 -- ---- what is asked for
 
@@ -37,11 +36,12 @@ is_enough wants size =
     nat_le 72 size && ((not (has_bit wants 2) || has_list size)
     && ((not (has_bit wants 4) || has_places size) && (not (has_bit wants 8) || has_map size)))
 
--- why a request cannot be read, where wants up to a number are known
+-- why a request cannot be read, by a call that has what wants up to a number stand for
 abbrev pub unread : ℕ → Request → ℕ → Option Cause
 unread most q size =
     if nat_lt q.size 64 then Some ShortStruct
-    else if nat_lt most q.wants then Some NoWant
+    else if nat_lt 15 q.wants then Some NoWant
+    else if nat_lt most q.wants then Some NotKept
     else if is_enough q.wants size then None
     else Some ShortStruct
 
@@ -72,10 +72,6 @@ map_in q size =
 abbrev pub MapRunsOut : Request → ℕ → ℕ → Type 0
 MapRunsOut q size place =
     (unread 15 q size ≡ None) × MapMayRunOut q.options q.entry.now q.forced.now (each_of q.objects.now) place
-
--- a refusal is that of what is asked for, or memory ran out at a place at which it may
-abbrev pub IsRefusal : {A : Type 0} → Result A Refusal → (ℕ → Type 0) → Refusal → Type 0
-IsRefusal asked MayRunOut r = (r.cause ≢ Memory refused → asked ≡ Err r) × (r.cause ≡ Memory refused → MayRunOut r.place)
 
 abbrev pub results_or : Result LinkOutput Refusal → Result RunOutput Refusal
 results_or (Ok x) = Ok (results_of x.run)
@@ -129,6 +125,13 @@ left_in status x = record {
 }
 
 -- how much there is for each buffer
+pub record RunCounts : Type 0 where
+  pub file : ℕ
+  pub report : ℕ
+  pub findings : ℕ
+  pub places : ℕ
+  pub records : RecordCounts
+
 abbrev pub counts_of : LinkOutput → RunCounts
 counts_of x = record {
   file = length x.run.file.items;

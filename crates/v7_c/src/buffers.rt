@@ -2,7 +2,7 @@
 ghost use Rattle.std.specs.Prelude.{◌≡◌, ◌≤◌, [], length, Ok};
 ghost use Rattle.library_calls.specs.ObjectParts.{pieces_in};
 ghost use Rattle.library_calls.specs.RemarkAnswers.{remarks_in};
-ghost use Rattle.v7_c.specs.Left.{done_by, refusal_in, apart_left, both_left, bytes_or, counted_by, counts_of, file_left, items_of, left, left_at, left_by, output_left, parts_left, pieces_or, put_in, read_left, remarks_or, wholes_or};
+ghost use Rattle.v7_c.specs.Left.{apart_left, both_left, bytes_left, bytes_of, bytes_or, count_left, count_of, counts_of, done_by, file_left, left, parts_left, pieces_or, put_in, read_left, refusal_in, refused, remarks_left, remarks_of, whole_or};
 
 use crate::answer::{Answer, Counts, FileHeader};
 use library_calls::{
@@ -20,19 +20,25 @@ pub(crate) fn put<T: Copy>(items: &[T], buffer: &mut [T])
     buffer[..items.len()].copy_from_slice(items);
 }
 
+/// Answers by a refusal.
+fn refuse(refusal: Refusal, answer: &mut Answer) -> u32
+    ensures status { result ≡ 2 }
+    ensures answer { answer.new ≡ refused refusal }
+{
+    *answer = Answer::refused(refusal);
+    2
+}
+
 /// Answers by a number of bytes.
 pub(crate) fn leave_count(count: Result<usize, Cause>, answer: &mut Answer) -> u32
-    ensures { left result answer.new [] ≡ counted_by count }
+    ensures { left result answer.new [] ≡ count_left (count_of count) }
 {
     match count {
         Ok(count) => {
             *answer = Answer::given(0, count, 0);
             0
         }
-        Err(cause) => {
-            *answer = Answer::refused(Refusal::from(cause));
-            2
-        }
+        Err(cause) => refuse(Refusal::from(cause), answer),
     }
 }
 
@@ -45,16 +51,13 @@ pub(crate) fn leave_done(done: Result<(), Refusal>, answer: &mut Answer) -> u32
             *answer = Answer::given(0, 0, 0);
             0
         }
-        Err(refusal) => {
-            *answer = Answer::refused(refusal);
-            2
-        }
+        Err(refusal) => refuse(refusal, answer),
     }
 }
 
 /// Writes bytes into the buffer, if they fit.
 fn leave_all(bytes: &[u8], buffer: &mut [u8], answer: &mut Answer) -> u32
-    ensures { left result answer.new buffer.new ≡ left_by (Ok bytes.now) buffer.old }
+    ensures { left result answer.new buffer.new ≡ bytes_left buffer.old (Ok bytes.now) }
 {
     if buffer.len() < bytes.len() {
         *answer = Answer::given(NO_ROOM, bytes.len(), 0);
@@ -71,31 +74,25 @@ pub(crate) fn leave_bytes(
     buffer: &mut [u8],
     answer: &mut Answer,
 ) -> u32
-    ensures { left result answer.new buffer.new ≡ left_by (items_of bytes) buffer.old }
+    ensures { left result answer.new buffer.new ≡ bytes_left buffer.old (bytes_of bytes) }
 {
     match bytes {
         Ok(bytes) => leave_all(&bytes, buffer, answer),
-        Err(cause) => {
-            *answer = Answer::refused(Refusal::from(cause));
-            2
-        }
+        Err(cause) => refuse(Refusal::from(cause), answer),
     }
 }
 
-/// Writes bytes into the buffer, if they are not refused at some place and they fit.
+/// The same of bytes that are refused at some place.
 pub(crate) fn leave_bytes_at(
     bytes: Result<Vec<u8>, Refusal>,
     buffer: &mut [u8],
     answer: &mut Answer,
 ) -> u32
-    ensures { left result answer.new buffer.new ≡ left_at (bytes_or bytes) buffer.old }
+    ensures { left result answer.new buffer.new ≡ bytes_left buffer.old (bytes_or bytes) }
 {
     match bytes {
         Ok(bytes) => leave_all(&bytes, buffer, answer),
-        Err(refusal) => {
-            *answer = Answer::refused(refusal);
-            2
-        }
+        Err(refusal) => refuse(refusal, answer),
     }
 }
 
@@ -107,7 +104,7 @@ fn leave_all_remarks(
     answer: &mut Answer,
 ) -> u32
     ensures { both_left result answer.new texts.new records.new
-        ≡ output_left (Ok (remarks_in remarks.now)) texts.old records.old }
+        ≡ remarks_left texts.old records.old (Ok (remarks_in remarks.now)) }
 {
     let size = remarks.texts.len();
     let count = remarks.records.len();
@@ -129,14 +126,11 @@ pub(crate) fn leave_remarks(
     answer: &mut Answer,
 ) -> u32
     ensures { both_left result answer.new texts.new records.new
-        ≡ output_left (remarks_or remarks) texts.old records.old }
+        ≡ remarks_left texts.old records.old (remarks_of remarks) }
 {
     match remarks {
         Ok(remarks) => leave_all_remarks(&remarks, texts, records, answer),
-        Err(cause) => {
-            *answer = Answer::refused(Refusal::from(cause));
-            2
-        }
+        Err(cause) => refuse(Refusal::from(cause), answer),
     }
 }
 
@@ -161,7 +155,7 @@ fn leave_lists(
     answer: &mut Answer,
 ) -> u32
     ensures { parts_left result answer.new (counts_of (pieces_in parts.now)) text.new data_words.new
-        symbols.new ≡ apart_left (Ok (pieces_in parts.now)) text.old data_words.old symbols.old }
+        symbols.new ≡ apart_left text.old data_words.old symbols.old (Ok (pieces_in parts.now)) }
 {
     if text.len() < parts.text.len()
         || data_words.len() < parts.data.len()
@@ -186,7 +180,7 @@ pub(crate) fn leave_parts(
     answer: &mut Answer,
 ) -> (u32, Counts)
     ensures { parts_left result.0 answer.new result.1 text.new data_words.new symbols.new
-        ≡ apart_left (pieces_or parts) text.old data_words.old symbols.old }
+        ≡ apart_left text.old data_words.old symbols.old (pieces_or parts) }
 {
     match parts {
         Ok(parts) => {
@@ -194,14 +188,13 @@ pub(crate) fn leave_parts(
             (status, counts_of(&parts))
         }
         Err(cause) => {
-            *answer = Answer::refused(Refusal::from(cause));
             let none = Counts {
                 text: 0,
                 data: 0,
                 symbols: 0,
                 bss: 0,
             };
-            (2, none)
+            (refuse(Refusal::from(cause), answer), none)
         }
     }
 }
@@ -217,7 +210,7 @@ pub(crate) fn leave_file(
 ) -> (u32, Counts)
     ensures { file_left header.new
         (parts_left result.0 answer.new result.1 text.new data_words.new symbols.new)
-        ≡ read_left (wholes_or file) text.old data_words.old symbols.old }
+        ≡ read_left text.old data_words.old symbols.old (whole_or file) }
 {
     match file {
         Ok(file) => {

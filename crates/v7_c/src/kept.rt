@@ -5,7 +5,8 @@ ghost use Rattle.library_calls.specs.KeptAnswers.{AddsBytes, HasJournal, MayRunO
 ghost use Rattle.library_calls.specs.MapAnswers.{HasNoMap};
 ghost use Rattle.library_calls.specs.RunAnswers.{results_of};
 ghost use Rattle.library_calls.specs.declared.cause.Cause.TheVariants.{Memory};
-ghost use Rattle.v7_c.specs.KeptLeft.{Begins, Both, IsGiven, Keeps, LeavesLink, LinkMayRunOut, beginning, kept_in, of_session, kept_by};
+ghost use Rattle.v7_c.specs.KeptLeft.{Begins, Both, Keeps, LeavesLink, LinkMayRunOut, beginning, kept_in, of_session, kept_by};
+ghost use Rattle.v7_c.specs.Left.{IsGiven, Unplaced};
 ghost use Rattle.v7_c.specs.RunLeft.{results_or, wants_of};
 
 use crate::handle::Handle;
@@ -133,7 +134,7 @@ fn link_for(
     size: usize,
 ) -> Result<LinkOutput, Refusal>
     ensures given { IsGiven (kept_in (kept_by handle.old) request.now size)
-        (LinkMayRunOut (kept_by handle.old) request.now size) (results_or result) }
+        (Unplaced (LinkMayRunOut (kept_by handle.old) request.now size)) (results_or result) }
     ensures alone { IfOk result (λ given. HasNoMap given) }
     ensures unchanged { kept_by handle.new ≡ kept_by handle.old }
 {
@@ -155,7 +156,7 @@ pub(crate) fn link(
     ensures unchanged { kept_by handle.new ≡ kept_by handle.old }
 {
     let given = link_for(alloc, handle, request, answer.size);
-    leave(answer, given)
+    leave(alloc, answer, given)
 }
 
 /// Ends the session, if one is begun.

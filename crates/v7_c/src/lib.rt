@@ -13,21 +13,16 @@ mod map;
 mod run;
 mod slot;
 
-ghost use Rattle.std.specs.Prelude.{◌≡◌, ◌≢◌, ◌⊎◌, ◌+◌, ◌-◌, ◌^◌, ◌<◌, min, [], None, Ok, Err, IsOk};
-ghost use Rattle.aout_core.specs.Refusals.{refused};
-ghost use Rattle.disassemblies.specs.Columns.{plain_disassembly};
-ghost use Rattle.library_calls.specs.declared.cause.Cause.TheVariants.{Memory};
-ghost use Rattle.library_calls.specs.FileAnswers.{checked_in, disassembled_in, names_in, sizes_in, stripped_in};
+ghost use Rattle.std.specs.Prelude.{◌≡◌, ◌≢◌, ◌⊎◌, ◌+◌, ◌-◌, ◌^◌, ◌<◌, min, [], None, IsOk};
+ghost use Rattle.library_calls.specs.FileAnswers.{checked_in, disassembled_in, names_in, sizes_in, stripped_in, words_shown};
 ghost use Rattle.library_calls.specs.GnuAnswers.{ConversionMayRunOut, converted_in};
 ghost use Rattle.library_calls.specs.ListingAnswers.{DescribedMayRunOut, described_in, listed_in};
 ghost use Rattle.library_calls.specs.MemoryWanted.{HasBody};
 ghost use Rattle.library_calls.specs.ObjectParts.{file_for, made_of, parts_in, pieces, whole_in};
-ghost use Rattle.library_calls.specs.RemarkAnswers.{IsRemarked, Output};
-ghost use Rattle.library_calls.specs.declared.remarks_call.RemarkRecord.{RemarkRecord};
 ghost use Rattle.library_calls.specs.Sizes.{IsMostOfMaps, IsMostOfRuns, IsMostOfSessions, most_of};
 ghost use Rattle.v7_c.specs.KeptLeft.{LeavesAdded, LeavesBegun, LeavesLink, LeavesShown, LeavesWithdrawn, kept_by};
 ghost use Rattle.v7_c.specs.RunLeft.{LeavesRun};
-ghost use Rattle.v7_c.specs.Left.{apart_left, both_left, counted_by, file_left, left, left_at, left_by, no_bytes, no_bytes_at, no_output, output_left, parts_left, read_left};
+ghost use Rattle.v7_c.specs.Left.{LeavesBytes, LeavesBytesAt, LeavesCount, LeavesFile, LeavesParts, LeavesRemarks, both_left, file_left, left, parts_left};
 
 use crate::answer::{Answer, Counts, FileHeader};
 use crate::buffers::{
@@ -47,28 +42,26 @@ pub extern "C" fn v7_version() -> u32
 }
 
 /// Checks an object, and gives how many bytes it takes.
+#[tactic(auto, using(crate::proofs::LeftLemmas::count_leaves))]
 #[unsafe(no_mangle)]
 pub extern "C" fn v7_check(alloc: Global, bytes: &[u8], answer: &mut Answer) -> u32
-    ensures value { answer.new.fault ≢ 50
-        → left result answer.new [] ≡ counted_by (checked_in bytes.now) }
-    ensures memory { answer.new.fault ≡ 50 → left result answer.new [] ≡ no_bytes [] }
-    ensures ran_out { answer.new.fault ≡ 50 → HasBody bytes.now }
+    ensures { LeavesCount (checked_in bytes.now) (HasBody bytes.now) (left result answer.new []) }
 {
     leave_count(library_calls::check(alloc, bytes), answer)
 }
 
 /// Strips a file.
+#[tactic(auto, using(crate::proofs::LeftLemmas::bytes_leave))]
 #[unsafe(no_mangle)]
 pub extern "C" fn v7_strip(alloc: Global, bytes: &[u8], room: &mut [u8], answer: &mut Answer) -> u32
-    ensures value { answer.new.fault ≢ 50
-        → left result answer.new room.new ≡ left_by (stripped_in bytes.now) room.old }
-    ensures memory { answer.new.fault ≡ 50 → left result answer.new room.new ≡ no_bytes room.old }
-    ensures ran_out { answer.new.fault ≡ 50 → IsOk (stripped_in bytes.now) }
+    ensures { LeavesBytes (stripped_in bytes.now) (IsOk (stripped_in bytes.now)) room.old
+        (left result answer.new room.new) }
 {
     leave_bytes(library_calls::strip(alloc, bytes), room, answer)
 }
 
 /// Writes the lines of nm for a file.
+#[tactic(auto, using(crate::proofs::LeftLemmas::bytes_leave))]
 #[unsafe(no_mangle)]
 pub extern "C" fn v7_nm(
     alloc: Global,
@@ -77,10 +70,8 @@ pub extern "C" fn v7_nm(
     room: &mut [u8],
     answer: &mut Answer,
 ) -> u32
-    ensures value { answer.new.fault ≢ 50
-        → left result answer.new room.new ≡ left_by (names_in options bytes.now) room.old }
-    ensures memory { answer.new.fault ≡ 50 → left result answer.new room.new ≡ no_bytes room.old }
-    ensures ran_out { answer.new.fault ≡ 50 → IsOk (names_in options bytes.now) }
+    ensures { LeavesBytes (names_in options bytes.now) (IsOk (names_in options bytes.now)) room.old
+        (left result answer.new room.new) }
 {
     leave_bytes(
         library_calls::list_symbols(alloc, options, bytes),
@@ -90,17 +81,17 @@ pub extern "C" fn v7_nm(
 }
 
 /// Writes the line of size for a file.
+#[tactic(auto, using(crate::proofs::LeftLemmas::bytes_leave))]
 #[unsafe(no_mangle)]
 pub extern "C" fn v7_size(alloc: Global, bytes: &[u8], room: &mut [u8], answer: &mut Answer) -> u32
-    ensures value { answer.new.fault ≢ 50
-        → left result answer.new room.new ≡ left_by (sizes_in bytes.now) room.old }
-    ensures memory { answer.new.fault ≡ 50 → left result answer.new room.new ≡ no_bytes room.old }
-    ensures ran_out { answer.new.fault ≡ 50 → IsOk (sizes_in bytes.now) }
+    ensures { LeavesBytes (sizes_in bytes.now) (IsOk (sizes_in bytes.now)) room.old
+        (left result answer.new room.new) }
 {
     leave_bytes(library_calls::show_sizes(alloc, bytes), room, answer)
 }
 
 /// Shows the text of a file as instructions.
+#[tactic(auto, using(crate::proofs::LeftLemmas::bytes_leave))]
 #[unsafe(no_mangle)]
 pub extern "C" fn v7_disassemble(
     alloc: Global,
@@ -108,15 +99,14 @@ pub extern "C" fn v7_disassemble(
     room: &mut [u8],
     answer: &mut Answer,
 ) -> u32
-    ensures value { answer.new.fault ≢ 50
-        → left result answer.new room.new ≡ left_by (disassembled_in bytes.now) room.old }
-    ensures memory { answer.new.fault ≡ 50 → left result answer.new room.new ≡ no_bytes room.old }
-    ensures ran_out { answer.new.fault ≡ 50 → IsOk (disassembled_in bytes.now) }
+    ensures { LeavesBytes (disassembled_in bytes.now) (IsOk (disassembled_in bytes.now)) room.old
+        (left result answer.new room.new) }
 {
     leave_bytes(library_calls::disassemble(alloc, bytes), room, answer)
 }
 
 /// Shows words as instructions, the first of them at an address.
+#[tactic(auto, using(crate::proofs::LeftLemmas::bytes_leave))]
 #[unsafe(no_mangle)]
 pub extern "C" fn v7_disassemble_words(
     alloc: Global,
@@ -125,10 +115,8 @@ pub extern "C" fn v7_disassemble_words(
     room: &mut [u8],
     answer: &mut Answer,
 ) -> u32
-    ensures value { answer.new.fault ≢ 50 → left result answer.new room.new
-        ≡ left_by (Ok (plain_disassembly address words.now)) room.old }
-    ensures memory { answer.new.fault ≡ 50 → left result answer.new room.new ≡ no_bytes room.old }
-    ensures ran_out { answer.new.fault ≡ 50 → words.now ≢ [] }
+    ensures { LeavesBytes (words_shown address words.now) (words.now ≢ []) room.old
+        (left result answer.new room.new) }
 {
     leave_bytes(
         library_calls::disassemble_words(alloc, address, words),
@@ -138,17 +126,17 @@ pub extern "C" fn v7_disassemble_words(
 }
 
 /// Lists a file.
+#[tactic(auto, using(crate::proofs::LeftLemmas::bytes_leave))]
 #[unsafe(no_mangle)]
 pub extern "C" fn v7_list(alloc: Global, bytes: &[u8], room: &mut [u8], answer: &mut Answer) -> u32
-    ensures value { answer.new.fault ≢ 50
-        → left result answer.new room.new ≡ left_by (listed_in bytes.now) room.old }
-    ensures memory { answer.new.fault ≡ 50 → left result answer.new room.new ≡ no_bytes room.old }
-    ensures ran_out { answer.new.fault ≡ 50 → IsOk (listed_in bytes.now) }
+    ensures { LeavesBytes (listed_in bytes.now) (IsOk (listed_in bytes.now)) room.old
+        (left result answer.new room.new) }
 {
     leave_bytes(library_calls::list_file(alloc, bytes), room, answer)
 }
 
 /// Makes the file of a listing.
+#[tactic(auto, using(crate::proofs::LeftLemmas::bytes_leave_at))]
 #[unsafe(no_mangle)]
 pub extern "C" fn v7_from_listing(
     alloc: Global,
@@ -156,16 +144,14 @@ pub extern "C" fn v7_from_listing(
     room: &mut [u8],
     answer: &mut Answer,
 ) -> u32
-    ensures value { answer.new.fault ≢ 50
-        → left result answer.new room.new ≡ left_at (described_in text.now) room.old }
-    ensures memory { answer.new.fault ≡ 50
-        → left result answer.new room.new ≡ no_bytes_at answer.new.place room.old }
-    ensures ran_out { answer.new.fault ≡ 50 → DescribedMayRunOut text.now answer.new.place }
+    ensures { LeavesBytesAt (described_in text.now) (DescribedMayRunOut text.now) room.old
+        (left result answer.new room.new) }
 {
     leave_bytes_at(library_calls::from_listing(alloc, text), room, answer)
 }
 
 /// Converts an object of GNU's assembler.
+#[tactic(auto, using(crate::proofs::LeftLemmas::bytes_leave_at))]
 #[unsafe(no_mangle)]
 pub extern "C" fn v7_from_gnu(
     alloc: Global,
@@ -174,17 +160,14 @@ pub extern "C" fn v7_from_gnu(
     room: &mut [u8],
     answer: &mut Answer,
 ) -> u32
-    ensures value { answer.new.fault ≢ 50
-        → left result answer.new room.new ≡ left_at (converted_in options bytes.now) room.old }
-    ensures memory { answer.new.fault ≡ 50
-        → left result answer.new room.new ≡ no_bytes_at answer.new.place room.old }
-    ensures ran_out { answer.new.fault ≡ 50
-        → ConversionMayRunOut options bytes.now answer.new.place }
+    ensures { LeavesBytesAt (converted_in options bytes.now) (ConversionMayRunOut options bytes.now)
+        room.old (left result answer.new room.new) }
 {
     leave_bytes_at(library_calls::from_gnu(alloc, options, bytes), room, answer)
 }
 
 /// Tells what is wrong and odd in a file.
+#[tactic(auto, using(crate::proofs::LeftLemmas::remarks_leave))]
 #[unsafe(no_mangle)]
 pub extern "C" fn v7_remarks(
     alloc: Global,
@@ -193,10 +176,8 @@ pub extern "C" fn v7_remarks(
     remarks: &mut [RemarkRecord],
     answer: &mut Answer,
 ) -> u32
-    ensures value { answer.new.fault ≢ 50 → (x : Output RemarkRecord) × IsRemarked bytes.now x
-        × (both_left result answer.new texts.new remarks.new ≡ output_left (Ok x) texts.old remarks.old) }
-    ensures memory { answer.new.fault ≡ 50 → both_left result answer.new texts.new remarks.new
-        ≡ no_output 0 texts.old remarks.old }
+    ensures { LeavesRemarks bytes.now texts.old remarks.old
+        (both_left result answer.new texts.new remarks.new) }
 {
     leave_remarks(
         library_calls::remarks_of(alloc, bytes),
@@ -226,7 +207,7 @@ pub extern "C" fn v7_run(alloc: Global, request: &Request<'_>, answer: &mut RunA
 }
 
 /// Makes an object of its parts.
-#[tactic(auto, using(crate::proofs::LeftLemmas::made_memory))]
+#[tactic(auto, using(crate::proofs::LeftLemmas::bytes_leave))]
 #[unsafe(no_mangle)]
 pub extern "C" fn v7_make(
     alloc: Global,
@@ -237,11 +218,9 @@ pub extern "C" fn v7_make(
     room: &mut [u8],
     answer: &mut Answer,
 ) -> u32
-    ensures value { answer.new.fault ≢ 50 → left result answer.new room.new
-        ≡ left_by (made_of (pieces text.now data_words.now bss symbols.now)) room.old }
-    ensures memory { answer.new.fault ≡ 50 → left result answer.new room.new ≡ no_bytes room.old }
-    ensures ran_out { answer.new.fault ≡ 50
-        → IsOk (file_for (pieces text.now data_words.now bss symbols.now)) }
+    ensures { LeavesBytes (made_of (pieces text.now data_words.now bss symbols.now))
+        (IsOk (file_for (pieces text.now data_words.now bss symbols.now))) room.old
+        (left result answer.new room.new) }
 {
     let parts = ObjectParts {
         text,
@@ -253,6 +232,7 @@ pub extern "C" fn v7_make(
 }
 
 /// Takes an object apart.
+#[tactic(auto, using(crate::proofs::LeftLemmas::parts_leave))]
 #[unsafe(no_mangle)]
 pub extern "C" fn v7_take_apart(
     alloc: Global,
@@ -263,12 +243,9 @@ pub extern "C" fn v7_take_apart(
     counts: &mut Counts,
     answer: &mut Answer,
 ) -> u32
-    ensures value { answer.new.fault ≢ 50
-        → parts_left result answer.new counts.new text.new data_words.new symbols.new
-        ≡ apart_left (parts_in bytes.now) text.old data_words.old symbols.old }
-    ensures memory { answer.new.fault ≡ 50 → parts_left result answer.new counts.new text.new
-        data_words.new symbols.new ≡ apart_left (Err (Memory refused)) text.old data_words.old symbols.old }
-    ensures ran_out { answer.new.fault ≡ 50 → HasBody bytes.now ⊎ IsOk (parts_in bytes.now) }
+    ensures { LeavesParts (parts_in bytes.now) (HasBody bytes.now ⊎ IsOk (parts_in bytes.now))
+        text.old data_words.old symbols.old
+        (parts_left result answer.new counts.new text.new data_words.new symbols.new) }
 {
     let parts = library_calls::take_apart(alloc, bytes);
     let (status, there) = leave_parts(parts, text, data_words, symbols, answer);
@@ -277,6 +254,7 @@ pub extern "C" fn v7_take_apart(
 }
 
 /// Reads a file, an object or another.
+#[tactic(auto, using(crate::proofs::LeftLemmas::file_leaves))]
 #[unsafe(no_mangle)]
 pub extern "C" fn v7_read(
     alloc: Global,
@@ -288,13 +266,9 @@ pub extern "C" fn v7_read(
     counts: &mut Counts,
     answer: &mut Answer,
 ) -> u32
-    ensures value { answer.new.fault ≢ 50 → file_left header.new
-        (parts_left result answer.new counts.new text.new data_words.new symbols.new)
-        ≡ read_left (whole_in bytes.now) text.old data_words.old symbols.old }
-    ensures memory { answer.new.fault ≡ 50 → file_left header.new
-        (parts_left result answer.new counts.new text.new data_words.new symbols.new)
-        ≡ read_left (Err (Memory refused)) text.old data_words.old symbols.old }
-    ensures ran_out { answer.new.fault ≡ 50 → IsOk (whole_in bytes.now) }
+    ensures { LeavesFile (whole_in bytes.now) (IsOk (whole_in bytes.now)) text.old data_words.old
+        symbols.old
+        (file_left header.new (parts_left result answer.new counts.new text.new data_words.new symbols.new)) }
 {
     let file = library_calls::read_apart(alloc, bytes);
     let (status, there) = leave_file(file, header, text, data_words, symbols, answer);

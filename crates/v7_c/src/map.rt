@@ -1,6 +1,6 @@
 //! The buffers for the map of a link.
 ghost use Rattle.std.specs.Prelude.{◌≡◌, false};
-ghost use Rattle.v7_c.specs.MapLeft.{counted, counts_of, filled, is_short, left_in, no_records};
+ghost use Rattle.v7_c.specs.MapLeft.{counted, counts_of, filled, is_short, left_in};
 
 use crate::buffers::put;
 use library_calls::{
@@ -23,49 +23,15 @@ pub struct MapAnswer<'a> {
     pub limits: &'a mut [LimitRecord],
 }
 
-/// How many records there are of each kind.
-#[derive(Clone, Copy)]
-pub(crate) struct RecordCounts {
-    objects: usize,
-    names: usize,
-    uses: usize,
-    limits: usize,
-}
-
-impl RecordCounts {
-    pub(crate) fn of(records: &MapRecords) -> RecordCounts
-        ensures { result ≡ counts_of records.now }
-    {
-        RecordCounts {
-            objects: records.objects.len(),
-            names: records.names.len(),
-            uses: records.uses.len(),
-            limits: records.limits.len(),
-        }
-    }
-
-    /// None of any kind.
-    pub(crate) fn none() -> RecordCounts
-        ensures { result ≡ no_records }
-    {
-        RecordCounts {
-            objects: 0,
-            names: 0,
-            uses: 0,
-            limits: 0,
-        }
-    }
-}
-
 impl MapAnswer<'_> {
     /// Tells how many records there are.
-    pub(crate) fn count(&mut self, counts: &RecordCounts)
-        ensures { left_in self.new ≡ counted counts.now (left_in self.old) }
+    pub(crate) fn count(&mut self, records: &MapRecords)
+        ensures { left_in self.new ≡ counted (counts_of records.now) (left_in self.old) }
     {
-        self.object_count = counts.objects;
-        self.name_count = counts.names;
-        self.use_count = counts.uses;
-        self.limit_count = counts.limits;
+        self.object_count = records.objects.len();
+        self.name_count = records.names.len();
+        self.use_count = records.uses.len();
+        self.limit_count = records.limits.len();
     }
 
     /// Whether a buffer is too short.

@@ -1,17 +1,19 @@
 //! A link: what is asked for, and what it gives, each a struct that begins with its size.
 ghost use Rattle.std.specs.Prelude.{◌≡◌, ◌<◌, false};
 ghost use Rattle.library_calls.specs.FileAnswers.{has_bit};
-ghost use Rattle.v7_c.specs.RunLeft.{IsAnswer, LeavesRun, answer_left, answered, counts_of, filled, has_list, has_map, has_places, is_enough, is_short, left_in, nothing, output_left, unread, wants_of};
+ghost use Rattle.v7_c.specs.RunLeft.{IsAnswer, LeavesRun, answer_left, answered, counts_of, filled, has_list, has_map, has_places, is_enough, is_short, left_in, output_left, unread, wants_of};
 
 use crate::answer::Answer;
 use crate::buffers::{NO_ROOM, put};
-use crate::map::{MapAnswer, RecordCounts};
+use crate::map::MapAnswer;
 use library_calls::{
-    Cause, FindingPlace, LinkOutput, LinkRequest, ObjectBytes, Refusal, ReportedName, Wants,
-    map_link, run_link,
+    Cause, FindingPlace, LinkOutput, LinkRequest, ObjectBytes, Refusal, ReportedName, RunResult,
+    Wants, map_link, run_link,
 };
 use std::alloc::Global;
 
+/// All wants.
+const ALL: u32 = 15;
 /// The size of a request.
 const REQUEST: usize = 64;
 /// The size of a result for a report that is wanted as lines.
@@ -86,14 +88,16 @@ fn is_enough(wants: u32, size: usize) -> bool
         && (!is_wanted(wants, 8) || has_map(size))
 }
 
-/// Why a request cannot be read, with a result of this size, where wants up to `most` are known.
+/// Why a request cannot be read, with a result of this size, by a call that has what wants up to `most` stand for.
 pub(crate) fn unread(request: &Request<'_>, size: usize, most: u32) -> Option<Cause>
     ensures { result ≡ unread most request.now size }
 {
     if request.size < REQUEST {
         Some(Cause::ShortStruct)
-    } else if most < request.wants {
+    } else if ALL < request.wants {
         Some(Cause::NoWant)
+    } else if most < request.wants {
+        Some(Cause::NotKept)
     } else if is_enough(request.wants, size) {
         None
     } else {
@@ -117,7 +121,7 @@ pub(crate) fn wants_of(wants: u32) -> Wants
 fn answer_to(alloc: Global, request: &Request<'_>, size: usize) -> Result<LinkOutput, Refusal>
     ensures { IsAnswer request.now size result }
 {
-    if let Some(cause) = unread(request, size, 15) {
+    if let Some(cause) = unread(request, size, ALL) {
         return Err(Refusal::from(cause));
     }
     let link = LinkRequest {
@@ -131,42 +135,6 @@ fn answer_to(alloc: Global, request: &Request<'_>, size: usize) -> Result<LinkOu
     }
     let run = run_link(alloc, &link, wants, request.objects)?;
     Ok(LinkOutput::without_map(alloc, run))
-}
-
-/// How much there is for each buffer.
-#[derive(Clone, Copy)]
-struct RunCounts {
-    file: usize,
-    report: usize,
-    findings: usize,
-    places: usize,
-    records: RecordCounts,
-}
-
-/// None for each buffer.
-fn nothing() -> RunCounts
-    ensures { result ≡ nothing }
-{
-    RunCounts {
-        file: 0,
-        report: 0,
-        findings: 0,
-        places: 0,
-        records: RecordCounts::none(),
-    }
-}
-
-fn counts_of(given: &LinkOutput) -> RunCounts
-    ensures { result ≡ counts_of given.now }
-{
-    let run = &given.run;
-    RunCounts {
-        file: run.file.len(),
-        report: run.report.len(),
-        findings: run.findings.len(),
-        places: run.places.len(),
-        records: RecordCounts::of(&given.records),
-    }
 }
 
 /// Whether a result of this size has the fields of a list.
@@ -190,24 +158,24 @@ fn has_map(size: usize) -> bool
     MAP_RESULT <= size
 }
 
-/// Answers by a status, by a fault with its word and its place, and by sizes.
-fn answer_by(answer: &mut RunAnswer<'_>, status: u32, said: &Answer, counts: &RunCounts) -> u32
+/// Answers by a status, by a fault with its word and its place, and by the sizes of what there is.
+fn answer_by(answer: &mut RunAnswer<'_>, status: u32, said: &Answer, given: &LinkOutput) -> u32
     ensures { left_in result answer.new ≡ answered status said.now.fault said.now.word said.now.place
-        counts.now (left_in 0 answer.old) }
+        (counts_of given.now) (left_in 0 answer.old) }
 {
     answer.fault = said.fault;
     answer.word = said.word;
     answer.place = said.place;
-    answer.file_size = counts.file;
-    answer.report_size = counts.report;
+    answer.file_size = given.run.file.len();
+    answer.report_size = given.run.report.len();
     if has_list(answer.size) {
-        answer.finding_count = counts.findings;
+        answer.finding_count = given.run.findings.len();
     }
     if has_places(answer.size) {
-        answer.place_count = counts.places;
+        answer.place_count = given.run.places.len();
     }
     if has_map(answer.size) {
-        answer.map.count(&counts.records);
+        answer.map.count(&given.records);
     }
     status
 }
@@ -247,22 +215,29 @@ fn fill(answer: &mut RunAnswer<'_>, given: &LinkOutput)
 fn leave_output(answer: &mut RunAnswer<'_>, given: &LinkOutput) -> u32
     ensures { left_in result answer.new ≡ output_left given.now (left_in 0 answer.old) }
 {
-    let counts = counts_of(given);
     if is_short(given, answer) {
-        return answer_by(answer, 2, &Answer::given(NO_ROOM, 0, 0), &counts);
+        return answer_by(answer, 2, &Answer::given(NO_ROOM, 0, 0), given);
     }
     fill(answer, given);
     let status = u32::from(given.run.status);
-    answer_by(answer, status, &Answer::given(0, 0, 0), &counts)
+    answer_by(answer, status, &Answer::given(0, 0, 0), given)
 }
 
 /// Writes what there is, or why there is nothing.
-pub(crate) fn leave(answer: &mut RunAnswer<'_>, given: Result<LinkOutput, Refusal>) -> u32
+#[tactic(auto, using(crate::proofs::RunLemmas::none_counted))]
+pub(crate) fn leave(
+    alloc: Global,
+    answer: &mut RunAnswer<'_>,
+    given: Result<LinkOutput, Refusal>,
+) -> u32
     ensures { left_in result answer.new ≡ answer_left given (left_in 0 answer.old) }
 {
     match given {
         Ok(given) => leave_output(answer, &given),
-        Err(refusal) => answer_by(answer, 2, &Answer::refused(refusal), &nothing()),
+        Err(refusal) => {
+            let nothing = LinkOutput::without_map(alloc, RunResult::nothing(alloc));
+            answer_by(answer, 2, &Answer::refused(refusal), &nothing)
+        }
     }
 }
 
@@ -271,5 +246,5 @@ pub(crate) fn run(alloc: Global, request: &Request<'_>, answer: &mut RunAnswer<'
     ensures { LeavesRun request.now answer.old answer.new result }
 {
     let given = answer_to(alloc, request, answer.size);
-    leave(answer, given)
+    leave(alloc, answer, given)
 }

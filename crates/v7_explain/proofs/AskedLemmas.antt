@@ -1,15 +1,16 @@
 -- A call as the code has it; and what a map is asked for.
 use Rattle.std.proofs.Common.{◌≡◌, ℕ, ◌-◌, ◌≤◌, Bool, true, List, [], ◌∷◌, ◌++◌, length, map, take, drop, get_or, Option, Some, None}
-use Rattle.std.proofs.Common.{refl, sym, ap, ◌∙◌, subst, inl, inr, arith}
+use Rattle.std.proofs.Common.{refl, sym, ap, ◌∙◌, subst, inl, arith}
 use Rattle.std.proofs.lemmas.List.{take_all}
 use Rattle.std.specs.Prelude.{Ok, Err, Result, String, string_bytes, if◌then◌else◌}
 use Rattle.std.specs.declared.alloc.Global.{Global}
 use Rattle.aout_core.specs.Refusals.{refused}
-use Rattle.surroundings.proofs.ShownLemmas.{no_call, one_call, some_words}
-use Rattle.surroundings.specs.{Answer.Answer, Events.History, Programs.CallsOr, Programs.DoesWords, declared.answer.Fault.Fault}
+use Rattle.surroundings.proofs.ShownLemmas.{some_words}
+use Rattle.surroundings.specs.{Answer.Answer, Answers.Ends, Events.History, Programs.CallsOr, Programs.DoesWords, declared.answer.Fault.Fault}
 use Rattle.surroundings.specs.declared.reasons.Reason.{Reason}
+use Rattle.v7_explain.specs.Asked.{has_some}
 use Rattle.v7_explain.specs.Calls.{Mapping, after_map, asked_in, asked_or, map_link, mapping, mapping_after}
-use Rattle.v7_explain.specs.{Files.program, Help.usage, Maps.IsMapCall, Runs.IsCall, Runs.MapsAsked}
+use Rattle.v7_explain.specs.{Maps.IsMapCall, Runs.IsCall, Runs.MapsAsked}
 use Rattle.v7_explain.specs.{Walks.Folders, declared.arguments.Call.Call as Code, internal.Asked.asks_of_map, internal.Asked.call_in}
 use Rattle.surroundings.specs.declared.answer.Fault.TheVariants as faults
 
@@ -20,23 +21,23 @@ call_done folders call same old new result is h = subst (λ (it : Code). IsCall 
 
 -- the arguments are of a map
 pub of_map : (folders : Option Folders) (words rest : List (List ℕ)) (old new : History) (result : Result Answer Fault) →
-    after_map words ≡ Some rest → MapsAsked rest old new result → DoesWords program usage (IsCall folders) (asked_in words) old new result
+    after_map words ≡ Some rest → MapsAsked rest old new result → DoesWords (IsCall folders) (asked_in words) old new result
 of_map folders words rest old new result is h =
-    subst (λ (by : Option (List (List ℕ))). DoesWords program usage (IsCall folders) (asked_or by words) old new result) (sym is)
-    (some_words program usage (IsCall folders) (Ok (map_link rest)) (map_link rest) old new result refl h)
+    subst (λ (by : Option (List (List ℕ))). DoesWords (IsCall folders) (asked_or by words) old new result) (sym is)
+    (some_words (IsCall folders) (Ok (map_link rest)) (map_link rest) old new result refl h)
 
 -- the arguments are not of a map
 pub of_files : (folders : Option Folders) (words : List (List ℕ)) (old new : History) (result : Result Answer Fault) →
-    after_map words ≡ None → DoesWords program usage (IsCall folders) (asked_or None words) old new result →
-    DoesWords program usage (IsCall folders) (asked_in words) old new result
+    after_map words ≡ None → DoesWords (IsCall folders) (asked_or None words) old new result →
+    DoesWords (IsCall folders) (asked_in words) old new result
 of_files folders words old new result is h =
-    subst (λ (by : Option (List (List ℕ))). DoesWords program usage (IsCall folders) (asked_or by words) old new result) (sym is) h
+    subst (λ (by : Option (List (List ℕ))). DoesWords (IsCall folders) (asked_or by words) old new result) (sym is) h
 
 pub ruleset by_first = (of_map, of_files)
 
 out_of : (asked : Result Mapping Reason) (h : History) →
-    CallsOr program usage (λ m. IsMapCall m.asked m.words) asked h h (Err (faults.Memory refused))
-out_of (Err reason) h = (refl, inr refl)
+    CallsOr (λ m. IsMapCall m.asked m.words) asked h h (Err (faults.Memory refused))
+out_of (Err reason) h = (refl, tt)
 out_of (Ok m) h = inl (refl, refl)
 
 -- one argument more
@@ -66,4 +67,21 @@ argument_taken_at asked (w ∷ n ∷ rest) after argument d two is left asks =
 pub asked_out : (words : List (List ℕ)) (h : History) → MapsAsked words h h (Err (faults.Memory refused))
 asked_out words h = out_of (mapping words) h
 
-pub ruleset by_asked = (asked_out, no_call, one_call)
+-- they are refused
+pub asked_none : (words : List (List ℕ)) (reason : Reason) (h : History) (answer : Answer) → mapping words ≡ Err reason → Ends 2 answer →
+    MapsAsked words h h (Ok answer)
+asked_none words reason h answer is ends =
+    subst (λ (by : Result Mapping Reason). CallsOr (λ m. IsMapCall m.asked m.words) by h h (Ok answer)) (sym is) (refl, ends)
+
+-- a map is asked for, and made
+pub asked_some : (words : List (List ℕ)) (m : Mapping) (old new : History) (result : Result Answer Fault) → mapping words ≡ Ok m →
+    IsMapCall m.asked m.words old new result → MapsAsked words old new result
+asked_some words m old new result is h =
+    subst (λ (by : Result Mapping Reason). CallsOr (λ m. IsMapCall m.asked m.words) by old new result) (sym is) h
+
+pub ruleset by_asked = (asked_out, asked_none, asked_some)
+
+-- one more that is absent
+pub has_more : {A : Type 0} (xs : List A) (x : A) → has_some (xs ++ x ∷ []) ≡ true
+has_more [] x = refl
+has_more (y ∷ ys) x = refl

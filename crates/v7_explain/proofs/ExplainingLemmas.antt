@@ -3,12 +3,12 @@ use Rattle.std.proofs.Common.{◌≡◌, ◌≢◌, ℕ, suc, ◌<◌, ◌+◌, 
 use Rattle.std.proofs.Common.{string_bytes, refl, sym, ap, ◌∙◌, subst, inl, inr, arith}
 use Rattle.std.specs.{Prelude.Result, Prelude.Ok, Prelude.Err, Prelude.String, declared.alloc.Global.Global}
 use Rattle.aout_core.specs.Refusals.{refused}
-use Rattle.surroundings.specs.{Answer.Answer, Events.History, declared.answer.Fault.Fault}
+use Rattle.surroundings.specs.{Answer.Answer, Answers.Ends, Answers.Stops, Events.History, declared.answer.Fault.Fault}
 use Rattle.surroundings.specs.Sources.{EndsReading}
 use Rattle.explanations.specs.declared.file_kind.FileKind.{FileKind}
-use Rattle.v7_explain.specs.{Files.IsRow, Files.IsUnnamed, Files.program, Joined.either, Joined.joined, Joined.nothing_said}
+use Rattle.v7_explain.specs.{Files.IsRow, Files.IsUnnamed, Joined.GivesOr, Joined.either, Joined.joined, Joined.nothing_said}
 use Rattle.v7_explain.specs.{Walks.Folders, Walks.Found, Walks.kind_in, Walks.path_found}
-use Rattle.v7_explain.specs.Runs.{Explains, ExplainsFound, ExplainsNamed, GivesOr, IsExplaining, IsKind, IsSaid, ReadsFor}
+use Rattle.v7_explain.specs.Runs.{Explains, ExplainsFound, ExplainsNamed, IsExplaining, IsKind, IsSaid, ReadsFor}
 use Rattle.v7_explain.specs.{declared.explaining.Mode.TheVariants.Listing, declared.explaining.Mode.TheVariants.Show}
 use Rattle.v7_explain.specs.{declared.explaining.Mode.TheVariants.Check, declared.explaining.Mode.TheVariants.Inventory}
 use Rattle.v7_explain.specs.{declared.explaining.Mode.Mode}
@@ -27,8 +27,14 @@ module _ (mode : Mode) (old new : History) (path : List ℕ) where
   explains_out bytes result reads memory = inl (bytes, reads, gives_out (IsSaid mode bytes) result memory)
 
   -- it is not read, and there is no memory for its line
-  pub explains_unread : (fault : Fault) → EndsReading program old new path fault → Explains mode old new path (Err (faults.Memory refused))
-  explains_unread fault (answer, none, answered) = inr (answer, none, inr refl)
+  pub explains_unread : (fault : Fault) → EndsReading old new path fault → Explains mode old new path (Err (faults.Memory refused))
+  explains_unread fault (none, stops) = inr (none, tt)
+
+  -- it is not read
+  pub explains_none : (fault : Fault) (given answer : Answer) → fault ≡ faults.Answered given → EndsReading old new path fault →
+      answer ≡ given → Explains mode old new path (Ok answer)
+  explains_none fault given answer is (none, stops) same =
+      inr (none, subst (Ends 2) (sym same) (subst (Stops true 2) is stops).1)
 
 -- ---- what is not read, and what is
 
@@ -39,7 +45,7 @@ kind_asked folders mode path kind is asked = subst (λ (m : Mode). IsKind folder
 
 -- nothing else does
 pub no_kind : (folders : Option Folders) (mode : Mode) (path : List ℕ) → mode ≢ Inventory → IsKind folders mode path None
-no_kind folders (Listing e) path other = refl
+no_kind folders Listing path other = refl
 no_kind folders (Show view) path other = refl
 no_kind folders (Check e) path other = refl
 no_kind folders Inventory path other = absurd (other refl)

@@ -10,16 +10,16 @@ use Rattle.command_words.specs.declared.words.Call.TheVariants.{Ld, Nm, Session,
 use Rattle.command_words.specs.{declared.fault.WordsFault.TheVariants.Usage, declared.words.Call.Call}
 use Rattle.link_maps.specs.Links.{ShowsLink, link_shown, path_at, read_inputs}
 use Rattle.link_maps.specs.Taking.{split, split_of, with_object}
-use Rattle.link_maps.specs.{Members.all_of, declared.map.LinkMap.LinkMap, declared.members.Objects.Objects}
+use Rattle.link_maps.specs.{Members.all_of, Rows.linked_by, declared.map.LinkMap.LinkMap, declared.members.Objects.Objects}
 use Rattle.link_maps.specs.{declared.members.Refused.Refused, declared.outcome.Outcome.Outcome as Made}
 use Rattle.link_maps.proofs.{LinkLemmas.shows_link, TakingLemmas.none_split, TakingLemmas.split_more}
 use Rattle.link_out.specs.Inputs.{Cause, Refusal, at_path, linked, not_added, of_input}
 use Rattle.link_out.specs.{Steps.and_then, declared.linked.LinkFault.LinkFault, declared.linked.Linked.Linked, function.Link.Outcome}
 use Rattle.link_session.specs.{Labelled.Labelled, Labelled.objects, Sessions.nothing_kept, Undo.Kept}
-use Rattle.surroundings.specs.{Answer.Answer, Answers.AnswersOr, Events.History, declared.answer.Fault.Fault}
+use Rattle.surroundings.specs.{Answer.Answer, Answers.EndsOr, Events.History, declared.answer.Fault.Fault}
 use Rattle.tool_options.specs.Choices.{Choices}
 use Rattle.v7_explain.specs.Joined.{either}
-use Rattle.v7_explain.specs.Maps.{AreTaken, HaveObjects, IsMap, IsMapCall, IsMapping, IsTaking, MapsCall, link_words, not_of_ld, nothing_taken}
+use Rattle.v7_explain.specs.Maps.{AreTaken, HaveObjects, IsMap, IsMapCall, IsMapping, IsTaking, MapsCall, link_words, nothing_taken}
 use Rattle.v7_explain.specs.Maps.{status_asked, status_linked}
 use Rattle.v7_explain.specs.internal.Takes.{IsMapAnswer, KeepsSplit, TakesAll, status_made, status_mapped}
 use Rattle.v7_explain.proofs.TakingLemmas.{taking_memory}
@@ -44,7 +44,7 @@ read_of (i ∷ is) (x ∷ xs) (label, read, rest) =
     ap (λ (r : Result Contents Cause). and_then (at_path i.0 r) (λ o. and_then (read_inputs is) (λ os. Ok (o ∷ os)))) read
     ∙ ap (λ (r : Result (List Contents) Refusal). and_then r (λ os. Ok (x.object ∷ os))) (read_of is xs rest)
 
-status_shown : (made : Result Linked LinkFault) → status_made made ≡ status_linked (link_shown made)
+status_shown : (made : Result Linked LinkFault) → status_made (linked_by made) ≡ status_linked (link_shown made)
 status_shown (Ok l) = refl
 status_shown (Err fault) = refl
 
@@ -120,7 +120,7 @@ maps_all asked forced choices inputs n a taken (m, map, same) =
       map,
       shows,
       a,
-      record { no_errors = same.no_errors; has_status = same.has_status ∙ ap (status_asked asked m) status },
+      record { no_errors = same.no_errors; has_status = same.has_status ∙ ap (status_asked asked n m) status },
       refl,
     )
 
@@ -146,7 +146,7 @@ map_call_out names words old new result same memory = inl (same, memory)
 
 -- they ask for no call
 pub map_call_none : (names words all : List (List ℕ)) (old new : History) (result : Result Answer Fault) → all ≡ link_words words →
-    AsksForNone all Usage → new ≡ old → AnswersOr result not_of_ld → IsMapCall names words old new result
+    AsksForNone all Usage → new ≡ old → EndsOr 2 result → IsMapCall names words old new result
 map_call_none names words all old new result same none still answers =
     inr (inl (subst (λ (ws : List (List ℕ)). AsksForNone ws Usage) same none, still, answers))
 
@@ -168,7 +168,7 @@ map_call_made names words all call old new result same whole asked dashes maps =
 pub maps_other : (asked : List (List ℕ)) (call : Call) (old new : History) (result : Result Answer Fault) →
     ((options : Choices) → (forced : List (List ℕ)) → (out : String Global) → (files : Vec (String Global) Global) →
     call ≡ Ld options forced out files → ⊥) →
-    new ≡ old → AnswersOr result not_of_ld → MapsCall asked call old new result
+    new ≡ old → EndsOr 2 result → MapsCall asked call old new result
 maps_other asked (Ld options forced out files) old new result never still answers = absurd (never options forced out files refl)
 maps_other asked (Nm options files) old new result never still answers = (still, answers)
 maps_other asked (Size files) old new result never still answers = (still, answers)

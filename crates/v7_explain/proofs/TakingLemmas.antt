@@ -1,14 +1,15 @@
 -- Objects that are taken one after another: which there are then, and what comes of the files that are left.
 use Rattle.std.proofs.Common.{◌≡◌, ℕ, List, [], ◌∷◌, ◌++◌, refl, sym, ap, ◌∙◌, subst, inl, inr}
-use Rattle.std.specs.Prelude.{IsOk, Result, Ok, Err, OnOk}
-use Rattle.aout_core.specs.{Contents.Contents, Decoding.decode, Refusals.refused}
-use Rattle.link_out.specs.Inputs.{object_in}
+use Rattle.std.proofs.lemmas.Bool.{false≢true}
+use Rattle.std.specs.Prelude.{IsOk, Result, Ok, Err, OnOk, is_err}
+use Rattle.aout_core.specs.{Contents.Contents, Decoding.decode, Refusals.refused, declared.refused.Refused.Refused}
+use Rattle.link_out.specs.Inputs.{Cause, object_in}
 use Rattle.link_session.specs.Labelled.{Labelled}
 use Rattle.surroundings.specs.Sources.{EndsReading, ReadsAt}
-use Rattle.surroundings.specs.{Answer.Answer, Answers.Faults, Events.History, declared.answer.Fault.Fault}
-use Rattle.v7_explain.specs.Maps.{HaveObjects, IsTaking, Taken, TakesAt, if_object, input_in, nothing_taken, with_found}
+use Rattle.surroundings.specs.{Answer.Answer, Answers.Ends, Answers.Stops, Answers.only_errors, Events.History, declared.answer.Fault.Fault}
+use Rattle.v7_explain.specs.Maps.{HaveObjects, IsInput, IsTaking, Taken, nothing_taken, with_found}
 use Rattle.v7_explain.specs.internal.Takes.{AddsOrSays, Holds, TakesAll, TakesNext, TakesOne}
-use Rattle.v7_explain.specs.{Files.program, Joined.joined, Joined.nothing_said}
+use Rattle.v7_explain.specs.{Joined.joined, Joined.nothing_said}
 use Rattle.surroundings.specs.declared.answer.Fault.TheVariants as faults
 
 -- ---- one after another
@@ -52,45 +53,63 @@ taking_memory old new taken (path ∷ paths) fault (found, between, takes, inr h
 
 -- ---- one file
 
-abbrev ended : Fault → Result (Unit {0}) Fault
-ended fault = Err fault
+-- memory that ran out
+out_of_memory : (r : Refused) (result : Result (Unit {0}) Fault) → result ≡ Err (faults.Memory r) → result ≡ Err (faults.Memory refused)
+out_of_memory r result is = is
+
+-- some answer
+an_answer : (status : ℕ) → Ends status (only_errors [] status)
+an_answer status = record { no_output = refl; has_status = refl }
 
 -- it is not read
 pub takes_unread : (old new : History) (path : List ℕ) (objects : List Labelled) (fault : Fault) (result : Result (Unit {0}) Fault) →
-    EndsReading program old new path fault → result ≡ Err fault → TakesOne old new path objects objects result
-takes_unread old new path objects fault result (answer, none, inl answered) is =
-    (Err answer, inr (answer, none, refl), inl (is ∙ ap ended answered, refl))
-takes_unread old new path objects fault result (answer, none, inr memory) is =
-    (Err answer, inr (answer, none, refl), inr (is ∙ ap ended memory))
+    EndsReading old new path fault → result ≡ Err fault → TakesOne old new path objects objects result
+takes_unread old new path objects (faults.Answered answer) result (none, (told, ends)) is =
+    (Err answer, inr (none, (answer, ends, refl)), inl (is, refl))
+takes_unread old new path objects (faults.Memory r) result (none, stops) is =
+    (Err (only_errors [] 2), inr (none, (only_errors [] 2, an_answer 2, refl)), inr (out_of_memory r result is))
 
-takes_none_by : (old new : History) (path : List ℕ) (objects : List Labelled) (fault : Fault) (result : Result (Unit {0}) Fault)
-    (found : Result (List ℕ) Answer) → TakesAt old new path found → Faults found fault → result ≡ Err fault →
-    TakesOne old new path objects objects result
-takes_none_by old new path objects fault result (Ok bytes) takes memory is = (Ok bytes, takes, inr (is ∙ ap ended memory))
-takes_none_by old new path objects fault result (Err answer) takes (inl answered) is =
-    (Err answer, takes, inl (is ∙ ap ended answered, refl))
-takes_none_by old new path objects fault result (Err answer) takes (inr memory) is = (Err answer, takes, inr (is ∙ ap ended memory))
-
--- it is not an object
-pub takes_none : (old new : History) (path bytes seen : List ℕ) (objects : List Labelled) (fault : Fault)
-    (result : Result (Unit {0}) Fault) →
-    seen ≡ bytes → ReadsAt old new path bytes → Faults (input_in path seen) fault → result ≡ Err fault →
-    TakesOne old new path objects objects result
-takes_none old new path bytes seen objects fault result same reads faulty is =
-    takes_none_by old new path objects fault result (input_in path bytes) (inl (bytes, reads, refl))
-    (subst (λ (b : List ℕ). Faults (input_in path b) fault) same faulty) is
+-- what comes of some bytes
+input_by : (bytes : List ℕ) (found : Result Contents Cause) → (input : Result (List ℕ) Answer) × IsInput bytes found input
+input_by bytes (Ok o) = (Ok bytes, refl)
+input_by bytes (Err cause) = (Err (only_errors [] 1), (only_errors [] 1, an_answer 1, refl))
 
 -- there is no memory for its object
 pub takes_out : (old new : History) (path bytes : List ℕ) (before after : List Labelled) (result : Result (Unit {0}) Fault) →
     ReadsAt old new path bytes → result ≡ Err (faults.Memory refused) → TakesOne old new path before after result
-takes_out old new path bytes before after result reads memory = (input_in path bytes, inl (bytes, reads, refl), inr memory)
+takes_out old new path bytes before after result reads memory =
+    let input = input_by bytes (object_in (decode bytes)) in (input.0, inl (bytes, reads, input.1), inr memory)
+
+takes_none_by : (old new : History) (path bytes : List ℕ) (objects : List Labelled) (fault : Fault) (result : Result (Unit {0}) Fault)
+    (read : Result Contents Cause) → object_in (decode bytes) ≡ read → ReadsAt old new path bytes → Stops (is_err read) 1 fault →
+    result ≡ Err fault → TakesOne old new path objects objects result
+takes_none_by old new path bytes objects (faults.Memory r) result read e reads stops is =
+    takes_out old new path bytes objects objects result reads (out_of_memory r result is)
+takes_none_by old new path bytes objects (faults.Answered answer) result (Ok o) e reads stops is = absurd (false≢true stops.0)
+takes_none_by old new path bytes objects (faults.Answered answer) result (Err cause) e reads stops is = (
+  Err answer,
+  inl (bytes, reads, subst (λ (r : Result Contents Cause). IsInput bytes r (Err answer)) (sym e) (answer, stops.1, refl)),
+  inl (is, refl),
+)
+
+-- it is not an object
+pub takes_none : (old new : History) (path bytes seen : List ℕ) (objects : List Labelled) (fault : Fault)
+    (result : Result (Unit {0}) Fault) →
+    seen ≡ bytes → ReadsAt old new path bytes → Stops (is_err (object_in (decode seen))) 1 fault → result ≡ Err fault →
+    TakesOne old new path objects objects result
+takes_none old new path bytes seen objects fault result same reads faulty is =
+    takes_none_by old new path bytes objects fault result (object_in (decode bytes)) refl reads
+    (subst (λ (b : List ℕ). Stops (is_err (object_in (decode b))) 1 fault) same faulty) is
 
 -- its object is taken
 pub takes_object : (old new : History) (path bytes : List ℕ) (object : Contents) (before after : List Labelled) →
     ReadsAt old new path bytes → object_in (decode bytes) ≡ Ok object → after ≡ before ++ record { label = path; object = object } ∷ [] →
     TakesOne old new path before after (Ok tt)
-takes_object old new path bytes object before after reads is grows =
-    (Ok bytes, inl (bytes, reads, ap (if_object path bytes) (sym is)), inl (refl, (object, is, grows)))
+takes_object old new path bytes object before after reads is grows = (
+  Ok bytes,
+  inl (bytes, reads, subst (λ (r : Result Contents Cause). IsInput bytes r (Ok bytes)) (sym is) refl),
+  inl (refl, (object, is, grows)),
+)
 
 -- ---- and what is said of it
 

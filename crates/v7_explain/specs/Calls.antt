@@ -6,22 +6,22 @@ use Rattle.std.specs.Prelude.{ℕ, Bool, ◌&&◌, not, if◌then◌else◌, byt
 use Rattle.std.specs.Prelude.{Option, Some, None, Result, Ok, Err}
 use Rattle.std.specs.Option.{option_or}
 use Rattle.aout_core.specs.{Words.letter_of}
-use Rattle.explanations.specs.declared.rows.Base.TheVariants.{Octal, Hexadecimal}
 use Rattle.instructions.specs.declared.unix.Decoder.TheVariants.{Pdp11, Unix}
 use Rattle.surroundings.specs.Arguments.{Given, excluded_in, given_in, has_letter, if_given, value_of}
 use Rattle.surroundings.specs.declared.reasons.Reason.{Reason}
 use Rattle.surroundings.specs.declared.reasons.Reason.TheVariants.{Needs, NoFile, NoValue, NotFirst, NotOneFile}
-use Rattle.suspicions.specs.declared.evidence.Evidence.{Evidence}
 use Rattle.suspicions.specs.declared.evidence.Evidence.TheVariants.{Flow, Promise}
 use Rattle.v7_explain.specs.declared.explaining.Mode.TheVariants.{Listing, Show, Check, Inventory}
 use Rattle.v7_explain.specs.{declared.explaining.Mode.Mode, declared.views.View.View, declared.views.View.TheVariants.Instructions}
 use Rattle.v7_explain.specs.{declared.views.View.TheVariants.Rows}
 
--- to explain files, or those in folders, to store the listing of a file, or the map that the arguments after -m ask for
+-- to explain files, or those in folders, to store the listing of a file, to ask a file for a name or an address, or the map that the arguments
+-- after -m ask for
 pub data Call : Type 0 where
   explain : Mode → List (List ℕ) → Call
   walk : List (List ℕ) → Call
   store : List ℕ → List ℕ → Call
+  ask : List ℕ → List ℕ → Call
   map_link : List (List ℕ) → Call
 
 abbrev pub has : Given → List ℕ → Bool
@@ -36,14 +36,6 @@ abbrev pub walking : List (List ℕ) → Result Call Reason
 walking [] = Err NoFile
 walking (path ∷ paths) = Ok (walk (path ∷ paths))
 
--- with -R in folders too
-abbrev pub inventory : Given → Result Call Reason
-inventory given = if has given (codes "R") then walking given.paths else explaining Inventory given.paths
-
--- with -t all of a text is instructions
-abbrev pub evidence_in : Given → Evidence
-evidence_in given = if has given (codes "t") then Promise else Flow
-
 -- of one file
 abbrev pub storing : List ℕ → List (List ℕ) → Result Call Reason
 storing to (path ∷ []) = Ok (store to path)
@@ -53,12 +45,11 @@ storing to _ = Err (NotOneFile (letter_of (codes "o")))
 abbrev pub view_in : Given → Option View
 view_in given =
     if has given (codes "d") then Some (Instructions Unix)
-    else (if has given (codes "p") then Some (Instructions Pdp11)
-    else (if has given (codes "s") then Some (Rows Octal) else (if has given (codes "x") then Some (Rows Hexadecimal) else None)))
+    else (if has given (codes "p") then Some (Instructions Pdp11) else (if has given (codes "s") then Some Rows else None))
 
 -- with -o the listing of a file is stored at its value
 abbrev pub listing_at : Given → Option (List ℕ) → Result Call Reason
-listing_at given None = explaining (Listing (evidence_in given)) given.paths
+listing_at given None = explaining Listing given.paths
 listing_at given (Some to) = storing to given.paths
 
 abbrev pub listing_as : Given → Option View → Result Call Reason
@@ -68,26 +59,34 @@ listing_as given None = listing_at given (value_of given (letter_of (codes "o"))
 abbrev pub listing_by : Given → Result Call Reason
 listing_by given = listing_as given (view_in given)
 
--- the options ask for this, if none excludes another
+-- with -y one file is asked for its value
+abbrev pub asking : List ℕ → List (List ℕ) → Result Call Reason
+asking what (path ∷ []) = Ok (ask what path)
+asking what _ = Err (NotOneFile (letter_of (codes "y")))
+
+abbrev pub asking_or : Given → Option (List ℕ) → Result Call Reason
+asking_or given (Some what) = asking what given.paths
+asking_or given None = listing_by given
+
+-- the options ask for this, if none excludes another: with -t all of a text is instructions, and -R goes into folders
 abbrev pub asked_by : Given → Result Call Reason
 asked_by given =
-    if has given (codes "c") then explaining (Check (evidence_in given)) given.paths
-    else (if has given (codes "l") then inventory given else listing_by given)
-
--- why options are refused: only one may be given of the letters that ask for something, and -t is for listings and -c
-abbrev pub misuse_in : Given → Option Reason
-misuse_in given =
-    if has given (codes "m") then Some (NotFirst (letter_of (codes "m")))
-    else (if has given (codes "y") then Some (Needs (letter_of (codes "y")) (letter_of (codes "m")))
-    else (if has given (codes "R") && not (has given (codes "l")) then Some (Needs (letter_of (codes "R")) (letter_of (codes "l")))
-    else option_or (excluded_in (codes "cdlopsx") given) (excluded_in (codes "dloptsx") given)))
+    if has given (codes "c") then
+    (if has given (codes "t") then explaining (Check Promise) given.paths else explaining (Check Flow) given.paths)
+    else (if has given (codes "R") then walking given.paths
+    else (if has given (codes "l") then explaining Inventory given.paths else asking_or given (value_of given (letter_of (codes "y")))))
 
 abbrev pub call_unless : Option Reason → Given → Result Call Reason
 call_unless (Some reason) given = Err reason
 call_unless None given = asked_by given
 
+-- only one may be given of the letters that ask for something, but for -d and -y
 abbrev pub call_of : Given → Result Call Reason
-call_of given = call_unless (misuse_in given) given
+call_of given =
+    if has given (codes "m") then Err (NotFirst (letter_of (codes "m")))
+    else (if has given (codes "t") && not (has given (codes "c")) then Err (Needs (letter_of (codes "t")) (letter_of (codes "c")))
+    else (if has given (codes "R") && not (has given (codes "l")) then Err (Needs (letter_of (codes "R")) (letter_of (codes "l")))
+    else call_unless (option_or (excluded_in (codes "cdlops") given) (excluded_in (codes "clopsy") given)) given))
 
 -- the arguments after -m, if that is the first one
 abbrev pub after_map : List (List ℕ) → Option (List (List ℕ))
@@ -96,7 +95,7 @@ after_map (word ∷ words) = if bytes_eq word (codes "-m") then Some words else 
 
 abbrev pub asked_or : Option (List (List ℕ)) → List (List ℕ) → Result Call Reason
 asked_or (Some rest) words = Ok (map_link rest)
-asked_or None words = if_given (given_in (codes "cdlmpRstxy") (codes "o") words) call_of
+asked_or None words = if_given (given_in (codes "cdlmpRst") (codes "oy") words) call_of
 
 abbrev pub asked_in : List (List ℕ) → Result Call Reason
 asked_in words = asked_or (after_map words) words

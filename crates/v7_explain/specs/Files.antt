@@ -3,21 +3,14 @@
 --
 -- What goes to standard output comes with lines for standard error and a status: 1 if there is something to report. A listing reads back as
 -- its file. What else is said of a file, and in which words, is in no definition.
-use Rattle.std.specs.Prelude.{◌≡◌, ℕ, Bool, false, ◌&&◌, if◌then◌else◌, codes, List, [], ◌++◌, Option, Some, None, Result, Ok, Err}
+use Rattle.std.specs.Prelude.{◌≡◌, ℕ, Bool, false, ◌&&◌, if◌then◌else◌, List, [], Option, Some, None, Result, Ok, Err}
 use Rattle.std.specs.List.{list_any}
 use Rattle.aout_core.specs.{Contents.Contents, Decoding.decode, WellFormed.first_object_fault}
 use Rattle.aout_core.specs.{declared.file.ReadFault.ReadFault, declared.object.ObjectFault.ObjectFault}
 use Rattle.findings.specs.{Found.Found, Wrong.is_damaged}
 use Rattle.listings.specs.{Reading.read, declared.draft.Addresses.TheVariants.Compared}
-use Rattle.surroundings.specs.{Answer.Answer, Answers.line_front}
+use Rattle.surroundings.specs.Answer.{Answer}
 use Rattle.suspicions.specs.{Suspicions.all_odd, declared.evidence.Evidence.Evidence}
-
-abbrev pub program : List ℕ
-program = codes "v7-explain"
-
--- a line for standard error
-unfoldable pub line_of : List ℕ → List ℕ → List ℕ
-line_of path text = line_front program path ++ text ++ codes "\n"
 
 -- ---- statuses
 

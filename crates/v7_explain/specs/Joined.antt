@@ -1,6 +1,8 @@
 -- Answers of v7-explain, one after another. (own choice)
-use Rattle.std.specs.Prelude.{Bool, true, false, max, [], ◌++◌}
-use Rattle.surroundings.specs.{Answer.Answer, Answers.only_errors}
+use Rattle.std.specs.Prelude.{◌≡◌, Bool, true, false, max, [], ◌++◌, Result, Ok, Err}
+use Rattle.aout_core.specs.Refusals.{refused}
+use Rattle.surroundings.specs.{Answer.Answer, Answers.only_errors, declared.answer.Fault.Fault}
+use Rattle.surroundings.specs.declared.answer.Fault.TheVariants as faults
 
 abbrev pub nothing_said : Answer
 nothing_said = only_errors [] 0
@@ -13,3 +15,8 @@ joined said more = record { output = said.output ++ more.output; errors = said.e
 abbrev pub either : Bool → Type 0 → Type 0 → Type 0
 either true first second = first
 either false first second = second
+
+-- an answer of which this holds, or memory runs out for it
+abbrev pub GivesOr : (Answer → Type 0) → Result Answer Fault → Type 0
+GivesOr Holds (Ok a) = Holds a
+GivesOr Holds (Err fault) = fault ≡ faults.Memory refused

@@ -1,8 +1,9 @@
+pub mod Asked
 pub mod Files
-pub mod Help
 pub mod Joined
 pub mod Maps
 pub mod Calls
+pub mod Questions
 pub mod Runs
 pub mod Walks
 pub mod internal

@@ -2,48 +2,34 @@
 --
 -- The files are those that `ld` takes with the same arguments. Each is read whole before the next one is opened. There is a map if all are
 -- objects; else the answer has a line for each that is not. With -y the map has only what is asked for.
-use Rattle.std.specs.Prelude.{◌≡◌, ◌⊎◌, ℕ, Bool, if◌then◌else◌, List, [], ◌∷◌, ◌++◌, eqb, map, max, Option, Result, Ok, Err, codes, string_bytes}
-use Rattle.aout_core.specs.{Contents.Contents, Decoding.decode, FaultTexts.object_text, FaultTexts.read_text, Refusals.refused, Words.letter_of}
+use Rattle.std.specs.Prelude.{◌≡◌, ◌⊎◌, ℕ, Bool, if◌then◌else◌, List, [], ◌∷◌, ◌++◌, eqb, map, max, Result, Ok, Err, codes, string_bytes}
+use Rattle.aout_core.specs.{Contents.Contents, Decoding.decode, Refusals.refused}
 use Rattle.command_words.specs.Calls.{AsksForNone, IsAsked, IsWhole, dashes_in, files_of}
 use Rattle.command_words.specs.{declared.fault.WordsFault.TheVariants.Usage, declared.words.Call.Call, declared.words.Call.TheVariants.Ld}
 use Rattle.link_maps.specs.{Links.ShowsLink, Maps.IsMapOf, Members.all_of, Taking.split, Taking.split_of}
 use Rattle.link_maps.specs.{declared.map.LinkMap.LinkMap, declared.members.Objects.Objects}
-use Rattle.link_out.specs.Inputs.{Cause, Refusal, bad_file, bad_object, linked, object_in}
+use Rattle.link_out.specs.Inputs.{Cause, Refusal, linked, object_in}
 use Rattle.link_out.specs.{function.Link.Outcome, function.Reports.status_of}
 use Rattle.link_session.specs.Labelled.{Labelled}
-use Rattle.map_texts.specs.Asked.{has_absent}
-use Rattle.surroundings.specs.{Answer.Answer, Answers.AnswersOr, Answers.only_errors, Answers.says_reason, Events.History}
+use Rattle.v7_explain.specs.Asked.{has_absent}
+use Rattle.surroundings.specs.{Answer.Answer, Answers.Ends, Answers.EndsOr, Events.History}
 use Rattle.surroundings.specs.{Sources.ReadsAt, Sources.ReadsNone, declared.answer.Fault.Fault}
-use Rattle.surroundings.specs.{declared.reasons.Reason.Reason, declared.reasons.Reason.TheVariants.NotOfLd}
 use Rattle.tool_options.specs.Choices.{Choices}
-use Rattle.v7_explain.specs.{Files.line_of, Files.program, Joined.either, Joined.joined, Joined.nothing_said, Help.usage}
+use Rattle.v7_explain.specs.{Joined.either, Joined.joined, Joined.nothing_said}
 use Rattle.surroundings.specs.declared.answer.Fault.TheVariants as faults
 
 -- ---- objects
 
--- a file is refused, with the status 1
-abbrev pub refused_for : List ℕ → List ℕ → Answer
-refused_for path text = only_errors (line_of path text) 1
+-- the bytes of a file, if they have an object; or the answer that they have none, with the status 1
+abbrev pub IsInput : List ℕ → Result Contents Cause → Result (List ℕ) Answer → Type 0
+IsInput bytes (Ok o) found = found ≡ Ok bytes
+IsInput bytes (Err cause) found = (answer : Answer) × Ends 1 answer × (found ≡ Err answer)
 
--- what is said of bytes that are not an object; the other causes do not follow from bytes
-abbrev pub cause_text : Cause → List ℕ
-cause_text (bad_file fault) = read_text fault
-cause_text (bad_object fault) = object_text fault
-cause_text _ = []
-
--- the bytes of a file, if they have an object; or why they do not
-abbrev pub if_object : List ℕ → List ℕ → Result Contents Cause → Result (List ℕ) Answer
-if_object path bytes (Ok o) = Ok bytes
-if_object path bytes (Err cause) = Err (refused_for path (cause_text cause))
-
-abbrev pub input_in : List ℕ → List ℕ → Result (List ℕ) Answer
-input_in path bytes = if_object path bytes (object_in (decode bytes))
-
--- the file at a path is read, or why it is not
+-- the file at a path is read, or the answer is that it is not, with the status 2
 abbrev pub TakesAt : History → History → List ℕ → Result (List ℕ) Answer → Type 0
 TakesAt old new path found =
-    ((bytes : List ℕ) × ReadsAt old new path bytes × (found ≡ input_in path bytes))
-    ⊎ ((answer : Answer) × ReadsNone program old new path answer × (found ≡ Err answer))
+    ((bytes : List ℕ) × ReadsAt old new path bytes × IsInput bytes (object_in (decode bytes)) found)
+    ⊎ (ReadsNone old new path × ((answer : Answer) × Ends 2 answer × (found ≡ Err answer)))
 
 -- the inputs so far, and what was said of files that are not objects
 pub record Taken : Type 0 where
@@ -84,20 +70,20 @@ abbrev pub status_with : Bool → ℕ → ℕ
 status_with has_absent status = if has_absent then max status 1 else status
 
 -- what is asked for and absent is something to report
-abbrev pub status_asked : List (List ℕ) → LinkMap → ℕ → ℕ
-status_asked asked m status = status_with (has_absent m asked) status
+abbrev pub status_asked : List (List ℕ) → Objects → LinkMap → ℕ → ℕ
+status_asked asked o m status = status_with (has_absent m (all_of o) asked) status
 
 -- a map has its status, and there are no errors; what its text is, no definition says
-pub record HasStatus (asked : List (List ℕ)) (m : LinkMap) (linked : ℕ) (a : Answer) : Type 0 where
+pub record HasStatus (asked : List (List ℕ)) (o : Objects) (m : LinkMap) (linked : ℕ) (a : Answer) : Type 0 where
   pub no_errors : a.errors ≡ []
-  pub has_status : a.status ≡ status_asked asked m linked
+  pub has_status : a.status ≡ status_asked asked o m linked
 
 -- the map shows the link that `ld` makes of these inputs, and has its status; or memory ran out for it
 abbrev pub IsMap : List (List ℕ) → List (List ℕ) → Choices → List (List ℕ × List ℕ) → Result Answer Fault → Type 0
 IsMap asked forced choices inputs result =
     (result ≡ Err (faults.Memory refused))
     ⊎ ((o : Objects) × (m : LinkMap) × AreTaken forced inputs o × IsMapOf o forced choices m × ShowsLink forced choices inputs o m.outcome
-    × (a : Answer) × HasStatus asked m (status_linked (linked forced inputs choices)) a × (result ≡ Ok a))
+    × (a : Answer) × HasStatus asked o m (status_linked (linked forced inputs choices)) a × (result ≡ Ok a))
 
 -- there is a map if each file is an object
 abbrev pub MapsTaken : List (List ℕ) → List (List ℕ) → Choices → Result Answer Fault → Taken → Type 0
@@ -112,14 +98,10 @@ IsMapping asked forced choices paths old new result =
     (IsTaking old new nothing_taken paths (Err (faults.Memory refused)) × (result ≡ Err (faults.Memory refused)))
     ⊎ ((taken : Taken) × IsTaking old new nothing_taken paths (Ok taken) × MapsTaken asked forced choices result taken)
 
--- the arguments are not those of ld
-abbrev pub not_of_ld : Answer
-not_of_ld = says_reason program usage (NotOfLd (letter_of (codes "m")))
-
 -- the files of a call of ld are mapped
 abbrev pub MapsCall : List (List ℕ) → Call → History → History → Result Answer Fault → Type 0
 MapsCall asked (Ld options forced out files) old new result = IsMapping asked forced options (map string_bytes files.items) old new result
-MapsCall asked _ old new result = (new ≡ old) × AnswersOr result not_of_ld
+MapsCall asked _ old new result = (new ≡ old) × EndsOr 2 result
 
 abbrev pub link_words : List (List ℕ) → List (List ℕ)
 link_words words = codes "ld" ∷ words
@@ -128,6 +110,6 @@ link_words words = codes "ld" ∷ words
 abbrev pub IsMapCall : List (List ℕ) → List (List ℕ) → History → History → Result Answer Fault → Type 0
 IsMapCall asked words old new result =
     ((new ≡ old) × (result ≡ Err (faults.Memory refused)))
-    ⊎ (AsksForNone (link_words words) Usage × (new ≡ old) × AnswersOr result not_of_ld)
+    ⊎ (AsksForNone (link_words words) Usage × (new ≡ old) × EndsOr 2 result)
     ⊎ ((call : Call) × IsWhole call × IsAsked (link_words words) call × (dashes_in (link_words words) ≡ dashes_in (files_of call))
     × (((new ≡ old) × (result ≡ Err (faults.Memory refused))) ⊎ MapsCall asked call old new result))

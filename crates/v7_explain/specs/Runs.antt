@@ -5,15 +5,15 @@
 use Rattle.std.specs.Prelude.{◌≡◌, ◌⊎◌, ℕ, true, false, eqb, List, [], ◌∷◌, map, Option, Some, None, Result, Ok, Err}
 use Rattle.aout_core.specs.Refusals.{refused}
 use Rattle.explanations.specs.declared.file_kind.FileKind.{FileKind}
-use Rattle.surroundings.specs.Answers.{AnswersOr, IsPerformed, only_errors}
+use Rattle.surroundings.specs.Answers.{AnswersOr, EndsOr, IsPerformed, only_errors}
 use Rattle.surroundings.specs.Events.{History, Surroundings, written}
 use Rattle.surroundings.specs.Programs.{AnswersGiven, CallsOr, Reads, Step, Stores, Then}
 use Rattle.surroundings.specs.Sources.{ReadsAt, ReadsFront, ReadsNone}
 use Rattle.surroundings.specs.{Answer.Answer, Nodes.ChecksOutput, declared.answer.Fault.Fault}
-use Rattle.v7_explain.specs.Calls.{Call, asked_in, explain, map_link, mapping, store, walk}
-use Rattle.v7_explain.specs.Files.{IsChecked, IsListed, IsRow, IsUnnamed, IsViewed, program}
-use Rattle.v7_explain.specs.Help.{help, usage}
-use Rattle.v7_explain.specs.Joined.{either, joined, nothing_said}
+use Rattle.v7_explain.specs.Calls.{Call, ask, asked_in, explain, map_link, mapping, store, walk}
+use Rattle.v7_explain.specs.Questions.{AnswersAt}
+use Rattle.v7_explain.specs.Files.{IsChecked, IsListed, IsRow, IsUnnamed, IsViewed}
+use Rattle.v7_explain.specs.Joined.{GivesOr, either, joined, nothing_said}
 use Rattle.v7_explain.specs.declared.explaining.Mode.TheVariants.{Listing, Show, Check, Inventory}
 use Rattle.v7_explain.specs.Walks.{AreWalked, Folders, Found, kind_in, path_found}
 use Rattle.v7_explain.specs.{Maps.IsMapCall, declared.explaining.Mode.Mode}
@@ -23,26 +23,21 @@ use Rattle.surroundings.specs.declared.answer.Fault.TheVariants as faults
 
 -- what is said of a file with these bytes
 abbrev pub IsSaid : Mode → List ℕ → Answer → Type 0
-IsSaid (Listing e) bytes a = IsListed false bytes a
+IsSaid Listing bytes a = IsListed false bytes a
 IsSaid (Show view) bytes a = IsViewed bytes a
 IsSaid (Check e) bytes a = IsChecked e bytes a
 IsSaid Inventory bytes a = IsRow a
-
--- an answer of which this holds, or memory runs out for it
-abbrev pub GivesOr : (Answer → Type 0) → Result Answer Fault → Type 0
-GivesOr Holds (Ok a) = Holds a
-GivesOr Holds (Err fault) = fault ≡ faults.Memory refused
 
 -- an inventory reads the front of a file: one byte more than the largest core file has, 1,024 bytes and 131,070 blocks of 64
 abbrev pub ReadsFor : Mode → History → History → List ℕ → List ℕ → Type 0
 ReadsFor Inventory old new path bytes = ReadsFront 8389505 old new path bytes
 ReadsFor _ old new path bytes = ReadsAt old new path bytes
 
--- the file at a path is read and explained, or a line reports why it is not read
+-- the file at a path is read and explained, or it is not read, and the status is 2
 abbrev pub Explains : Mode → History → History → List ℕ → Result Answer Fault → Type 0
 Explains mode old new path result =
     ((bytes : List ℕ) × ReadsFor mode old new path bytes × GivesOr (IsSaid mode bytes) result)
-    ⊎ ((answer : Answer) × ReadsNone program old new path answer × AnswersOr result answer)
+    ⊎ (ReadsNone old new path × EndsOr 2 result)
 
 -- an inventory does not read what has a kind of its own, as a device
 abbrev pub IsKind : Option Folders → Mode → List ℕ → Option FileKind → Type 0
@@ -95,31 +90,32 @@ Lists bytes old new result = (new ≡ old) × GivesOr (IsListed true bytes) resu
 -- the listing is stored if there is nothing to report
 abbrev pub IsStoring : List ℕ → Answer → Step Answer
 IsStoring to said old new result =
-    either (eqb said.status 0) (Stores program to (written to said.output) (rest_of said) old new result)
+    either (eqb said.status 0) (Stores (written to said.output) (rest_of said) old new result)
     ((new ≡ old) × (result ≡ Ok (rest_of said)))
 
 -- the output is refused before anything is opened, or else the file is read, and its listing stored once there is memory for it
 abbrev pub StoresListing : List ℕ → List ℕ → Step Answer
 StoresListing to path =
-    Then (ChecksOutput program path to) (λ _.
-    Then (Reads program path) (λ bytes.
+    Then (ChecksOutput path to) (λ _.
+    Then (Reads path) (λ bytes.
     Then (Lists bytes) (IsStoring to)))
 
 -- ---- the program
 
 -- the map of the link, or only of what is asked of it, that the arguments after -m ask for
 abbrev pub MapsAsked : List (List ℕ) → Step Answer
-MapsAsked words = CallsOr program usage (λ m. IsMapCall m.asked m.words) (mapping words)
+MapsAsked words = CallsOr (λ m. IsMapCall m.asked m.words) (mapping words)
 
 -- what the arguments ask for
 abbrev pub IsCall : Option Folders → Call → Step Answer
 IsCall folders (explain mode paths) old new result = IsExplaining folders mode old new nothing_said (map path_found paths) result
 IsCall folders (walk paths) old new result = IsWalk folders old new paths result
 IsCall folders (store to path) old new result = StoresListing to path old new result
+IsCall folders (ask what path) old new result = AnswersAt what path old new result
 IsCall folders (map_link words) old new result = MapsAsked words old new result
 
 -- what the arguments ask for is done, and its answer is written
 abbrev pub PerformsExplain : {W E : Type 0} → (W → Option (List ℕ)) → (E → Option (List ℕ)) → Option Folders → List (List ℕ) →
     Surroundings W E → Surroundings W E → ℕ → Type 0
 PerformsExplain contents error_contents folders words before after status =
-    IsPerformed contents error_contents program (AnswersGiven program help usage (IsCall folders) asked_in words) before after status
+    IsPerformed contents error_contents (AnswersGiven (IsCall folders) asked_in words) before after status

@@ -1,11 +1,10 @@
 //! What the arguments ask for.
 ghost use Rattle.std.specs.Prelude.{◌≡◌, map, option_map, string_bytes};
-ghost use Rattle.v7_explain.specs.Calls.{after_map, asked_by, call_of, evidence_in, explaining, inventory, listing_by, misuse_in, storing, view_in, walking};
+ghost use Rattle.v7_explain.specs.Calls.{after_map, asked_by, asking, call_of, explaining, listing_by, storing, view_in, walking};
 ghost use Rattle.v7_explain.specs.internal.Asked.{result_in};
 
 use crate::explaining::Mode;
 use crate::views::View;
-use explanations::Base;
 use instructions::Decoder;
 use surroundings::{Given, Reason};
 use suspicions::Evidence;
@@ -19,6 +18,8 @@ pub(crate) enum Call<'a> {
     Walk(&'a [String]),
     /// To store the listing of a file: its path, and that of the file.
     Store(&'a str, &'a str),
+    /// To ask a file for a name or an address, or to show that function: what is asked, whether it is shown, and the path.
+    Ask(&'a str, bool, &'a str),
 }
 
 /// To explain the files at these paths, if there is one.
@@ -39,27 +40,6 @@ fn walking(paths: &[String]) -> Result<Call<'_>, Reason>
         return Err(Reason::NoFile);
     }
     Ok(Call::Walk(paths))
-}
-
-/// The inventory of files, or of those in folders with `-R`.
-fn inventory(given: &Given) -> Result<Call<'_>, Reason>
-    ensures { result_in result ≡ inventory given.now }
-{
-    if given.has(b'R') {
-        return walking(given.paths());
-    }
-    explaining(Mode::Inventory, given.paths())
-}
-
-/// The evidence for what is sure: with `-t` the promise that all of a text is instructions.
-fn evidence_in(given: &Given) -> Evidence
-    ensures { result ≡ evidence_in given.now }
-{
-    if given.has(b't') {
-        Evidence::Promise
-    } else {
-        Evidence::Flow
-    }
 }
 
 /// To store the listing of the file at this path, if it is the only one.
@@ -83,10 +63,7 @@ fn view_in(given: &Given) -> Option<View>
         return Some(View::Instructions(Decoder::Pdp11));
     }
     if given.has(b's') {
-        return Some(View::Rows(Base::Octal));
-    }
-    if given.has(b'x') {
-        return Some(View::Rows(Base::Hexadecimal));
+        return Some(View::Rows);
     }
     None
 }
@@ -100,7 +77,17 @@ fn listing_by(given: &Given) -> Result<Call<'_>, Reason>
     }
     match given.value_of(b'o') {
         Some(to) => storing(to, given.paths()),
-        None => explaining(Mode::Listing(evidence_in(given)), given.paths()),
+        None => explaining(Mode::Listing, given.paths()),
+    }
+}
+
+/// To ask the file at this path, if it is the only one.
+fn asking<'a>(what: &'a str, shows_function: bool, paths: &'a [String]) -> Result<Call<'a>, Reason>
+    ensures { result_in result ≡ asking what.now (map string_bytes paths.now) }
+{
+    match paths {
+        [path] => Ok(Call::Ask(what, shows_function, path.as_str())),
+        _ => Err(Reason::NotOneFile(b'y')),
     }
 }
 
@@ -108,38 +95,43 @@ fn listing_by(given: &Given) -> Result<Call<'_>, Reason>
 fn asked_by(given: &Given) -> Result<Call<'_>, Reason>
     ensures { result_in result ≡ asked_by given.now }
 {
+    let paths = given.paths();
     if given.has(b'c') {
-        return explaining(Mode::Check(evidence_in(given)), given.paths());
+        return if given.has(b't') {
+            explaining(Mode::Check(Evidence::Promise), paths)
+        } else {
+            explaining(Mode::Check(Evidence::Flow), paths)
+        };
+    }
+    if given.has(b'R') {
+        return walking(paths);
     }
     if given.has(b'l') {
-        return inventory(given);
+        return explaining(Mode::Inventory, paths);
     }
-    listing_by(given)
+    match given.value_of(b'y') {
+        Some(what) => asking(what, given.has(b'd'), paths),
+        None => listing_by(given),
+    }
 }
 
-/// Why options are refused: `-m` is not the first argument, one needs another, or one excludes another.
-fn misuse_in(given: &Given) -> Option<Reason>
-    ensures { result ≡ misuse_in given.now }
-{
-    if given.has(b'm') {
-        return Some(Reason::NotFirst(b'm'));
-    }
-    if given.has(b'y') {
-        return Some(Reason::Needs(b'y', b'm'));
-    }
-    if given.has(b'R') && !given.has(b'l') {
-        return Some(Reason::Needs(b'R', b'l'));
-    }
-    given
-        .excluded_in(b"cdlopsx")
-        .or(given.excluded_in(b"dloptsx"))
-}
-
-/// What is given asks for this.
+/// What is given asks for this, unless `-m` is not the first argument, an option needs another one, or one excludes another.
 pub(crate) fn call_of(given: &Given) -> Result<Call<'_>, Reason>
     ensures { result_in result ≡ call_of given.now }
 {
-    match misuse_in(given) {
+    if given.has(b'm') {
+        return Err(Reason::NotFirst(b'm'));
+    }
+    if given.has(b't') && !given.has(b'c') {
+        return Err(Reason::Needs(b't', b'c'));
+    }
+    if given.has(b'R') && !given.has(b'l') {
+        return Err(Reason::Needs(b'R', b'l'));
+    }
+    match given
+        .excluded_in(b"cdlops")
+        .or(given.excluded_in(b"clopsy"))
+    {
         Some(reason) => Err(reason),
         None => asked_by(given),
     }

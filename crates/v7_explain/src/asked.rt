@@ -1,9 +1,14 @@
-//! What a map is asked for.
-ghost use Rattle.std.specs.Prelude.{◌≡◌, map, option_map, IfOk, string_bytes};
+//! What a map is asked for: names, objects and addresses, and what the link does not have. Only tested: its text.
+ghost use Rattle.std.specs.Prelude.{◌≡◌, if◌then◌else◌, false, true, map, option_map, IfOk, OnOk, string_bytes};
+ghost use Rattle.std.specs.List.{list_any};
+ghost use Rattle.v7_explain.specs.Asked.{has_absent, has_path, has_use, is_absent, is_in_any, is_name, is_named, octal_number};
 ghost use Rattle.v7_explain.specs.Calls.{mapping_after};
 ghost use Rattle.v7_explain.specs.internal.Asked.{asks_of_map, mapping_with};
 
+use aout_core::{Name, Symbol};
+use link_maps::{LinkMap, Listed, Spot, Use, spots_at};
 use std::alloc::{AllocError, Global};
+use std::marker::Model;
 
 /// Whether the first of these words is `-y`.
 fn asks_of_map(words: &[String]) -> bool
@@ -33,4 +38,152 @@ pub(crate) fn take_asked<'a>(
         rest = after;
     }
     Ok(Some(rest))
+}
+
+/// Whether one of these symbols has a name.
+pub(crate) fn is_named(symbols: &[Symbol], name: &Name) -> bool
+    ensures { result ≡ is_named symbols.now name.now }
+{
+    symbols.iter().any(|symbol| symbol.name == *name)
+}
+
+/// Whether a symbol of one of these objects has a name.
+fn is_in_any(all: &[Listed<'_>], name: &Name) -> bool
+    ensures { result ≡ is_in_any all.now name.now }
+{
+    all.iter()
+        .any(|object| is_named(object.file.symbols(), name))
+}
+
+/// Whether one of these uses is of a name.
+fn has_use(uses: &[Use], name: &Name) -> bool
+    ensures { result ≡ has_use uses.now name.now }
+{
+    uses.iter().any(|used| used.symbol.name == *name)
+}
+
+/// Whether a name is one of a link, or a local of one of its objects.
+fn is_name(link: &LinkMap, all: &[Listed<'_>], name: &Name) -> bool
+    ensures { result ≡ is_name link.now all.now name.now }
+{
+    has_use(&link.uses, name) || is_in_any(all, name)
+}
+
+/// Whether an object has a path.
+fn has_path(all: &[Listed<'_>], path: &str) -> bool
+    ensures { result ≡ has_path all.now path.now }
+{
+    all.iter().any(|object| object.label == path)
+}
+
+/// The number of octal digits, if there is one and no other byte. No address has more than 33 bits.
+pub(crate) fn octal_number(digits: &[u8]) -> Option<u64>
+    ensures { result ≡ octal_number digits.now }
+{
+    if digits.is_empty() {
+        return None;
+    }
+    let mut sum = 0u64;
+    for digit in digits {
+        let digit = *digit;
+        if digit < b'0' || digit > b'7' || sum >= 0o10000000000 {
+            return None;
+        }
+        sum = 8 * sum + u64::from(digit - b'0');
+    }
+    Some(sum)
+}
+
+/// What arguments ask of a map.
+#[derive(Drop)]
+pub(crate) struct Asked {
+    /// Names of the link, and of locals.
+    pub(crate) names: Vec<Name>,
+    /// The paths of objects.
+    pub(crate) paths: Vec<String>,
+    /// What the link has at addresses.
+    pub(crate) spots: Vec<Spot>,
+    /// The arguments that are none of these.
+    pub(crate) absent: Vec<String>,
+}
+
+/// Whether an argument is absent: the status of a map depends on it.
+impl Model for Asked {
+    ghost use Rattle.std.specs.Prelude.{Bool};
+    ghost use Rattle.v7_explain.specs.Asked.{has_some};
+
+    ghost Value = { Bool };
+
+    ghost view = { λ a. has_some a.absent.items };
+}
+
+impl Asked {
+    /// Nothing.
+    fn nothing(alloc: Global) -> Asked
+        ensures { result ≡ false }
+    {
+        Asked {
+            names: Vec::new(alloc),
+            paths: Vec::new(alloc),
+            spots: Vec::new(alloc),
+            absent: Vec::new(alloc),
+        }
+    }
+
+    /// Adds what an argument asks of a map: a name, else the path of an object, else an address in octal digits.
+    #[tactic(auto, using(crate::proofs::AskedLemmas::has_more))]
+    fn put(
+        &mut self,
+        alloc: Global,
+        link: &LinkMap,
+        all: &[Listed<'_>],
+        argument: &str,
+    ) -> Result<(), AllocError>
+        ensures { OnOk result
+            (self.new ≡ (if is_absent link.now all.now argument.now then true else self.old)) }
+    {
+        let name = Name::from_bytes(argument.as_bytes());
+        if is_name(link, all, &name) {
+            self.names.push(name)?;
+            return Ok(());
+        }
+        let copy = String::from_str(alloc, argument)?;
+        if has_path(all, argument) {
+            self.paths.push(copy)?;
+            return Ok(());
+        }
+        if let Some(address) = octal_number(argument.as_bytes()) {
+            let spots = spots_at(alloc, link, address)?;
+            if !spots.is_empty() {
+                return self.spots.extend_from_slice(&spots);
+            }
+        }
+        self.absent.push(copy)?;
+        Ok(())
+    }
+
+    /// What these arguments ask of a map, each in turn. What the link does not have is absent. (own choice)
+    ///
+    /// An error: out of memory.
+    pub(crate) fn of(
+        alloc: Global,
+        link: &LinkMap,
+        all: &[Listed<'_>],
+        arguments: &[String],
+    ) -> Result<Asked, AllocError>
+        ensures { IfOk result (λ a. a ≡ has_absent link.now all.now (map string_bytes arguments.now)) }
+    {
+        let mut asked = Asked::nothing(alloc);
+        for argument in arguments {
+            asked.put(alloc, link, all, argument.as_str())?;
+        }
+        Ok(asked)
+    }
+
+    /// Whether an argument is absent.
+    pub(crate) fn has_absent(&self) -> bool
+        ensures { result ≡ self.now }
+    {
+        !self.absent.is_empty()
+    }
 }

@@ -7,7 +7,7 @@ ghost use Rattle.v7_explain.specs.Files.{IsCheck, IsChecked, IsNoObject, has_sur
 
 use crate::explaining::nothing_said;
 use crate::source::{
-    GNU_NOTE, Source, likeness_of, put_front, put_odd_lines, put_reports, put_text_line,
+    GNU_NOTE, Source, by_cause, likeness_of, put_front, put_odd_lines, put_reports, put_text_line,
 };
 use aout_core::{File, ReadFault, decode_file, object_fault};
 use disassemblies::Sweep;
@@ -68,9 +68,14 @@ fn check_object(
     if odd.is_empty() {
         return Ok(nothing_said(alloc));
     }
+    let status = status_of(&odd);
     let mut lines = Text::new(alloc);
-    put_odd_lines(&mut lines, source.path, &odd);
-    error_answer(alloc, lines, status_of(&odd))
+    put_odd_lines(
+        &mut lines,
+        source.path,
+        &by_cause(alloc, source.bytes, odd)?,
+    );
+    error_answer(alloc, lines, status)
 }
 
 /// Why a file is not an object, if it is not; or what is odd in it.

@@ -13,21 +13,7 @@ use surroundings::{readable, special_at};
 /// The folders of a runtime.
 #[derive(Drop)]
 pub struct DiskFolders<'a, H> {
-    rt: &'a H,
-}
-
-impl<'a, H> DiskFolders<'a, H> {
-    pub fn new(rt: &'a H) -> DiskFolders<'a, H> {
-        DiskFolders { rt }
-    }
-}
-
-/// Whether a path is that of a link. What can't be looked at is taken for something else.
-fn is_link<H: Files>(rt: &H, path: &str) -> bool {
-    match fs::symlink_metadata(rt, path) {
-        Ok(about) => about.is_symlink(),
-        Err(_) => false,
-    }
+    pub(crate) rt: &'a H,
 }
 
 /// Fails if the system's answer is that there is no memory.
@@ -38,7 +24,8 @@ fn check_memory(error: &io::Error) -> Result<(), AllocError> {
     }
 }
 
-/// Adds a name of the folder at a path, unless it is that of a link. One that is not UTF-8 can't be looked at.
+/// Adds a name of the folder at a path, unless it is that of a link. What can't be looked at, as a name that is not UTF-8, is taken for
+/// something else.
 fn take<H: Files>(
     alloc: Global,
     rt: &H,
@@ -53,8 +40,11 @@ fn take<H: Files>(
     let name = readable(alloc, name)?;
     if !is_named {
         folder.unnamed.push(name)?;
-    } else if !is_link(rt, path_in(alloc, path, name.as_str())?.as_str()) {
-        folder.names.push(name)?;
+        return Ok(());
+    }
+    match fs::symlink_metadata(rt, path_in(alloc, path, name.as_str())?.as_str()) {
+        Ok(about) if about.is_symlink() => {}
+        _ => folder.names.push(name)?,
     }
     Ok(())
 }

@@ -1,7 +1,6 @@
 //! Files that are explained one after another: each is read whole and explained before the next one is opened.
 ghost use Rattle.std.specs.Prelude.{◌≡◌, OnOk, IfErr, IfOk, map, string_bytes};
 ghost use Rattle.surroundings.specs.Sources.{EndsReading};
-ghost use Rattle.v7_explain.specs.Files.{program};
 ghost use Rattle.v7_explain.specs.Joined.{joined, nothing_said};
 ghost use Rattle.v7_explain.specs.Walks.{path_found};
 ghost use Rattle.v7_explain.specs.Runs.{Explains, ExplainsFound, ExplainsNamed, IsExplaining, IsKind, IsSaid, IsWalk, ReadsFor};
@@ -21,8 +20,8 @@ use suspicions::Evidence;
 /// What is said of each file.
 #[derive(Clone, Copy, PartialEq, Eq)]
 pub(crate) enum Mode {
-    /// A listing. The evidence says what is sure of its instructions.
-    Listing(Evidence),
+    /// A listing.
+    Listing,
     /// Its instructions, or its words in rows.
     Show(View),
     /// Why it is not an object, or what is odd in it.
@@ -57,7 +56,7 @@ fn explain(alloc: Global, mode: Mode, source: Source<'_>) -> Result<Answer, Allo
     ensures { IfOk result (λ a. IsSaid mode source.entry.bytes.now a) }
 {
     match mode {
-        Mode::Listing(evidence) => list(alloc, evidence, source, false),
+        Mode::Listing => list(alloc, source, false),
         Mode::Show(view) => show(alloc, source, view),
         Mode::Check(evidence) => check(alloc, evidence, source),
         Mode::Inventory => take_inventory(alloc, source),
@@ -77,7 +76,7 @@ fn bytes_for<O: Office>(
     ensures ok { IfOk result (λ bytes.
         ReadsFor mode (O.history office.old) (O.history office.new) path.now bytes.items) }
     ensures err { IfErr result (λ fault.
-        EndsReading program (O.history office.old) (O.history office.new) path.now fault) }
+        EndsReading (O.history office.old) (O.history office.new) path.now fault) }
 {
     match mode {
         Mode::Inventory => read_front(alloc, office, NAME, path, u64::from(MOST_BYTES) + 1),

@@ -3,26 +3,12 @@ ghost use Rattle.std.specs.Prelude.{IfOk};
 ghost use Rattle.v7_explain.specs.Files.{IsRow, IsUnnamed};
 
 use crate::source::{Source, put_text_line};
-use aout_core::{decode_file, object_fault};
+use aout_core::{FileFault, decode_file, object_fault};
 use explanations::{FileKind, InventoryRow, file_row, plain_row, put_row, refused_row};
 use findings::{wrong_bytes, wrong_in};
 use std::alloc::{AllocError, Global};
 use surroundings::Answer;
 use texts::Text;
-
-/// What the inventory says of the bytes of a file.
-fn row_of(alloc: Global, bytes: &[u8]) -> Result<InventoryRow, AllocError> {
-    match decode_file(alloc, bytes)? {
-        Ok(file) => {
-            let wrong = wrong_in(alloc, &file, object_fault(&file))?;
-            file_row(alloc, bytes, &file, &wrong)
-        }
-        Err(fault) => {
-            let wrong = wrong_bytes(alloc, bytes, fault)?;
-            refused_row(alloc, bytes, fault, &wrong)
-        }
-    }
-}
 
 /// The line for a path. Its status is 0, whatever the file is.
 fn line_of(alloc: Global, path: &str, row: &InventoryRow) -> Result<Answer, AllocError>
@@ -41,7 +27,17 @@ fn line_of(alloc: Global, path: &str, row: &InventoryRow) -> Result<Answer, Allo
 pub(crate) fn take_inventory(alloc: Global, source: Source<'_>) -> Result<Answer, AllocError>
     ensures { IfOk result (λ answer. IsRow answer) }
 {
-    let row = row_of(alloc, source.bytes)?;
+    let bytes = source.bytes;
+    let row = match decode_file(alloc, bytes)? {
+        Ok(file) => {
+            let wrong = wrong_in(alloc, &file, object_fault(&file))?;
+            file_row(alloc, bytes, &file, &wrong)?
+        }
+        Err(fault) => {
+            let wrong = wrong_bytes(alloc, bytes, fault)?;
+            refused_row(alloc, bytes, fault, &wrong)?
+        }
+    };
     line_of(alloc, source.path, &row)
 }
 
@@ -58,7 +54,7 @@ pub(crate) fn take_unnamed(alloc: Global, path: &str) -> Result<Answer, AllocErr
 {
     let line = take_kind(alloc, path, FileKind::NotUtf8)?;
     let mut errors = Text::new(alloc);
-    put_text_line(&mut errors, path, "cannot open");
+    put_text_line(&mut errors, path, FileFault::NotOpened);
     Ok(Answer {
         output: line.output,
         errors: errors.finish()?,

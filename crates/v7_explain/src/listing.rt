@@ -6,41 +6,30 @@ ghost use Rattle.listings.specs.declared.draft.Addresses.TheVariants.{Compared};
 ghost use Rattle.v7_explain.specs.Files.{IsListed, IsListing};
 
 use crate::source::{
-    Source, explain_refused, front_notes, put_gnu_note, put_odd, reported, status_in,
+    GNU_NOTE, Source, by_cause, explain_refused, front_notes, put_odd, reported, status_in,
 };
-use aout_core::{File, ObjectFault, decode_file, object_fault};
+use aout_core::{File, decode_file, object_fault};
 use disassemblies::Sweep;
 use explanations::write_explained;
-use findings::{Finding, Notes, put_findings, put_header, wrong_in};
+use findings::{Finding, Notes, is_of_gnu, put_findings, put_header, wrong_in};
 use std::alloc::{AllocError, Global};
 use surroundings::Answer;
 use suspicions::{Evidence, all_odd_of};
 
-/// The notes before a file.
-fn list_notes(
-    alloc: Global,
-    source: Source<'_>,
-    file: &File,
-    refused: Option<ObjectFault>,
-) -> Notes {
-    let mut notes = front_notes(alloc, source, file.header(), refused);
-    put_header(&mut notes, file.header());
-    notes
-}
-
 /// What is found in a file, as notes after it.
 fn list_findings(
     alloc: Global,
-    evidence: Evidence,
     bytes: &[u8],
     sweep: &Sweep<'_>,
     wrong: &[Finding],
 ) -> Result<Notes, AllocError> {
-    let odd = all_odd_of(alloc, evidence, bytes, sweep, true)?;
+    let odd = all_odd_of(alloc, Evidence::Flow, bytes, sweep, true)?;
     let mut findings = Notes::new(alloc);
     put_findings(&mut findings, "wrong", wrong);
-    put_odd(&mut findings, &odd);
-    put_gnu_note(alloc, &mut findings, bytes, false)?;
+    put_odd(&mut findings, &by_cause(alloc, bytes, odd)?);
+    if is_of_gnu(alloc, bytes, false)? {
+        findings.say(GNU_NOTE);
+    }
     Ok(findings)
 }
 
@@ -62,7 +51,6 @@ fn listing_with(
 #[tactic(auto, using(crate::proofs::FoundLemmas::untold))]
 fn list_file(
     alloc: Global,
-    evidence: Evidence,
     source: Source<'_>,
     is_reported: bool,
     file: &File,
@@ -72,9 +60,10 @@ fn list_file(
 {
     let refused = object_fault(file);
     let wrong = wrong_in(alloc, file, refused)?;
-    let notes = list_notes(alloc, source, file, refused);
+    let mut notes = front_notes(alloc, source, file.header(), refused);
+    put_header(&mut notes, file.header());
     let sweep = Sweep::new(alloc, file)?;
-    let findings = list_findings(alloc, evidence, source.bytes, &sweep, &wrong)?;
+    let findings = list_findings(alloc, source.bytes, &sweep, &wrong)?;
     Ok(Answer {
         output: listing_with(alloc, &sweep, &notes, &findings)?,
         errors: reported(alloc, is_reported, source.path, &wrong)?,
@@ -85,14 +74,13 @@ fn list_file(
 /// The listing of the bytes of a file; what is wrong with them goes to standard error too, if it is reported.
 pub(crate) fn list(
     alloc: Global,
-    evidence: Evidence,
     source: Source<'_>,
     is_reported: bool,
 ) -> Result<Answer, AllocError>
     ensures { IfOk result (λ answer. IsListed is_reported source.entry.bytes.now answer) }
 {
     match decode_file(alloc, source.bytes)? {
-        Ok(file) => list_file(alloc, evidence, source, is_reported, &file),
+        Ok(file) => list_file(alloc, source, is_reported, &file),
         Err(fault) => explain_refused(alloc, None, source, is_reported, fault),
     }
 }

@@ -12,34 +12,34 @@ mod help;
 mod inventory;
 mod listing;
 mod map;
+mod map_names;
 mod map_objects;
+mod map_odd;
+mod map_parts;
+mod map_spots;
+mod mapped;
 mod program;
-mod remains;
+mod question;
 mod source;
 mod storing;
 mod views;
 
-use aout_core::Wire;
 use disk_folders::DiskFolders;
 use help::USAGE;
 use program::{NAME, perform};
 use std::io;
 use std::process::ExitCode;
-use surroundings::{Disk, Outputs, StandardError, end, hold_streams, readable_words};
+use surroundings::{Disk, end, hold_streams, outputs_of, readable_words};
 
 /// The status of the program. The streams are held until it has ended.
 fn run(rt: &HostRuntime) -> io::Result<u8> {
     let _held = hold_streams(rt)?;
     let words = readable_words(rt.alloc(), rt)?;
-    let mut outputs = Outputs {
-        output: Wire::new(io::writer(rt)),
-        error: Wire::new(StandardError::new(rt)),
-    };
     Ok(perform(
         rt.alloc(),
         &mut Disk::of_files(rt),
-        &DiskFolders::new(rt),
-        &mut outputs,
+        &DiskFolders { rt },
+        &mut outputs_of(rt),
         &words,
     ))
 }

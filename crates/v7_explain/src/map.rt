@@ -1,20 +1,21 @@
 //! The map of a link, made or refused.
 ghost use Rattle.std.specs.Prelude.{◌≡◌, ◌⊎◌, IfOk, Err, map, string_bytes};
 ghost use Rattle.aout_core.specs.Refusals.{refused};
+ghost use Rattle.surroundings.specs.Answers.{Ends};
 ghost use Rattle.surroundings.specs.declared.answer.Fault.TheVariants.{Memory};
-ghost use Rattle.v7_explain.specs.Maps.{IsMapCall, IsMapping, MapsCall, link_words, not_of_ld, status_with};
+ghost use Rattle.v7_explain.specs.Maps.{IsMapCall, IsMapping, MapsCall, link_words, status_with};
 ghost use Rattle.v7_explain.specs.Runs.{MapsAsked};
 ghost use Rattle.v7_explain.specs.internal.Takes.{IsMapAnswer, status_mapped};
 
-use crate::asked::take_asked;
+use crate::asked::{Asked, take_asked};
 use crate::help::USAGE;
 use crate::map_objects::take_objects;
+use crate::mapped::Mapped;
 use crate::program::NAME;
 use command_words::{Call, WordsFault, parse};
 use link_maps::{LinkMap, Objects, map_of};
 use link_out::Options;
 use link_session::Forced;
-use map_texts::{Asked, asked_map, map_text};
 use std::alloc::{AllocError, Global};
 use surroundings::{Answer, Fault, Office, Reason, refused_answer};
 
@@ -22,27 +23,9 @@ use surroundings::{Answer, Fault, Office, Reason, refused_answer};
 fn status_of(map: &LinkMap) -> u8
     ensures { result ≡ status_mapped map.now.outcome }
 {
-    match &map.outcome {
-        Some(outcome) => match &outcome.linked {
-            Ok(linked) => linked.report.status(),
-            Err(_) => 1,
-        },
+    match map.linked() {
+        Some(linked) => linked.report.status(),
         None => 1,
-    }
-}
-
-/// The text of a map: the whole one, or only what is asked for by some arguments.
-fn text_with(
-    alloc: Global,
-    objects: &Objects,
-    link: &LinkMap,
-    options: &Options,
-    arguments: &[String],
-    asked: &Asked,
-) -> Result<Vec<u8>, AllocError> {
-    match arguments {
-        [] => map_text(alloc, objects, link, options),
-        _ => asked_map(alloc, objects, link, asked),
     }
 }
 
@@ -65,9 +48,11 @@ fn map_answer(
         objects.now forced.now options.now a) }
 {
     let map = map_of(alloc, objects, forced, options)?;
-    let asked = Asked::of(alloc, &map, arguments)?;
+    let all = objects.all(alloc)?;
+    let asked = Asked::of(alloc, &map, &all, arguments)?;
+    let mapped = Mapped::new(alloc, objects, &all, &map, &asked)?;
     Ok(Answer {
-        output: text_with(alloc, objects, &map, options, arguments, &asked)?,
+        output: mapped.text(alloc, options, arguments.is_empty())?,
         errors: Vec::new(alloc),
         status: status_with(asked.has_absent(), status_of(&map)),
     })
@@ -109,7 +94,7 @@ fn link_words(alloc: Global, words: &[String]) -> Result<Vec<String>, AllocError
 
 /// The answer to arguments after `-m` that are not those of `ld`.
 fn not_of_ld(alloc: Global) -> Result<Answer, AllocError>
-    ensures { IfOk result (λ a. a ≡ not_of_ld) }
+    ensures { IfOk result (λ a. Ends 2 a) }
 {
     refused_answer(alloc, NAME, USAGE, Reason::NotOfLd(b'm'))
 }

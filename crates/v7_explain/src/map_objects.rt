@@ -1,66 +1,47 @@
 //! The objects of a link, from their files.
-ghost use Rattle.std.specs.Prelude.{◌≡◌, ◌≢◌, [], IfErr, IfOk, Err, Ok, map, string_bytes};
+ghost use Rattle.std.specs.Prelude.{◌≡◌, ◌≢◌, [], true, IfErr, IfOk, Err, Ok, is_err, map, string_bytes};
 ghost use Rattle.aout_core.specs.Decoding.{decode};
-ghost use Rattle.aout_core.specs.FaultTexts.{object_text, read_text};
 ghost use Rattle.aout_core.specs.Refusals.{refused};
 ghost use Rattle.link_maps.specs.Members.{all_of};
 ghost use Rattle.link_out.specs.Inputs.{object_in};
-ghost use Rattle.surroundings.specs.Answers.{Faults};
+ghost use Rattle.surroundings.specs.Answers.{Stops};
 ghost use Rattle.surroundings.specs.declared.answer.Fault.TheVariants.{Memory};
-ghost use Rattle.texts.specs.Texts.{Puts};
-ghost use Rattle.v7_explain.specs.Files.{line_of};
-ghost use Rattle.v7_explain.specs.Maps.{input_in, refused_for};
 ghost use Rattle.v7_explain.specs.internal.Takes.{KeepsSplit, TakesAll, TakesNext, TakesOne};
 
 use crate::explaining::{MOST_BYTES, join, nothing_said};
 use crate::program::NAME;
-use crate::source::{put_front, put_text_line};
-use aout_core::{Object, ObjectFault, ReadFault, decode_file};
+use crate::source::put_text_line;
+use aout_core::{Object, decode_file};
 use link_maps::Objects;
 use std::alloc::{AllocError, Global};
-use surroundings::{Answer, Fault, Office, error_answer, put_object_fault, read_whole};
+use std::fmt::Display;
+use surroundings::{Answer, Fault, Office, error_answer, read_whole};
 use texts::Text;
 
-/// The answer that bytes are not a file.
-fn not_read(alloc: Global, path: &str, fault: ReadFault) -> Result<Answer, AllocError>
-    ensures { IfOk result (λ a. a ≡ refused_for path.now (read_text fault)) }
+/// The fault that the bytes at a path are not an object.
+fn no_object<D: Display + Drop>(alloc: Global, path: &str, fault: D) -> Fault
+    ensures { Stops true 1 result }
 {
     let mut line = Text::new(alloc);
-    put_text_line(&mut line, path, fault.text());
-    error_answer(alloc, line, 1)
-}
-
-/// Puts the line that a file is not an object.
-#[tactic(auto, unfolding(crate::specs::Files::line_of))]
-fn put_object_line(line: &mut Text, path: &str, fault: ObjectFault)
-    ensures { Puts line.old line.new (line_of path.now (object_text fault)) }
-{
-    put_front(line, path);
-    put_object_fault(line, fault);
-    line.put("\n");
-}
-
-/// The answer that a file is not an object.
-fn not_fit(alloc: Global, path: &str, fault: ObjectFault) -> Result<Answer, AllocError>
-    ensures { IfOk result (λ a. a ≡ refused_for path.now (object_text fault)) }
-{
-    let mut line = Text::new(alloc);
-    put_object_line(&mut line, path, fault);
-    error_answer(alloc, line, 1)
+    put_text_line(&mut line, path, fault);
+    match error_answer(alloc, line, 1) {
+        Ok(answer) => Fault::Answered(answer),
+        Err(error) => Fault::from(error),
+    }
 }
 
 /// The object in the bytes of a file, or why there is none.
 fn object_in(alloc: Global, path: &str, bytes: &[u8]) -> Result<Object, Fault>
     ensures ok { IfOk result (λ object. object_in (decode bytes.now) ≡ Ok object) }
-    ensures err { IfErr result (λ fault. Faults (input_in path.now bytes.now) fault) }
+    ensures err { IfErr result (λ fault. Stops (is_err (object_in (decode bytes.now))) 1 fault) }
 {
     let file = match decode_file(alloc, bytes)? {
         Ok(file) => file,
-        Err(fault) => return Err(Fault::Answered(not_read(alloc, path, fault)?)),
+        Err(fault) => return Err(no_object(alloc, path, fault)),
     };
     match Object::from_file(file) {
         Ok(object) => Ok(object),
-        Err((_, fault)) => Err(Fault::Answered(not_fit(alloc, path, fault)?)),
+        Err((_, fault)) => Err(no_object(alloc, path, fault)),
     }
 }
 

@@ -2,8 +2,6 @@
 ghost use Rattle.std.specs.Prelude.{None, map, string_bytes};
 ghost use Rattle.surroundings.specs.Programs.{AnswersGiven, DoesWords};
 ghost use Rattle.v7_explain.specs.Calls.{asked_in, asked_or, call_of};
-ghost use Rattle.v7_explain.specs.Files.{program};
-ghost use Rattle.v7_explain.specs.Help.{help, usage};
 ghost use Rattle.v7_explain.specs.Runs.{IsCall, PerformsExplain};
 ghost use Rattle.v7_explain.specs.internal.Asked.{call_in};
 
@@ -12,6 +10,7 @@ use crate::explaining::{explain_all, explain_walked};
 use crate::folders::Folders;
 use crate::help::{HELP, USAGE};
 use crate::map::map_files;
+use crate::question::answer_at;
 use crate::storing::store_listing;
 use std::alloc::Global;
 use std::io::Write;
@@ -37,6 +36,13 @@ fn do_call<O: Office, F: Folders>(
         Call::Explain(mode, paths) => explain_all(alloc, office, folders, mode, paths),
         Call::Walk(paths) => explain_walked(alloc, office, folders, paths),
         Call::Store(to, path) => store_listing(alloc, office, to, path),
+        Call::Ask(what, shows_function, path) => answer_at(
+            alloc,
+            office,
+            what,
+            shows_function,
+            path,
+        ),
     }
 }
 
@@ -48,7 +54,7 @@ fn answer_given<O: Office, F: Folders>(
     folders: &F,
     given: &Given,
 ) -> Result<Answer, Fault>
-    ensures { DoesWords program usage (IsCall (F.folders folders.now)) (call_of given.now)
+    ensures { DoesWords (IsCall (F.folders folders.now)) (call_of given.now)
         (O.history office.old) (O.history office.new) result }
 {
     match call_of(given) {
@@ -65,11 +71,11 @@ fn answer_read<O: Office, F: Folders>(
     folders: &F,
     words: &[String],
 ) -> Result<Answer, Fault>
-    ensures { DoesWords program usage (IsCall (F.folders folders.now))
+    ensures { DoesWords (IsCall (F.folders folders.now))
         (asked_or None (map string_bytes words.now))
         (O.history office.old) (O.history office.new) result }
 {
-    match given_in(alloc, b"cdlmpRstxy", b"o", words)? {
+    match given_in(alloc, b"cdlmpRst", b"oy", words)? {
         Ok(given) => answer_given(alloc, office, folders, &given),
         Err(reason) => Ok(refused_answer(alloc, NAME, USAGE, reason)?),
     }
@@ -83,7 +89,7 @@ fn answer_words<O: Office, F: Folders>(
     folders: &F,
     words: &[String],
 ) -> Result<Answer, Fault>
-    ensures { DoesWords program usage (IsCall (F.folders folders.now))
+    ensures { DoesWords (IsCall (F.folders folders.now))
         (asked_in (map string_bytes words.now)) (O.history office.old) (O.history office.new) result }
 {
     match after_map(words) {
@@ -100,7 +106,7 @@ fn answer<O: Office, F: Folders>(
     folders: &F,
     words: &[String],
 ) -> Result<Answer, Fault>
-    ensures { AnswersGiven program help usage (IsCall (F.folders folders.now)) asked_in
+    ensures { AnswersGiven (IsCall (F.folders folders.now)) asked_in
         (map string_bytes words.now) (O.history office.old) (O.history office.new) result }
 {
     match shown_in(words) {

@@ -1,20 +1,19 @@
 //! A file that is explained, and what is said of it whatever becomes of it. Only tested: what is said.
-ghost use Rattle.std.specs.Prelude.{◌≡◌, [], false, IfOk};
-ghost use Rattle.surroundings.specs.Answers.{line_front};
-ghost use Rattle.texts.specs.Texts.{Puts};
-ghost use Rattle.v7_explain.specs.Files.{IsRefused, line_of, program, status_in};
+ghost use Rattle.std.specs.Prelude.{◌≡◌, ◌<◌, [], false, IfOk};
+ghost use Rattle.v7_explain.specs.Files.{IsRefused, status_in};
 
 use crate::program::NAME;
-use crate::remains::put_remains;
-use crate::views::View;
+use crate::views::{View, put_body};
 use aout_core::{Header, ObjectFault, ReadFault};
-use explanations::put_lines;
+use disassemblies::Sweep;
+use explanations::{put_lines, write_remains};
 use findings::{
-    Finding, KindText, Notes, header_of, is_damaged, is_of_gnu, likeness, put_finding_text,
-    put_findings, put_header, wrong_bytes,
+    Finding, FindingKind, KindText, Notes, decode_there, header_of, is_damaged, is_of_gnu,
+    likeness, put_finding_text, put_findings, put_header, put_missing, relocs_there, wrong_bytes,
 };
 use std::alloc::{AllocError, Global};
-use surroundings::{Answer, put_line_front};
+use std::fmt::Display;
+use surroundings::Answer;
 use texts::Text;
 
 /// That a file is in the form of GNU's assembler.
@@ -24,6 +23,9 @@ pub(crate) const GNU_NOTE: &str =
 
 /// How many odd things are shown one by one.
 const MOST_ODD: usize = 16;
+
+/// How many words of one kind that refer outside of its segment are shown one by one.
+const MOST_ALIKE: usize = 4;
 
 /// A file: its path and its bytes.
 #[derive(Clone, Copy)]
@@ -48,20 +50,13 @@ pub(crate) fn likeness_of(bytes: &[u8], fault: ReadFault) -> Option<&'static str
 }
 
 /// Puts the program and a path.
-pub(crate) fn put_front(lines: &mut Text, path: &str)
-    ensures { Puts lines.old lines.new (line_front program path.now) }
-{
-    put_line_front(lines, NAME, path);
+pub(crate) fn put_front(lines: &mut Text, path: &str) {
+    lines.say(format_args!("{NAME}: {path}: "));
 }
 
 /// Puts a line with a text on a file.
-#[tactic(auto, unfolding(crate::specs::Files::line_of))]
-pub(crate) fn put_text_line(lines: &mut Text, path: &str, text: &str)
-    ensures { Puts lines.old lines.new (line_of path.now text.now) }
-{
-    put_front(lines, path);
-    lines.put(text);
-    lines.put("\n");
+pub(crate) fn put_text_line<D: Display + Drop>(lines: &mut Text, path: &str, text: D) {
+    lines.say(format_args!("{NAME}: {path}: {text}\n"));
 }
 
 /// Puts findings as lines for standard error.
@@ -71,6 +66,63 @@ pub(crate) fn put_reports(lines: &mut Text, path: &str, wrong: &[Finding]) {
         put_finding_text(lines, finding);
         lines.put("\n");
     }
+}
+
+/// A number below 8 for the kind of a word that refers outside of its segment, and for whether that is sure; 0 for any other finding.
+fn cause_of(bytes: &[u8], finding: &Finding) -> usize
+    ensures { result < 8 }
+{
+    match bytes.get(finding.place) {
+        Some(byte) if finding.kind == FindingKind::OutsideReference => {
+            usize::from(*byte / 2 % 4) + if finding.is_sure { 4 } else { 0 }
+        }
+        _ => 0,
+    }
+}
+
+/// A finding for so many words that have the cause of this one, the first of them.
+fn finding_for(
+    alloc: Global,
+    count: usize,
+    cause: usize,
+    first: Finding,
+) -> Result<Finding, AllocError> {
+    let label = match cause % 4 {
+        1 => "text",
+        2 => "data",
+        _ => "bss",
+    };
+    let mut text = Text::new(alloc);
+    text.say(format_args!("{count} words of kind {label} lie outside, the first"));
+    let said = first.text.as_slice();
+    text.put_bytes(said.strip_prefix(b"the word".as_slice()).unwrap_or(said));
+    let text = text.finish()?;
+    Ok(Finding { text, ..first })
+}
+
+/// What is odd, with one finding for all words of a kind that refer outside of its segment, if there are more than a few.
+pub(crate) fn by_cause(
+    alloc: Global,
+    bytes: &[u8],
+    odd: Vec<Finding>,
+) -> Result<Vec<Finding>, AllocError> {
+    let mut counts = [0usize; 8];
+    for finding in &odd {
+        let cause = cause_of(bytes, finding);
+        counts[cause] = counts[cause].saturating_add(1);
+    }
+    let mut told = Vec::new(alloc);
+    for finding in odd {
+        let cause = cause_of(bytes, &finding);
+        let count = counts[cause];
+        if cause > 0 && count > MOST_ALIKE {
+            told.push(finding_for(alloc, count, cause, finding)?)?;
+            counts[cause] = 0;
+        } else if count > 0 {
+            told.push(finding)?;
+        }
+    }
+    Ok(told)
 }
 
 /// The findings that are shown one by one, and how many more there are.
@@ -125,19 +177,6 @@ fn put_title(notes: &mut Notes, source: Source<'_>) {
     notes.say(format_args!("{path}: 0{size:o} ({size}) bytes"));
 }
 
-/// Adds a note if a file is in the form of GNU's assembler.
-pub(crate) fn put_gnu_note(
-    alloc: Global,
-    notes: &mut Notes,
-    bytes: &[u8],
-    is_odd: bool,
-) -> Result<(), AllocError> {
-    if is_of_gnu(alloc, bytes, is_odd)? {
-        notes.say(GNU_NOTE);
-    }
-    Ok(())
-}
-
 /// The notes with which a file begins: the path with the size, and what the file is unless it is damaged.
 pub(crate) fn front_notes(
     alloc: Global,
@@ -173,23 +212,38 @@ fn refused_notes(
     if let Some(text) = known {
         notes.say(text);
     }
-    put_gnu_note(alloc, &mut notes, source.bytes, true)?;
+    if is_of_gnu(alloc, source.bytes, true)? {
+        notes.say(GNU_NOTE);
+    }
     Ok(notes)
 }
 
-/// Notes as lines, and what is there of the file.
-fn refused_text(
-    alloc: Global,
+/// Appends what is there of a file that ends early, in a view or as a listing, and where it ends. That line begins with no slash, so it is
+/// not a note: a listing that has it describes no file. Of a file that is not read for another reason nothing is there.
+fn put_remains(
+    text: &mut Text,
     view: Option<View>,
-    bytes: &[u8],
     fault: ReadFault,
-    notes: &Notes,
-) -> Result<Vec<u8>, AllocError> {
-    notes.whole()?;
-    let mut text = Text::new(alloc);
-    put_lines(&mut text, notes);
-    put_remains(&mut text, view, fault, bytes);
-    text.finish()
+    bytes: &[u8],
+) -> Result<(), AllocError> {
+    let alloc = text.allocator();
+    let (ReadFault::Truncated, Some(header)) = (fault, header_of(bytes)) else {
+        return Ok(());
+    };
+    let Ok(file) = decode_there(alloc, bytes)? else {
+        return Ok(());
+    };
+    match view {
+        Some(view) => put_body(text, view, &file),
+        None => {
+            let sweep = Sweep::new(alloc, &file)?;
+            let relocs = relocs_there(&header, bytes.len());
+            text.put_bytes(&write_remains(alloc, &sweep, relocs)?);
+        }
+    }
+    put_missing(text, &header, bytes.len());
+    text.put("\n");
+    Ok(())
 }
 
 /// Explains bytes that are not a file, and shows what is there of one: in a view, or as a listing.
@@ -204,8 +258,12 @@ pub(crate) fn explain_refused(
 {
     let wrong = wrong_bytes(alloc, source.bytes, fault)?;
     let notes = refused_notes(alloc, source, fault, &wrong)?;
+    notes.whole()?;
+    let mut text = Text::new(alloc);
+    put_lines(&mut text, &notes);
+    put_remains(&mut text, view, fault, source.bytes)?;
     Ok(Answer {
-        output: refused_text(alloc, view, source.bytes, fault, &notes)?,
+        output: text.finish()?,
         errors: reported(alloc, is_reported, source.path, &wrong)?,
         status: 1,
     })

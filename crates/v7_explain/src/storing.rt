@@ -7,7 +7,6 @@ use crate::program::NAME;
 use crate::source::Source;
 use std::alloc::Global;
 use surroundings::{Answer, Fault, Office, answer_stored, check_output, read_whole};
-use suspicions::Evidence;
 
 /// Stores a listing, if nothing is wrong with the file; else the answer says what is wrong.
 fn store<O: Office>(alloc: Global, office: &mut O, to: &str, said: Answer) -> Result<Answer, Fault>
@@ -45,6 +44,6 @@ pub(crate) fn store_listing<O: Office>(
         path,
         bytes: &bytes,
     };
-    let said = list(alloc, Evidence::Flow, source, true)?;
+    let said = list(alloc, source, true)?;
     store(alloc, office, to, said)
 }

@@ -5,7 +5,7 @@ ghost use Rattle.v7_explain.specs.Files.{IsViewed, IsView};
 use crate::source::{Source, explain_refused, front_notes, status_in};
 use aout_core::{File, decode_file, object_fault};
 use disassemblies::put_disassembly;
-use explanations::{Base, put_dump, put_lines};
+use explanations::{put_dump, put_lines};
 use findings::{Notes, put_findings, wrong_in};
 use instructions::Decoder;
 use std::alloc::{AllocError, Global};
@@ -18,35 +18,18 @@ pub(crate) enum View {
     /// The text as instructions, as this decoder finds them.
     Instructions(Decoder),
     /// Text and data in rows of words.
-    Rows(Base),
+    Rows,
 }
 
 /// Appends the contents of a file.
 pub(crate) fn put_body(text: &mut Text, view: View, file: &File) {
     match view {
         View::Instructions(decoder) => put_disassembly(text, decoder, file),
-        View::Rows(base) => put_dump(text, base, file),
+        View::Rows => put_dump(text, file),
     }
 }
 
-/// The contents of a file, with notes before it and findings after it.
-fn body(
-    alloc: Global,
-    view: View,
-    file: &File,
-    notes: &Notes,
-    findings: &Notes,
-) -> Result<Vec<u8>, AllocError> {
-    notes.whole()?;
-    findings.whole()?;
-    let mut text = Text::new(alloc);
-    put_lines(&mut text, notes);
-    put_body(&mut text, view, file);
-    put_lines(&mut text, findings);
-    text.finish()
-}
-
-/// The contents of a file, with its status.
+/// The contents of a file, with notes before it and findings after it, and its status.
 fn show_file(
     alloc: Global,
     source: Source<'_>,
@@ -60,8 +43,14 @@ fn show_file(
     let notes = front_notes(alloc, source, file.header(), refused);
     let mut findings = Notes::new(alloc);
     put_findings(&mut findings, "wrong", &wrong);
+    notes.whole()?;
+    findings.whole()?;
+    let mut text = Text::new(alloc);
+    put_lines(&mut text, &notes);
+    put_body(&mut text, view, file);
+    put_lines(&mut text, &findings);
     Ok(Answer {
-        output: body(alloc, view, file, &notes, &findings)?,
+        output: text.finish()?,
         errors: Vec::new(alloc),
         status: status_in(refused),
     })

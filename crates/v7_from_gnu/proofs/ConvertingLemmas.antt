@@ -6,7 +6,7 @@ use Rattle.aout_core.specs.{Contents.Contents, Refusals.refused}
 use Rattle.gnu_objects.specs.{Clashes.has_clash, Converted.converted, declared.options.Options.Options, declared.refusal.Refusal.Refusal}
 use Rattle.surroundings.specs.declared.answer.Fault.{Fault}
 use Rattle.surroundings.specs.declared.answer.Fault.TheVariants.{Answered, Memory}
-use Rattle.v7_from_gnu.specs.Answers.{FindsOr, Stops, is_none}
+use Rattle.surroundings.specs.Answers.{Stops, is_none}
 use Rattle.v7_from_gnu.specs.Converting.{and_then, converted_from, outcome, target_of, target_with, with_names}
 use Rattle.v7_from_gnu.specs.{Checks.bytes_of, Jobs.Source, Jobs.Target, internal.Lists.RefusedAs}
 use Rattle.gnu_objects.specs.declared.refusal.Refusal.TheVariants as refusals
@@ -43,18 +43,28 @@ converting_fails options done all left later source fault inv e h =
     subst (λ (m : Option (List Target)). Stops (is_none m) 1 fault) (sym (inv ∙ ap (converted_from options done) e))
     (step_fails (target_of options source) _ fault h)
 
-names_by : (t : Bool) (targets : List Target) (fault : Fault) → Stops t 1 fault →
-    Stops (is_none (if t then None else Some targets)) 1 fault
-names_by true targets fault h = h
-names_by false targets fault h = h
+found_by : (t : Bool) (targets : List Target) → t ≡ false → (if t then None else Some targets) ≡ Some targets
+found_by t targets is = ap (λ (b : Bool). if b then None else Some targets) is
 
--- two names would be one
-pub names_fail : (targets : List Target) (fault : Fault) → Stops (has_clash (bytes_of targets)) 1 fault →
-    Stops (is_none (with_names targets)) 1 fault
-names_fail targets fault h = names_by (has_clash (bytes_of targets)) targets fault h
+clash_by : (t : Bool) (targets : List Target) (fault : Fault) → Stops t 1 fault → Stops (is_none (if t then None else Some targets)) 1 fault
+clash_by true targets fault h = h
+clash_by false targets fault h = h
 
--- what is done with the objects is what is done with the files
-pub plan_found : (options : Options) (sources : List Source) (targets : List Target) (result : Result (List Target) Fault) →
-    converted_from options [] sources ≡ Some targets → FindsOr (with_names targets) result → FindsOr (outcome options sources) result
-plan_found options sources targets result is h =
-    subst (λ (m : Option (List Target)). FindsOr (and_then m with_names) result) (sym is) h
+module _ (options : Options) (sources : List Source) where
+  -- one is not converted
+  pub none_converted : (fault : Fault) → Stops (is_none (converted_from options [] sources)) 1 fault → Stops (is_none (outcome options sources)) 1 fault
+  none_converted fault h = step_fails (converted_from options [] sources) with_names fault h
+
+  -- all are
+  pub all_converted : (targets : List Target) → converted_from options [] sources ≡ Some targets → has_clash (bytes_of targets) ≡ false →
+      outcome options sources ≡ Some targets
+  all_converted targets is apart = ap (λ (m : Option (List Target)). and_then m with_names) is ∙ found_by (has_clash (bytes_of targets)) targets apart
+
+  -- two externals would become one
+  pub names_clash : (targets : List Target) (fault : Fault) → converted_from options [] sources ≡ Some targets →
+      Stops (has_clash (bytes_of targets)) 1 fault → Stops (is_none (outcome options sources)) 1 fault
+  names_clash targets fault is h =
+      subst (λ (m : Option (List Target)). Stops (is_none (and_then m with_names)) 1 fault) (sym is)
+      (clash_by (has_clash (bytes_of targets)) targets fault h)
+
+pub ruleset by_step = (none_converted, all_converted, names_clash)

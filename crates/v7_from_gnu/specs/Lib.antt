@@ -1,6 +1,5 @@
 pub mod Jobs
 pub mod Calls
-pub mod Answers
 pub mod Readings
 pub mod Checks
 pub mod Converting

@@ -1,7 +1,7 @@
 -- The files that are converted are read whole, each before the next one is opened, up to the first that can't be. (own choice)
 use Rattle.std.specs.Prelude.{◌≡◌, ◌⊎◌, ℕ, List, [], ◌∷◌, ◌++◌, Result, Ok, Err}
 use Rattle.surroundings.specs.{Events.History, Sources.EndsReading, Sources.ReadsAt, declared.answer.Fault.Fault}
-use Rattle.v7_from_gnu.specs.{Jobs.Job, Jobs.Source, Answers.program}
+use Rattle.v7_from_gnu.specs.{Jobs.Job, Jobs.Source}
 
 abbrev pub source_of : Job → List ℕ → Source
 source_of job bytes = record { from = job.from; to = job.to; bytes = bytes }
@@ -12,4 +12,4 @@ IsReading old new read [] result = (new ≡ old) × (result ≡ Ok read)
 IsReading old new read (job ∷ jobs) result =
     ((bytes : List ℕ) × (between : History) × ReadsAt old between job.from bytes
     × IsReading between new (read ++ source_of job bytes ∷ []) jobs result)
-    ⊎ ((fault : Fault) × EndsReading program old new job.from fault × (result ≡ Err fault))
+    ⊎ ((fault : Fault) × EndsReading old new job.from fault × (result ≡ Err fault))

@@ -1,7 +1,7 @@
 //! What is checked before a file is opened, and before one is written.
-ghost use Rattle.std.specs.Prelude.{◌≡◌, [], map, position, string_bytes, true, IfOk, Ok};
+ghost use Rattle.std.specs.Prelude.{◌≡◌, [], map, position, string_bytes, IfOk, Ok};
 ghost use Rattle.gnu_objects.specs.Clashes.{has_clash};
-ghost use Rattle.v7_from_gnu.specs.Answers.{Ends, Refuses, Stops};
+ghost use Rattle.surroundings.specs.Answers.{Ends, Refuses};
 ghost use Rattle.v7_from_gnu.specs.Checks.{ChecksInputs, Judges, Looks, bytes_of, goes_to, has_path_twice, replaces};
 ghost use Rattle.v7_from_gnu.specs.internal.Lists.{listed};
 
@@ -10,16 +10,10 @@ use crate::converting::Target;
 use crate::program::NAME;
 use gnu_objects::{Clash, clash_among};
 use std::alloc::{AllocError, Global};
-use surroundings::{Answer, Fault, Nodes, Office, error_answer, fault_at, is_input, nodes_at};
+use surroundings::{
+    Answer, Fault, Nodes, Office, error_answer, fault_at, is_input, nodes_at, output_is_input,
+};
 use texts::{Printable, Text};
-
-/// The fault that a text is said of a path.
-#[tactic(auto, using(crate::proofs::AnswerLemmas::failed_stops))]
-fn refused_at(alloc: Global, path: &str, text: &str) -> Fault
-    ensures { Stops true 2 result }
-{
-    fault_at(alloc, NAME, path, text)
-}
 
 /// Whether one of these objects goes to a path.
 fn goes_to(jobs: &[Job], path: &String) -> bool
@@ -33,7 +27,7 @@ fn check_path(alloc: Global, before: &[Job], job: &Job) -> Result<(), Fault>
     ensures { Refuses 2 (goes_to before.now job.now.to) result }
 {
     if goes_to(before, &job.to) {
-        return Err(refused_at(alloc, job.from.as_str(), "a second file of this name"));
+        return Err(fault_at(alloc, NAME, job.from.as_str(), "a second file of this name"));
     }
     Ok(())
 }
@@ -83,10 +77,7 @@ fn judge(alloc: Global, jobs: &[Job], found: &[Nodes]) -> Result<(), Fault>
     ensures { Judges (Ok found.now) result }
 {
     match first_replacing(found) {
-        Some(place) => {
-            let text = "the output is one of the inputs";
-            Err(refused_at(alloc, path_to(jobs, place), text))
-        }
+        Some(place) => Err(output_is_input(alloc, NAME, path_to(jobs, place))),
         None => Ok(()),
     }
 }

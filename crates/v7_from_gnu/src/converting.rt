@@ -1,18 +1,17 @@
 //! Conversions of files that were read. Nothing is written before all are converted.
-ghost use Rattle.std.specs.Prelude.{◌≡◌, [], IfErr, IfOk, Ok, Some};
-ghost use Rattle.gnu_objects.specs.Converted.{converted};
-ghost use Rattle.v7_from_gnu.specs.Answers.{Ends, FindsOr, Stops, is_none};
-ghost use Rattle.v7_from_gnu.specs.Converting.{converted_from, outcome, target_of, with_names};
+ghost use Rattle.std.specs.Prelude.{◌≡◌, [], IfErr, IfOk, Some};
+ghost use Rattle.surroundings.specs.Answers.{Ends, FindsOr, Stops, is_none};
+ghost use Rattle.v7_from_gnu.specs.Converting.{converted_from, outcome, target_of};
 ghost use Rattle.v7_from_gnu.specs.Runs.{IsConversion, IsConverting};
 ghost use Rattle.v7_from_gnu.specs.internal.Lists.{RefusedAs};
 
 use crate::arguments::{Conversion, Job};
 use crate::checks::{check_inputs, check_names, check_paths};
-use crate::lines::{put_refusal, put_remark};
+use crate::lines::put_refusal;
 use crate::reading::{Source, read_all};
 use crate::storing::store_all;
 use aout_core::Object;
-use gnu_objects::{Locals, Options, Refusal, convert, remarks};
+use gnu_objects::{Options, Refusal, convert};
 use std::alloc::{AllocError, Global};
 use std::marker::Model;
 use surroundings::{Answer, Fault, Office, error_answer};
@@ -33,25 +32,9 @@ impl Model for Target {
     ghost view = { λ t. record { source = t.source; object = t.object } };
 }
 
-/// What is done once all files are converted: what is reported of names, and the objects.
-#[derive(Drop)]
-pub(crate) struct Plan {
-    pub(crate) remarks: Vec<u8>,
-    pub(crate) targets: Vec<Target>,
-}
-
-impl Model for Plan {
-    ghost use Rattle.std.specs.Prelude.{List};
-    ghost use Rattle.v7_from_gnu.specs.Jobs as spec;
-
-    ghost Value = { List spec.Target };
-
-    ghost view = { λ p. p.targets.items };
-}
-
 /// The answer that a file is refused.
 fn refusal_answer(alloc: Global, source: &Source, refusal: Refusal) -> Result<Answer, AllocError>
-    ensures { IfOk result (Ends 1) }
+    ensures { IfOk result (λ a. Ends 1 a) }
 {
     let mut line = Text::new(alloc);
     put_refusal(&mut line, source, refusal);
@@ -71,24 +54,13 @@ fn refused(alloc: Global, source: &Source, refusal: Refusal) -> Fault
     }
 }
 
-/// The object that a file becomes.
-fn object_of(alloc: Global, options: Options, source: &Source) -> Result<Object, Fault>
-    ensures ok { IfOk result (λ object. converted options source.now.bytes ≡ Ok object) }
-    ensures err { IfErr result (λ fault. Stops (is_none (target_of options source.now)) 1 fault) }
-{
-    match convert(alloc, &source.bytes, options) {
-        Ok(object) => Ok(object),
-        Err(refusal) => Err(refused(alloc, source, refusal)),
-    }
-}
-
 /// Converts a file.
 fn convert_one(alloc: Global, options: Options, source: Source) -> Result<Target, Fault>
     ensures { FindsOr (target_of options source) result }
 {
-    match object_of(alloc, options, &source) {
+    match convert(alloc, &source.bytes, options) {
         Ok(object) => Ok(Target { source, object }),
-        Err(fault) => Err(fault),
+        Err(refusal) => Err(refused(alloc, &source, refusal)),
     }
 }
 
@@ -109,65 +81,18 @@ fn convert_each(alloc: Global, options: Options, sources: Vec<Source>) -> Result
     Ok(targets)
 }
 
-/// Puts what becomes of the names of a file.
-fn put_remarks(text: &mut Text, locals: Locals, target: &Target) {
-    match remarks(text.allocator(), &target.source.bytes, locals) {
-        Ok(list) => {
-            for remark in list {
-                put_remark(text, target.source.from.as_str(), remark);
-            }
-        }
-        Err(Refusal::Memory(refused)) => text.cut(AllocError::from(refused)),
-        Err(_) => {}
-    }
-}
-
-/// What becomes of the names of the files, unless it is to be quiet.
-fn all_remarks(
-    alloc: Global,
-    is_quiet: bool,
-    locals: Locals,
-    targets: &[Target],
-) -> Result<Vec<u8>, AllocError> {
-    let mut text = Text::new(alloc);
-    if !is_quiet {
-        for target in targets {
-            put_remarks(&mut text, locals, target);
-        }
-    }
-    text.finish()
-}
-
-/// What is done with files that are converted.
-#[tactic(auto, using(crate::proofs::ConvertingLemmas::names_fail))]
-fn with_names(
-    alloc: Global,
-    options: Options,
-    is_quiet: bool,
-    targets: Vec<Target>,
-) -> Result<Plan, Fault>
-    ensures { FindsOr (with_names targets.items) result }
+/// Converts files that were read, if no two externals would become one.
+#[tactic(auto, using(crate::proofs::ConvertingLemmas::by_step))]
+fn convert_all(alloc: Global, options: Options, sources: Vec<Source>) -> Result<Vec<Target>, Fault>
+    ensures ok { IfOk result (λ targets. outcome options sources.items ≡ Some targets.items) }
+    ensures err { IfErr result (λ fault. Stops (is_none (outcome options sources.items)) 1 fault) }
 {
+    let targets = match convert_each(alloc, options, sources) {
+        Ok(targets) => targets,
+        Err(fault) => return Err(fault),
+    };
     match check_names(alloc, &targets) {
-        Ok(()) => match all_remarks(alloc, is_quiet, options.locals, &targets) {
-            Ok(remarks) => Ok(Plan { remarks, targets }),
-            Err(error) => Err(Fault::from(error)),
-        },
-        Err(fault) => Err(fault),
-    }
-}
-
-/// Converts files that were read.
-fn make_plan(
-    alloc: Global,
-    options: Options,
-    is_quiet: bool,
-    sources: Vec<Source>,
-) -> Result<Plan, Fault>
-    ensures { FindsOr (outcome options sources.items) result }
-{
-    match convert_each(alloc, options, sources) {
-        Ok(targets) => with_names(alloc, options, is_quiet, targets),
+        Ok(()) => Ok(targets),
         Err(fault) => Err(fault),
     }
 }
@@ -184,8 +109,13 @@ fn convert_checked<O: Office>(
         (O.history office.old) (O.history office.new) result }
 {
     let sources = read_all(alloc, office, jobs)?;
-    let plan = make_plan(alloc, options, is_quiet, sources)?;
-    store_all(alloc, office, &plan)
+    let targets = convert_all(alloc, options, sources)?;
+    store_all(
+        alloc,
+        office,
+        (!is_quiet).then_some(options.locals),
+        &targets,
+    )
 }
 
 /// Converts files, and checks their paths first.

@@ -1,7 +1,9 @@
 //! The lines for standard error: why a file is refused, and what became of names.
+use crate::converting::Target;
 use crate::program::NAME;
 use crate::reading::Source;
-use gnu_objects::{Refusal, Remark, place_of, whole_name};
+use gnu_objects::{Locals, Refusal, Remark, place_of, remarks, whole_name};
+use std::alloc::{AllocError, Global};
 use texts::{Printable, Text};
 
 /// The whole name of a symbol of a file.
@@ -33,7 +35,7 @@ pub(crate) fn put_refusal(line: &mut Text, file: &Source, refusal: Refusal) {
 }
 
 /// Puts the line of a name that is cut, or of a local that is dropped for its name.
-pub(crate) fn put_remark(line: &mut Text, path: &str, remark: Remark<'_>) {
+fn put_remark(line: &mut Text, path: &str, remark: Remark<'_>) {
     match remark {
         Remark::Cut(name) => {
             let (whole, cut) = (Printable(name), Printable(&name[..name.len().min(8)]));
@@ -46,4 +48,32 @@ pub(crate) fn put_remark(line: &mut Text, path: &str, remark: Remark<'_>) {
             ));
         }
     }
+}
+
+/// Puts what becomes of the names of a file.
+fn put_remarks(text: &mut Text, locals: Locals, target: &Target) {
+    match remarks(text.allocator(), &target.source.bytes, locals) {
+        Ok(list) => {
+            for remark in list {
+                put_remark(text, target.source.from.as_str(), remark);
+            }
+        }
+        Err(Refusal::Memory(refused)) => text.cut(AllocError::from(refused)),
+        Err(_) => {}
+    }
+}
+
+/// What becomes of the names of the files, with these locals, unless it is to be quiet.
+pub(crate) fn all_remarks(
+    alloc: Global,
+    locals: Option<Locals>,
+    targets: &[Target],
+) -> Result<Vec<u8>, AllocError> {
+    let mut text = Text::new(alloc);
+    if let Some(locals) = locals {
+        for target in targets {
+            put_remarks(&mut text, locals, target);
+        }
+    }
+    text.finish()
 }

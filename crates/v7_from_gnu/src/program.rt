@@ -2,8 +2,6 @@
 ghost use Rattle.std.specs.Prelude.{map, string_bytes};
 ghost use Rattle.surroundings.specs.Programs.{AnswersGiven, DoesWords};
 ghost use Rattle.v7_from_gnu.specs.Calls.{conversion_asked, conversion_of};
-ghost use Rattle.v7_from_gnu.specs.declared.help.TheConstants.{HELP, USAGE};
-ghost use Rattle.v7_from_gnu.specs.Answers.{program};
 ghost use Rattle.v7_from_gnu.specs.Runs.{IsConversion, PerformsFromGnu};
 
 use crate::arguments::conversion_of;
@@ -21,7 +19,7 @@ pub(crate) const NAME: &str = "v7-from-gnu";
 /// Does the conversion that is asked for, if one is.
 #[tactic(auto, using(surroundings::proofs::ShownLemmas::by_words))]
 fn answer_given<O: Office>(alloc: Global, office: &mut O, given: &Given) -> Result<Answer, Fault>
-    ensures { DoesWords program USAGE.now IsConversion (conversion_of given.now)
+    ensures { DoesWords IsConversion (conversion_of given.now)
         (O.history office.old) (O.history office.new) result }
 {
     match conversion_of(alloc, given)? {
@@ -33,7 +31,7 @@ fn answer_given<O: Office>(alloc: Global, office: &mut O, given: &Given) -> Resu
 /// Does what the arguments ask for.
 #[tactic(auto, using(surroundings::proofs::ShownLemmas::by_read))]
 fn answer_words<O: Office>(alloc: Global, office: &mut O, words: &[String]) -> Result<Answer, Fault>
-    ensures { DoesWords program USAGE.now IsConversion (conversion_asked (map string_bytes words.now))
+    ensures { DoesWords IsConversion (conversion_asked (map string_bytes words.now))
         (O.history office.old) (O.history office.new) result }
 {
     match given_in(alloc, b"SXxq", b"o", words)? {
@@ -45,7 +43,7 @@ fn answer_words<O: Office>(alloc: Global, office: &mut O, words: &[String]) -> R
 /// Does what the arguments ask for, and returns what is written at the end.
 #[tactic(auto, using(surroundings::proofs::ShownLemmas::by_shown))]
 fn answer<O: Office>(alloc: Global, office: &mut O, words: &[String]) -> Result<Answer, Fault>
-    ensures { AnswersGiven program HELP.now USAGE.now IsConversion conversion_asked
+    ensures { AnswersGiven IsConversion conversion_asked
         (map string_bytes words.now) (O.history office.old) (O.history office.new) result }
 {
     match shown_in(words) {

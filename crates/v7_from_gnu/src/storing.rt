@@ -1,17 +1,19 @@
 //! Objects that are stored.
 ghost use Rattle.std.specs.Prelude.{IfOk};
-ghost use Rattle.v7_from_gnu.specs.Answers.{Ends, Gives};
+ghost use Rattle.surroundings.specs.Answers.{Ends, EndsOr};
 ghost use Rattle.v7_from_gnu.specs.Runs.{IsStoring, StoresAll};
 
-use crate::converting::{Plan, Target};
+use crate::converting::Target;
+use crate::lines::all_remarks;
 use crate::program::NAME;
+use gnu_objects::Locals;
 use std::alloc::{AllocError, Global};
 use surroundings::{Answer, Fault, Office, error_answer, stored_text};
 use texts::Text;
 
 /// The answer with what is reported of names.
 fn said(alloc: Global, remarks: &[u8]) -> Result<Answer, AllocError>
-    ensures { IfOk result (Ends 0) }
+    ensures { IfOk result (λ a. Ends 0 a) }
 {
     let mut text = Text::new(alloc);
     text.put_bytes(remarks);
@@ -20,7 +22,7 @@ fn said(alloc: Global, remarks: &[u8]) -> Result<Answer, AllocError>
 
 /// The answer with what is reported of names, and the line of an object that is not stored.
 fn not_stored(alloc: Global, remarks: &[u8], path: &str, why: &str) -> Result<Answer, Fault>
-    ensures { Gives 2 result }
+    ensures { EndsOr 2 result }
 {
     let mut text = Text::new(alloc);
     text.put_bytes(remarks);
@@ -49,14 +51,16 @@ fn store_each<O: Office>(
     Ok(done)
 }
 
-/// Stores the objects, once there is memory for the answer.
+/// Stores the objects, once there is memory for the answer. What becomes of names is reported with these locals.
 pub(crate) fn store_all<O: Office>(
     alloc: Global,
     office: &mut O,
-    plan: &Plan,
+    locals: Option<Locals>,
+    targets: &[Target],
 ) -> Result<Answer, Fault>
-    ensures { StoresAll plan.now (O.history office.old) (O.history office.new) result }
+    ensures { StoresAll targets.now (O.history office.old) (O.history office.new) result }
 {
-    let done = said(alloc, &plan.remarks)?;
-    store_each(alloc, office, &plan.remarks, &plan.targets, done)
+    let remarks = all_remarks(alloc, locals, targets)?;
+    let done = said(alloc, &remarks)?;
+    store_each(alloc, office, &remarks, targets, done)
 }

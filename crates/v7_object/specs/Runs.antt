@@ -2,22 +2,18 @@
 --
 -- The system is asked whether the output is the listing before a file is opened, and a file is stored only if the listing has no
 -- mistake. If memory runs out, that is the answer; it does so after a file was to be stored only if it was not stored.
-use Rattle.std.specs.Prelude.{◌≡◌, ℕ, Bool, codes, if◌then◌else◌, List, [], ◌∷◌, Option, Some, None, Result, Ok, Err}
+use Rattle.std.specs.Prelude.{◌≡◌, ◌⊎◌, ℕ, Bool, codes, if◌then◌else◌, List, [], ◌∷◌, Option, Some, None, Result, Ok, Err}
 use Rattle.std.specs.Borrow.{Bor}
-use Rattle.aout_core.specs.{Contents.Contents, Words.letter_of}
+use Rattle.aout_core.specs.{Contents.Contents, Refusals.refused, Words.letter_of}
 use Rattle.listings.specs.{Columns.says_something, Reading.read, Reading.Mistakes, declared.draft.Addresses.Addresses}
 use Rattle.listings.specs.declared.draft.Addresses.TheVariants.{Compared, Computed}
-use Rattle.surroundings.specs.Answers.{IsPerformed, only_errors}
-use Rattle.surroundings.specs.Programs.{AnswersGiven, Finds, Reads, Step, Stores, Then}
+use Rattle.surroundings.specs.Answers.{FindsOr, IsPerformed, only_errors}
+use Rattle.surroundings.specs.Programs.{AnswersGiven, Quietly, Reads, Step, Stores, Then}
 use Rattle.surroundings.specs.{Answer.Answer, Arguments.Given, Arguments.has_letter, Arguments.if_given, Arguments.given_in}
-use Rattle.surroundings.specs.{Events.Surroundings, Events.stored, Nodes.ChecksOutput, declared.answer.Fault.Fault}
-use Rattle.surroundings.specs.declared.answer.Fault.TheVariants.{Answered, Memory}
+use Rattle.surroundings.specs.{Events.Surroundings, Events.stored, Nodes.ChecksOutput}
+use Rattle.surroundings.specs.declared.answer.Fault.TheVariants.{Memory}
 use Rattle.surroundings.specs.declared.reasons.Reason.{Reason}
 use Rattle.surroundings.specs.declared.reasons.Reason.TheVariants.{NotTwoFiles}
-use Rattle.v7_object.specs.declared.help.TheConstants.{HELP, USAGE}
-
-abbrev pub program : List ℕ
-program = codes "v7-object"
 
 -- what the arguments ask for: to make the file of a listing at a path
 pub record Call : Type 0 where
@@ -55,34 +51,21 @@ file_if says (Err mistakes) = None
 abbrev pub file_in : Addresses → List ℕ → Option Contents
 file_in addresses text = file_if (says_something text) (read addresses text)
 
--- a listing is refused; in which words, no definition says
-pub record IsRefusal (a : Answer) : Type 0 where
-  pub no_output : a.output ≡ []
-  pub has_status : a.status ≡ 1
-
-abbrev pub IsRefused : Option Contents → Fault → Type 0
-IsRefused found (Answered answer) = (found ≡ None) × IsRefusal answer
-IsRefused found (Memory _) = Unit {0}
-
--- the file of a listing is found, or the listing is refused, or memory runs out
-abbrev pub FindsFile : Option Contents → Step Contents
-FindsFile found old new (Ok file) = (new ≡ old) × (found ≡ Some file)
-FindsFile found old new (Err fault) = (new ≡ old) × IsRefused found fault
-
 -- a file is stored, once there is memory for the answer
 abbrev pub IsStoring : List ℕ → Contents → Step Answer
-IsStoring to file = Then (Finds (Ok (only_errors [] 0))) (λ done. Stores program to (stored to file) done)
+IsStoring to file old new result =
+    ((new ≡ old) × (result ≡ Err (Memory refused))) ⊎ Stores (stored to file) (only_errors [] 0) old new result
 
 -- the output is refused, or else the listing is read, and its file stored if it has no mistake
 abbrev pub IsMaking : Call → Step Answer
 IsMaking call =
-    Then (ChecksOutput program call.listing call.to) (λ _.
-    Then (Reads program call.listing) (λ bytes.
-    Then (FindsFile (file_in call.addresses bytes)) (λ file.
+    Then (ChecksOutput call.listing call.to) (λ _.
+    Then (Reads call.listing) (λ bytes.
+    Then (Quietly (FindsOr (file_in call.addresses bytes))) (λ file.
     IsStoring call.to file)))
 
 -- what the arguments ask for is done, and its answer is written
 abbrev pub PerformsObject : {W E : Type 0} → (W → Option (List ℕ)) → (E → Option (List ℕ)) → List (List ℕ) →
     Surroundings W E → Surroundings W E → ℕ → Type 0
 PerformsObject contents error_contents words before after status =
-    IsPerformed contents error_contents program (AnswersGiven program HELP.now USAGE.now IsMaking making_asked words) before after status
+    IsPerformed contents error_contents (AnswersGiven IsMaking making_asked words) before after status

@@ -5,22 +5,17 @@ mod help;
 mod making;
 mod program;
 
-use aout_core::Wire;
 use help::USAGE;
 use program::{NAME, perform};
 use std::io;
 use std::process::ExitCode;
-use surroundings::{Disk, Outputs, StandardError, end, hold_streams, readable_words};
+use surroundings::{Disk, end, hold_streams, outputs_of, readable_words};
 
 /// The status of the program. The streams are held until it has ended.
 fn run(rt: &HostRuntime) -> io::Result<u8> {
     let _held = hold_streams(rt)?;
     let words = readable_words(rt.alloc(), rt)?;
-    let mut outputs = Outputs {
-        output: Wire::new(io::writer(rt)),
-        error: Wire::new(StandardError::new(rt)),
-    };
-    Ok(perform(rt.alloc(), &mut Disk::new(rt), &mut outputs, &words))
+    Ok(perform(rt.alloc(), &mut Disk::new(rt), &mut outputs_of(rt), &words))
 }
 
 fn main(rt: HostRuntime) -> ExitCode {

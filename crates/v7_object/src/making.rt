@@ -1,7 +1,7 @@
 //! The file of a listing. It is written only if the listing has no mistake.
-ghost use Rattle.std.specs.Prelude.{◌≡◌, [], IfErr, IfOk, Some};
-ghost use Rattle.surroundings.specs.Answers.{only_errors};
-ghost use Rattle.v7_object.specs.Runs.{IsMaking, IsRefusal, IsRefused, IsStoring, file_in};
+ghost use Rattle.std.specs.Prelude.{IfOk};
+ghost use Rattle.surroundings.specs.Answers.{Ends, FindsOr};
+ghost use Rattle.v7_object.specs.Runs.{IsMaking, IsStoring, file_in};
 
 use crate::program::NAME;
 use aout_core::File;
@@ -25,7 +25,7 @@ fn put_mistake(lines: &mut Text, path: &str, mistake: listings::Fault) {
 
 /// The answer to a listing that has no line but remarks.
 fn silent_listing(alloc: Global, path: &str) -> Result<Answer, AllocError>
-    ensures { IfOk result IsRefusal }
+    ensures { IfOk result (Ends 1) }
 {
     let mut line = Text::new(alloc);
     line.say(format_args!("{NAME}: {path}: no line but remarks\n"));
@@ -39,7 +39,7 @@ fn mistaken(
     text: &[u8],
     mistakes: &Mistakes,
 ) -> Result<Answer, AllocError>
-    ensures { IfOk result IsRefusal }
+    ensures { IfOk result (Ends 1) }
 {
     if mistakes.first.reason == Reason::NoEnd && !says_something(text) {
         return silent_listing(alloc, path);
@@ -54,8 +54,7 @@ fn mistaken(
 
 /// The file of a listing.
 fn file_in(alloc: Global, addresses: Addresses, path: &str, text: &[u8]) -> Result<File, Fault>
-    ensures ok { IfOk result (λ file. file_in addresses text.now ≡ Some file) }
-    ensures err { IfErr result (IsRefused (file_in addresses text.now)) }
+    ensures { FindsOr (file_in addresses text.now) result }
 {
     match read_listing(alloc, addresses, text) {
         Ok(file) if says_something(text) => Ok(file),
@@ -67,18 +66,11 @@ fn file_in(alloc: Global, addresses: Addresses, path: &str, text: &[u8]) -> Resu
     }
 }
 
-/// The answer if nothing is to be said.
-fn silent(alloc: Global) -> Result<Answer, AllocError>
-    ensures { IfOk result (λ a. a ≡ only_errors [] 0) }
-{
-    error_answer(alloc, Text::new(alloc), 0)
-}
-
 /// Stores a file.
 fn store<O: Office>(alloc: Global, office: &mut O, to: &str, file: &File) -> Result<Answer, Fault>
     ensures { IsStoring to.now file.now (O.history office.old) (O.history office.new) result }
 {
-    let done = silent(alloc)?;
+    let done = error_answer(alloc, Text::new(alloc), 0)?;
     let stored = office.store(to, file);
     answer_stored(alloc, NAME, to, stored, done)
 }

@@ -1,8 +1,7 @@
 //! The program, over any files and any streams.
 ghost use Rattle.std.specs.Prelude.{◌≡◌, map, string_bytes};
 ghost use Rattle.surroundings.specs.Programs.{AnswersGiven, DoesWords};
-ghost use Rattle.v7_object.specs.declared.help.TheConstants.{HELP, USAGE};
-ghost use Rattle.v7_object.specs.Runs.{IsMaking, PerformsObject, addresses_in, making_asked, making_in, program, result_in};
+ghost use Rattle.v7_object.specs.Runs.{IsMaking, PerformsObject, addresses_in, making_asked, making_in, result_in};
 
 use crate::help::{HELP, USAGE};
 use crate::making::make_file;
@@ -41,7 +40,7 @@ fn making_in(given: &Given) -> Result<(Addresses, &str, &str), Reason>
 /// Makes the file of a listing, if that is asked for.
 #[tactic(auto, using(surroundings::proofs::ShownLemmas::by_words))]
 fn answer_given<O: Office>(alloc: Global, office: &mut O, given: &Given) -> Result<Answer, Fault>
-    ensures { DoesWords program USAGE.now IsMaking (making_in given.now)
+    ensures { DoesWords IsMaking (making_in given.now)
         (O.history office.old) (O.history office.new) result }
 {
     match making_in(given) {
@@ -53,7 +52,7 @@ fn answer_given<O: Office>(alloc: Global, office: &mut O, given: &Given) -> Resu
 /// Does what the arguments ask for.
 #[tactic(auto, using(surroundings::proofs::ShownLemmas::by_read))]
 fn answer_words<O: Office>(alloc: Global, office: &mut O, words: &[String]) -> Result<Answer, Fault>
-    ensures { DoesWords program USAGE.now IsMaking (making_asked (map string_bytes words.now))
+    ensures { DoesWords IsMaking (making_asked (map string_bytes words.now))
         (O.history office.old) (O.history office.new) result }
 {
     match given_in(alloc, b"n", b"", words)? {
@@ -65,7 +64,7 @@ fn answer_words<O: Office>(alloc: Global, office: &mut O, words: &[String]) -> R
 /// Does what the arguments ask for, and returns what is written at the end.
 #[tactic(auto, using(surroundings::proofs::ShownLemmas::by_shown))]
 fn answer<O: Office>(alloc: Global, office: &mut O, words: &[String]) -> Result<Answer, Fault>
-    ensures { AnswersGiven program HELP.now USAGE.now IsMaking making_asked (map string_bytes words.now)
+    ensures { AnswersGiven IsMaking making_asked (map string_bytes words.now)
         (O.history office.old) (O.history office.new) result }
 {
     match shown_in(words) {

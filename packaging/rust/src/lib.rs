@@ -82,14 +82,14 @@ fn lend<T: Clone + Default>(buffer: &mut Vec<T>, count: usize, records: &mut *mu
     (*records, *room) = (buffer.as_mut_ptr(), count);
 }
 
-/// Makes a call whose result has buffers of the sizes that they say, which outlive it: once, if a link has no more to report than symbols.
-/// An object has at least sixteen bytes, a name twelve, and a use four.
+/// Makes a call whose result has buffers of the sizes that they say, which outlive it: once, since `v7_most` bounds what a link gives. Of a
+/// map an object has at least sixteen bytes, a name twelve, and a use four.
 fn run(request: &raw::Request, size: usize, forced: usize, mut call: impl FnMut(&mut raw::Result) -> u32) -> Result<(Program, Map), Fault> {
     // SAFETY: it takes numbers
     let file_size = unsafe { raw::v7_most(size, 8 * forced) };
-    let count = file_size / 12;
+    let count = file_size / 12 + 3;
     let mut most =
-        raw::Result { file_size, report_size: 27 * count + 11, finding_count: count, place_count: count, ..raw::Result::default() };
+        raw::Result { file_size, report_size: 27 * count + 18, finding_count: count, place_count: count, ..raw::Result::default() };
     if request.wants & raw::V7_MAP != 0 {
         (most.map.object_count, most.map.name_count) = (file_size / 16, count);
         (most.map.use_count, most.map.limit_count) = (file_size / 4, raw::V7_LIMIT_NAMES as usize);

@@ -293,7 +293,7 @@ static void expect(const char *what, const struct request *r)
     if (r->call == READ)
         is_right &= memcmp(&header, &r->header, sizeof header) == 0;
     if (r->call == READ || r->call == TAKE_APART)
-        is_right &= memcmp(&counts, &r->counts, sizeof counts) == 0;
+        is_right &= memcmp(&counts, &r->counts, offsetof(struct v7_counts, bss) + sizeof counts.bss) == 0;
     is(is_right, r->name, what);
 }
 
@@ -327,8 +327,11 @@ static const unsigned char linked[] = {W(0407), W(10), W(2), W(4), W(24), W(8), 
 static const unsigned char gnu_object[] = {W(0407), W(6), W(2), W(4), W(16), W(0), W(0), W(0), CONTENTS, W(0), W(011), W(0), W(0),
                                            W(0), W(7), W(040), W(0), W(0), W(4), W(2), W(0), W(0), W(10), 'L', '1', 0, '_', 'f', 0};
 static const struct v7_slice both[] = {{more, sizeof more}, {definition, sizeof definition}};
-static const struct v7_finding findings[] = {{"_x", V7_UNDEFINED_NAME}};
-static const struct v7_finding_place places[] = {{SIZE_MAX, SIZE_MAX}};
+/* _f is defined twice */
+static const struct v7_slice twice[] = {{definition, sizeof definition}, {definition, sizeof definition}};
+static const unsigned char linked_twice[] = {W(0407), W(8), W(0), W(0), W(0), W(2), W(0), W(1), W(0240), W(0207), W(0240), W(0207)};
+static const struct v7_finding findings[] = {{"_f", V7_MULTIPLY_DEFINED}, {"_x", V7_UNDEFINED_NAME}};
+static const struct v7_finding_place places[] = {{0, 1}, {SIZE_MAX, SIZE_MAX}};
 static const struct v7_word text[] = {{04767, V7_NUMBER}, {0177774, V7_REFERS_TO(0) + V7_FROM_PC}, {0207, V7_NUMBER}}, data[] = {{7, V7_NUMBER}};
 static const struct v7_symbol symbols[] = {{"_f", V7_UNDEFINED + V7_EXTERNAL, 0}, {"L1", V7_TEXT, 0}};
 static const struct v7_word linked_text[] = {{04767, 0}, {4, 0}, {0207, 0}, {0240, 0}, {0207, 0}};
@@ -391,8 +394,8 @@ static const struct request good[CALLS] = {
     {"v7_disassemble_words", DISASSEMBLE_WORDS, 0177776, {ITEMS(at_end)}, LENGTH(plain)},
     {"v7_make", MAKE, 4, {ITEMS(text), ITEMS(data), ITEMS(symbols)}, SIZED(object)},
     {"v7_run", LINK, V7_NOT_L, {STRING("_f"), FORCED, ITEMS(both)}, {52, 14}, 1, LINKED(14), .out = {ITEMS(linked), REPORT}},
-    {"v7_run for findings", FINDINGS, V7_NOT_L, {STRING("_f"), FORCED, ITEMS(both)}, {52, 1, 1}, 1, LINKED(1),
-     .out = {ITEMS(linked), ITEMS(findings), ITEMS(places)}},
+    {"v7_run for findings", FINDINGS, V7_STRIP, {STRING("_f"), FORCED, ITEMS(twice)}, {24, 2, 2}, 1, .answer = {0, 0, 0, 24, 2},
+     .out = {ITEMS(linked_twice), ITEMS(findings), ITEMS(places)}},
     {"v7_session_link", SESSION, V7_NOT_L, {STRING("_f"), FORCED, ITEMS(both)}, {52, 14}, 1, LINKED(14), .out = {ITEMS(linked), REPORT}},
     {"v7_session_state", STATE, V7_LINES, {STRING(""), FORCED, ITEMS(both)}, LENGTH(state)},
 };
@@ -482,7 +485,7 @@ static void check_null(void)
 }
 
 /* ---- structs of each size, right before a page that may not be touched: what a struct lacks is not touched. A session has neither places
- * nor a map */
+ * nor a map, and the last want stands for nothing */
 
 enum { ANSWERED = offsetof(struct v7_result, file) };
 
@@ -499,9 +502,9 @@ static void check_short_structs(const char *name, struct v7_session *session)
     struct v7_result *result;
     size_t size, there, want;
 
-    for (want = 0; want < 4; want++)
+    for (want = 0; want <= 4; want++)
         for (size = 0; size <= sizeof *result; size++) {
-            uint32_t fault = session && want >= 2 ? V7_NO_WANT : size < least[want] ? V7_SHORT_STRUCT : V7_NO_ROOM;
+            uint32_t fault = want == 4 ? V7_NO_WANT : session && want >= 2 ? V7_NOT_KEPT : size < least[want] ? V7_SHORT_STRUCT : V7_NO_ROOM;
 
             request.wants = 1u << want;
             there = size < ANSWERED ? ANSWERED : (size + 7) / 8 * 8;
@@ -562,11 +565,11 @@ static void check_session(void)
     is(held == 0, name, "memory");
 }
 
-/* ---- a map: its sizes, its records in rooms that just hold them, and a room that is too small */
+/* ---- a map with findings: its sizes, its records in rooms that just hold them, and a room that is too small */
 
 static void check_map(void)
 {
-    struct v7_request request = {.size = sizeof request, .wants = V7_MAP, .forced = {(const unsigned char *)"_x\0\0\0\0\0\0", 8}, .objects = both, .object_count = 2};
+    struct v7_request request = {.size = sizeof request, .wants = V7_FINDINGS | V7_PLACES | V7_MAP, .forced = {(const unsigned char *)"_x\0\0\0\0\0\0", 8}, .objects = both, .object_count = 2};
     struct v7_result result = {.size = sizeof result};
     struct v7_map *map = &result.map;
     const char *name = "a map";
@@ -574,6 +577,8 @@ static void check_map(void)
     is(v7_run(&request, &result) == 2 && result.fault == V7_NO_ROOM && map->object_count == 2 && map->name_count == 2 && map->use_count == 4 && map->limit_count == 6,
        name, "its sizes");
     result.file = room_in(rooms[0], result.file_room = result.file_size);
+    result.findings = room_in(rooms[5], (result.finding_room = result.finding_count) * sizeof *result.findings);
+    result.places = room_in(keeping, (result.place_room = result.place_count) * sizeof *result.places);
     map->objects = room_in(rooms[1], (map->object_room = map->object_count) * sizeof *map->objects);
     map->names = room_in(rooms[2], (map->name_room = map->name_count) * sizeof *map->names);
     map->uses = room_in(rooms[3], (map->use_room = map->use_count) * sizeof *map->uses);
@@ -585,10 +590,27 @@ static void check_map(void)
     is(map->objects[1].text == 6 && map->objects[0].bss_size == 4 && map->names[0].definer == 1 && map->names[0].value == 8 && map->names[0].user == 0 &&
            map->names[1].state == V7_NAME_IS_PLACED + V7_NAME_IS_UNDEFINED && map->limits[0].kind == V7_LIMIT_TEXT && map->limits[0].used == 10,
        name, "its records");
+    is(result.finding_count == 1 && memcmp(result.findings, findings + 1, sizeof *findings) == 0 && memcmp(result.places, places + 1, sizeof *places) == 0, name,
+       "its findings");
     is(map->uses[0].kind == V7_WANTS && map->uses[1].kind == V7_TEXT_WORD && map->uses[1].address == 2 && memcmp(map->uses[1].label, "L1\0", 3) == 0 &&
            map->uses[2].kind == V7_DEFINES && map->uses[3].kind == V7_FORCES && map->uses[3].object == SIZE_MAX,
        name, "its uses");
     is(held == 0, name, "memory");
+}
+
+/* ---- bounds of a link, of which each name is reported once */
+
+static void check_most(void)
+{
+    struct v7_request request = {.size = sizeof request, .wants = V7_REPORT | V7_FINDINGS, .entry = {(const unsigned char *)"_missing", 8}};
+    struct v7_result result = {.size = sizeof result};
+
+    is(v7_most(5, 17) == 16 + 5 + 24 && v7_most(SIZE_MAX - 16, 7) == SIZE_MAX && v7_most(SIZE_MAX, 0) == SIZE_MAX && v7_most(0, SIZE_MAX) == SIZE_MAX, "v7_most", "sizes");
+    is(v7_run(&request, &result) == 2 && result.fault == V7_NO_ROOM && result.finding_count == 1 && result.report_size == 34, "v7_most", "an entry point");
+    request.forced = (struct v7_slice){(const unsigned char *)"_forced1_forced2", 16};
+    is(v7_run(&request, &result) == 2 && result.file_size <= v7_most(0, 16) && result.finding_count == 3 && result.finding_count <= v7_most(0, 16) / 12 + 3 &&
+           result.report_size == 34 + 11 + 2 * 9 && result.report_size <= 27 * result.finding_count + 18,
+       "v7_most", "undefined names");
 }
 
 int main(void)
@@ -607,7 +629,7 @@ int main(void)
     check_session();
     check_map();
     is(v7_version() == V7_VERSION_NUMBER, "v7_version", "that of the header");
-    is(v7_most(5, 17) == 16 + 5 + 24 && v7_most(SIZE_MAX - 16, 7) == SIZE_MAX && v7_most(SIZE_MAX, 0) == SIZE_MAX && v7_most(0, SIZE_MAX) == SIZE_MAX, "v7_most", "sizes");
+    check_most();
     printf("%u comparisons, %u failed\n", compared, failures);
     return failures != 0;
 }

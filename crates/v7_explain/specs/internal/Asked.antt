@@ -3,14 +3,15 @@ use Rattle.std.specs.Prelude.{ℕ, Bool, false, bytes_eq, codes, List, [], ◌�
 use Rattle.aout_core.specs.Words.{letter_of}
 use Rattle.surroundings.specs.declared.reasons.Reason.{Reason}
 use Rattle.surroundings.specs.declared.reasons.Reason.TheVariants.{NoValue}
-use Rattle.v7_explain.specs.declared.arguments.Call.TheVariants.{Explain, Walk, Store}
+use Rattle.v7_explain.specs.declared.arguments.Call.TheVariants.{Explain, Walk, Store, Ask}
 use Rattle.v7_explain.specs.declared.arguments.Call.{Call as Code}
-use Rattle.v7_explain.specs.Calls.{Call, Mapping, explain, store, walk}
+use Rattle.v7_explain.specs.Calls.{Call, Mapping, ask, explain, store, walk}
 
 abbrev pub call_in : Code → Call
 call_in (Explain mode paths) = explain mode (map string_bytes paths.now)
 call_in (Walk paths) = walk (map string_bytes paths.now)
 call_in (Store to path) = store to.now path.now
+call_in (Ask what shows path) = ask what.now path.now
 
 -- the same, or why there is none
 abbrev pub result_in : Result Code Reason → Result Call Reason

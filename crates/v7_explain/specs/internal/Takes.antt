@@ -2,8 +2,8 @@
 use Rattle.std.specs.Prelude.{◌≡◌, ◌⊎◌, ℕ, List, [], ◌∷◌, ◌++◌, Option, Some, None, Result, Ok, Err, IfOk}
 use Rattle.aout_core.specs.{Contents.Contents, Decoding.decode, Refusals.refused}
 use Rattle.link_maps.specs.{Maps.IsMapOf, Members.all_of, Taking.split, Taking.split_of, declared.map.LinkMap.LinkMap}
-use Rattle.link_maps.specs.{declared.members.Objects.Objects, declared.outcome.Outcome.Outcome}
-use Rattle.link_out.specs.{Inputs.object_in, Outcomes.report_names, declared.linked.LinkFault.LinkFault, declared.linked.Linked.Linked}
+use Rattle.link_maps.specs.{declared.members.Objects.Objects, declared.outcome.Outcome.Outcome, Rows.linked_in}
+use Rattle.link_out.specs.{Inputs.object_in, Outcomes.report_names, declared.linked.Linked.Linked}
 use Rattle.link_out.specs.{function.Reports.status_of}
 use Rattle.link_session.specs.Labelled.{Labelled}
 use Rattle.surroundings.specs.{Answer.Answer, Events.History, declared.answer.Fault.Fault, declared.answer.Fault.TheVariants.Answered}
@@ -50,15 +50,14 @@ abbrev pub KeepsSplit : Objects → Type 0
 KeepsSplit o = split_of o ≡ split o.session.forced (all_of o)
 
 -- the status of a link as it is made
-abbrev pub status_made : Result Linked LinkFault → ℕ
-status_made (Ok linked) = status_of (report_names linked.report)
-status_made (Err fault) = 1
+abbrev pub status_made : Option Linked → ℕ
+status_made None = 1
+status_made (Some linked) = status_of (report_names linked.report)
 
 abbrev pub status_mapped : Option Outcome → ℕ
-status_mapped None = 1
-status_mapped (Some o) = status_made o.linked
+status_mapped outcome = status_made (linked_in outcome)
 
 -- the map of these objects, with the status that the link has
 abbrev pub IsMapAnswer : List (List ℕ) → Objects → List (List ℕ) → Choices → Answer → Type 0
 IsMapAnswer asked o forced choices a =
-    (m : LinkMap) × IsMapOf o forced choices m × HasStatus asked m (status_mapped m.outcome) a
+    (m : LinkMap) × IsMapOf o forced choices m × HasStatus asked o m (status_mapped m.outcome) a

@@ -8,16 +8,17 @@ pub const V7_NO_SESSION: u32 = 8; pub const V7_NO_WANT: u32 = 9; pub const V7_SE
 pub const V7_BAD_MAGIC: u32 = 12; pub const V7_ODD_SIZE: u32 = 13; pub const V7_TRUNCATED: u32 = 14; pub const V7_NOT_AN_OBJECT: u32 = 21;
 pub const V7_NO_RELOCATION: u32 = 22; pub const V7_BAD_RELOCATION: u32 = 23; pub const V7_BAD_SYMBOL_NUMBER: u32 = 24;
 pub const V7_TEXT_FULL: u32 = 31; pub const V7_DATA_FULL: u32 = 32; pub const V7_BSS_FULL: u32 = 33; pub const V7_NAMES_FULL: u32 = 34;
-pub const V7_NOTHING: u32 = 35; pub const V7_DOES_NOT_FIT: u32 = 41; pub const V7_TOO_MANY_SYMBOLS: u32 = 42;
-pub const V7_SYMBOL_NUMBER: u32 = 43; pub const V7_NO_MEMORY: u32 = 50; pub const V7_NO_ROOM: u32 = 60; pub const V7_NO_COLUMN: u32 = 61;
-pub const V7_NOT_OCTAL: u32 = 62; pub const V7_TOO_LARGE: u32 = 63; pub const V7_BAD_NAME: u32 = 64; pub const V7_WRONG_ADDRESS: u32 = 65;
-pub const V7_WRONG_NUMBER: u32 = 66; pub const V7_TOO_MANY_WORDS: u32 = 67; pub const V7_TABLE_FULL: u32 = 68;
-pub const V7_NO_SECTION: u32 = 69; pub const V7_UNKNOWN_WORD: u32 = 70; pub const V7_OUT_OF_ORDER: u32 = 71;
-pub const V7_TOO_LATE: u32 = 72; pub const V7_AFTER_TABLE: u32 = 73; pub const V7_NO_MAGIC: u32 = 74; pub const V7_ODD_BSS: u32 = 75;
-pub const V7_LONG_SYMBOL: u32 = 76; pub const V7_EXTRA_NUMBER: u32 = 77; pub const V7_STRAY_BYTE: u32 = 78;
-pub const V7_AFTER_END: u32 = 79; pub const V7_NO_END: u32 = 80; pub const V7_BAD_STRINGS: u32 = 81; pub const V7_OVERLAY: u32 = 82;
-pub const V7_BAD_PLACE: u32 = 83; pub const V7_STAB: u32 = 84; pub const V7_DESCRIPTION: u32 = 85; pub const V7_LINKED: u32 = 86;
-pub const V7_ALIKE_NAMES: u32 = 87; pub const V7_STAB_WORD: u32 = 88; pub const V7_LOCAL_WORD: u32 = 89;
+pub const V7_NOTHING: u32 = 35; pub const V7_NOT_KEPT: u32 = 36; pub const V7_DOES_NOT_FIT: u32 = 41;
+pub const V7_TOO_MANY_SYMBOLS: u32 = 42; pub const V7_SYMBOL_NUMBER: u32 = 43; pub const V7_NO_MEMORY: u32 = 50;
+pub const V7_NO_ROOM: u32 = 60; pub const V7_NO_COLUMN: u32 = 61; pub const V7_NOT_OCTAL: u32 = 62; pub const V7_TOO_LARGE: u32 = 63;
+pub const V7_BAD_NAME: u32 = 64; pub const V7_WRONG_ADDRESS: u32 = 65; pub const V7_WRONG_NUMBER: u32 = 66;
+pub const V7_TOO_MANY_WORDS: u32 = 67; pub const V7_TABLE_FULL: u32 = 68; pub const V7_NO_SECTION: u32 = 69;
+pub const V7_UNKNOWN_WORD: u32 = 70; pub const V7_OUT_OF_ORDER: u32 = 71; pub const V7_TOO_LATE: u32 = 72;
+pub const V7_AFTER_TABLE: u32 = 73; pub const V7_NO_MAGIC: u32 = 74; pub const V7_ODD_BSS: u32 = 75; pub const V7_LONG_SYMBOL: u32 = 76;
+pub const V7_EXTRA_NUMBER: u32 = 77; pub const V7_STRAY_BYTE: u32 = 78; pub const V7_AFTER_END: u32 = 79; pub const V7_NO_END: u32 = 80;
+pub const V7_BAD_STRINGS: u32 = 81; pub const V7_OVERLAY: u32 = 82; pub const V7_BAD_PLACE: u32 = 83; pub const V7_STAB: u32 = 84;
+pub const V7_DESCRIPTION: u32 = 85; pub const V7_LINKED: u32 = 86; pub const V7_ALIKE_NAMES: u32 = 87; pub const V7_STAB_WORD: u32 = 88;
+pub const V7_LOCAL_WORD: u32 = 89;
 // enum v7_part
 pub const V7_TEXT_PART: u32 = 1; pub const V7_DATA_PART: u32 = 2; pub const V7_BSS_PART: u32 = 3; pub const V7_SYMBOLS_PART: u32 = 4;
 // enum v7_nm_option
@@ -173,17 +174,18 @@ pub(crate) fn text(fault: u32) -> &'static str {
         6 => "too many words, bytes of bss or symbols", 7 => "a struct is too short", 8 => "no session", 9 => "no such want",
         10 => "a session already", 11 => "short header", 12 => "bad magic number", 13 => "odd size", 14 => "truncated",
         21 => "not an object", 22 => "no relocation", 23 => "bad relocation", 24 => "bad symbol number", 31 => "text full",
-        32 => "data full", 33 => "bss full", 34 => "names full", 35 => "nothing to withdraw", 41 => "does not fit",
-        42 => "too many symbols", 43 => "symbol number too large", 50 => "no memory", 60 => "no room", 61 => "a column is missing",
-        62 => "not an octal number", 63 => "over 177777", 64 => "bad byte in a name", 65 => "the address does not follow",
-        66 => "the number does not follow", 67 => "more than 32767 words", 68 => "more than 5461 symbols",
-        69 => "text, data or symbols is missing", 70 => "unknown word", 71 => "text, data and symbols are not in this order",
-        72 => "magic and flag come before text, data and symbols", 73 => "only symbols can follow symbols", 74 => "no such magic number",
-        75 => "odd size of bss", 76 => "more than 8 bytes in a name", 77 => "one number too many", 78 => "a control character",
-        79 => "only comments can follow end", 80 => "the line end is missing: the listing was cut",
-        81 => "the strings have a length under 4", 82 => "a symbol belongs to an overlay",
-        83 => "a symbol has its name at no place of the strings", 84 => "a symbol is for a debugger",
-        85 => "a symbol has a description, and is not for a debugger", 86 => "a linked program", 87 => "two names are equal in eight bytes",
-        88 => "a word refers to a symbol for a debugger", 89 => "a word refers to a local that is dropped", _ => "unknown fault"
+        32 => "data full", 33 => "bss full", 34 => "names full", 35 => "nothing to withdraw", 36 => "not kept by a session",
+        41 => "does not fit", 42 => "too many symbols", 43 => "symbol number too large", 50 => "no memory", 60 => "no room",
+        61 => "a column is missing", 62 => "not an octal number", 63 => "over 177777", 64 => "bad byte in a name",
+        65 => "the address does not follow", 66 => "the number does not follow", 67 => "more than 32767 words",
+        68 => "more than 5461 symbols", 69 => "text, data or symbols is missing", 70 => "unknown word",
+        71 => "text, data and symbols are not in this order", 72 => "magic and flag come before text, data and symbols",
+        73 => "only symbols can follow symbols", 74 => "no such magic number", 75 => "odd size of bss", 76 => "more than 8 bytes in a name",
+        77 => "one number too many", 78 => "a control character", 79 => "only comments can follow end",
+        80 => "the line end is missing: the listing was cut", 81 => "the strings have a length under 4",
+        82 => "a symbol belongs to an overlay", 83 => "a symbol has its name at no place of the strings",
+        84 => "a symbol is for a debugger", 85 => "a symbol has a description, and is not for a debugger", 86 => "a linked program",
+        87 => "two names are equal in eight bytes", 88 => "a word refers to a symbol for a debugger",
+        89 => "a word refers to a local that is dropped", _ => "unknown fault"
     }
 }

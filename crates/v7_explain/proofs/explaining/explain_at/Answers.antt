@@ -1,5 +1,5 @@
 use Rattle.std.proofs.Common.{rules}
-use Rattle.v7_explain.proofs.ExplainingLemmas.{explains_out, explains_unread}
+use Rattle.v7_explain.proofs.ExplainingLemmas.{explains_none, explains_out, explains_unread}
 use Rattle.v7_explain.proofs.explaining.explain_at.Goals as goal
 
 pub returns-in_err-explain-in-Ok : goal.returns-in_err-explain-in-Ok
@@ -11,3 +11,8 @@ pub returns-in-Err-Memory : goal.returns-in-Err-Memory
 returns-in-Err-Memory g c =
     explains_unread c.args.mode (g.O.Office.history c.args.office.now) (g.O.Office.history c.bytes_for.new.office) c.args.path.now
     _ c.in-Err-Memory.ensures.err
+
+pub returns-in-Err-Answered : goal.returns-in-Err-Answered
+returns-in-Err-Answered g c =
+    explains_none c.args.mode (g.O.Office.history c.args.office.now) (g.O.Office.history c.bytes_for.new.office) c.args.path.now
+    _ c.in-Err-Answered.answer _ c.in-Err-Answered.field-0-is c.in-Err-Answered.ensures.err (search rules)

@@ -1,9 +1,9 @@
-use Rattle.std.proofs.Common.{rules, ◌≡◌, ◌⊎◌, ap, inl, inr, map, refl, string_bytes, subst, sym}
+use Rattle.std.proofs.Common.{rules, ◌≡◌, ◌⊎◌, inr, map, refl, string_bytes, subst, sym}
 use Rattle.std.specs.Prelude.{Err}
 use Rattle.aout_core.specs.Refusals.{refused}
 use Rattle.surroundings.specs.declared.answer.Fault.TheVariants.{Memory}
 use Rattle.v7_explain.specs.Maps.{IsMapping, MapsCall}
-use Rattle.v7_explain.proofs.MapLemmas.{answered, maps_other}
+use Rattle.v7_explain.proofs.MapLemmas.{maps_other}
 use Rattle.v7_explain.proofs.map.map_call.Goals as goal
 
 pub returns-in-Ld : goal.returns-in-Ld
@@ -22,4 +22,4 @@ pub returns-in_ok-not_of_ld-in_default : goal.returns-in_ok-not_of_ld-in_default
 returns-in_ok-not_of_ld-in_default g c =
     let old = g.O.Office.history c.args.office.now in
     inr (maps_other (map string_bytes c.args.asked.now) c.args.call.now old old _ c.in_default.not-Ld refl
-    (inl (ap answered c.in_ok-not_of_ld-in_default.ensures)))
+    c.in_ok-not_of_ld-in_default.ensures)

@@ -1,6 +1,7 @@
 use Rattle.std.proofs.Common.{rules, ◌≡◌, false, refl, inl, inr}
 use Rattle.std.specs.Prelude.{Ok, Err}
-use Rattle.v7_from_gnu.specs.{Answers.Refuses, Checks.ChecksInputs, Checks.has_path_twice}
+use Rattle.surroundings.specs.Answers.{Refuses}
+use Rattle.v7_from_gnu.specs.Checks.{ChecksInputs, has_path_twice}
 use Rattle.v7_from_gnu.proofs.converting.convert_jobs.Goals as goal
 
 pub returns : goal.returns

@@ -1,12 +1,13 @@
 use Rattle.std.proofs.Common.{rules, ◌≡◌, Some, refl, subst, inl, inr}
-use Rattle.v7_object.specs.Runs.{IsRefused, file_in}
+use Rattle.surroundings.specs.Answers.{Stops, is_none}
+use Rattle.v7_object.specs.Runs.{file_in}
 use Rattle.v7_object.proofs.making.make_file.Goals as goal
 
 pub returns : goal.returns
 returns g c =
     let same : c.deref.result.now ≡ c.in_ok-text.text.items = search rules in
     let between = g.O.Office.history c.read_whole.new.office in
-    let found = subst (λ text. file_in c.args.addresses text ≡ Some c.in_ok-file.file) same c.in_ok-file.ensures.ok in
+    let found = subst (λ text. file_in c.args.addresses text ≡ Some c.in_ok-file.file) same c.in_ok-file.ensures in
     inr (
       tt,
       g.O.Office.history c.check_output.new.office,
@@ -22,7 +23,7 @@ returns-in_err-file g c =
     let same : c.deref.result.now ≡ c.in_ok-text.text.items = search rules in
     let between = g.O.Office.history c.read_whole.new.office in
     let fault = c.in_err-file.field-0.0 in
-    let found = subst (λ text. IsRefused (file_in c.args.addresses text) fault) same c.in_err-file.ensures.err in
+    let found = subst (λ text. Stops (is_none (file_in c.args.addresses text)) 1 fault) same c.in_err-file.ensures in
     inr (
       tt,
       g.O.Office.history c.check_output.new.office,

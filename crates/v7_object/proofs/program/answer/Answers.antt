@@ -2,8 +2,7 @@ use Rattle.std.proofs.Common.{rules, ◌≡◌, map, Some}
 use Rattle.std.specs.Prelude.{string_bytes, Ok}
 use Rattle.surroundings.specs.{Answers.shown_in, Programs.DoesWords}
 use Rattle.surroundings.proofs.ShownLemmas.{is_shown}
-use Rattle.v7_object.specs.{Runs.IsMaking, Runs.making_asked, Runs.program}
-use Rattle.v7_object.specs.declared.help.TheConstants.{HELP, USAGE}
+use Rattle.v7_object.specs.{Runs.IsMaking, Runs.making_asked}
 use Rattle.v7_object.proofs.program.answer.Goals as goal
 
 pub returns-in_ok-shown_answer-in-Some : goal.returns-in_ok-shown_answer-in-Some
@@ -12,5 +11,5 @@ returns-in_ok-shown_answer-in-Some g c =
     let before = g.O.Office.history c.args.office.now in
     let answer = c.in_ok-shown_answer-in-Some.field-0 in
     let asked : shown_in words ≡ Some c.in-Some.shown = search rules in
-    is_shown program HELP.now (shown_in words) c.in-Some.shown before answer
-    (DoesWords program USAGE.now IsMaking (making_asked words) before before (Ok answer)) asked c.in_ok-shown_answer-in-Some.ensures
+    is_shown (shown_in words) c.in-Some.shown before answer
+    (DoesWords IsMaking (making_asked words) before before (Ok answer)) asked c.in_ok-shown_answer-in-Some.ensures

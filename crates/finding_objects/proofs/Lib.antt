@@ -1,4 +1,0 @@
-pub mod CountLemmas
-pub mod FurtherLemmas
-pub mod NumberLemmas
-pub mod PlaceLemmas

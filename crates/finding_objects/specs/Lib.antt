@@ -1,3 +1,0 @@
--- The definitions that the contracts of this crate are written in.
-pub mod Places
-pub mod internal

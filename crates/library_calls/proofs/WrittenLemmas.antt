@@ -1,0 +1,36 @@
+-- What a writer in memory took.
+use Rattle.std.proofs.Common.{◌≡◌, ℕ, List, [], ◌∷◌, ◌++◌, Some, Result, Ok, Err, IfOk, ap, subst, ◌∙◌}
+use Rattle.std.specs.Prelude.{IsOk, String, Vec, string_bytes}
+use Rattle.std.specs.declared.alloc.Global.{Global}
+use Rattle.aout_core.specs.{Contents.Contents, Wires.Latched, Wires.Puts}
+use Rattle.symtools.specs.{Files.by_bytes, NmLists.nm_text, SizeLines.size_text}
+use Rattle.tool_options.specs.declared.nm_options.NmOptions.{NmOptions}
+
+module _ {T E F : Type 0} (old new : Latched (Vec ℕ Global)) (empty : Vec ℕ Global) (written : Result T E)
+    (given : Result (Vec ℕ Global) F) (is_empty : empty.items ≡ []) (begun : old.device ≡ empty)
+    (took : IfOk given (λ v. IsOk written × (v ≡ new.device))) where
+  pub all_written : (bytes : List ℕ) → Puts written (Some old.device.items) (Some new.device.items) bytes → IfOk given (λ v. v.items ≡ bytes)
+  all_written bytes more = by_results given written more took
+    where
+      by_results : (g : Result (Vec ℕ Global) F) (w : Result T E) → Puts w (Some old.device.items) (Some new.device.items) bytes →
+          IfOk g (λ v. IsOk w × (v ≡ new.device)) → IfOk g (λ v. v.items ≡ bytes)
+      by_results (Ok v) (Ok x) more h =
+          ap (λ (v : Vec ℕ Global). v.items) h.1
+          ∙ more
+          ∙ ap (λ (l : List ℕ). l ++ bytes) (ap (λ (v : Vec ℕ Global). v.items) begun ∙ is_empty)
+      by_results (Ok v) (Err e) more h = let bad = h.0 in absurd (cc)
+      by_results (Err e) w more h = tt
+
+  module _ (path : String Global) (c : Contents) (no_path : string_bytes path ≡ []) where
+    pub names_written : (o : NmOptions) →
+        Puts written (Some old.device.items) (Some new.device.items) (nm_text o (by_bytes ((path, c) ∷ []))) →
+        IfOk given (λ v. v.items ≡ nm_text o (([], c) ∷ []))
+    names_written o more =
+        subst (λ (p : List ℕ). IfOk given (λ v. v.items ≡ nm_text o ((p, c) ∷ []))) no_path
+        (all_written (nm_text o (by_bytes ((path, c) ∷ []))) more)
+
+    pub sizes_written : Puts written (Some old.device.items) (Some new.device.items) (size_text (by_bytes ((path, c) ∷ []))) →
+        IfOk given (λ v. v.items ≡ size_text (([], c) ∷ []))
+    sizes_written more =
+        subst (λ (p : List ℕ). IfOk given (λ v. v.items ≡ size_text ((p, c) ∷ []))) no_path
+        (all_written (size_text (by_bytes ((path, c) ∷ []))) more)

@@ -1,6 +1,0 @@
-use Rattle.std.proofs.Common.{◌≡◌, ◌<◌, drop}
-use Rattle.map_texts.specs.Asked.{octal_from}
-use Rattle.map_texts.proofs.asked.octal_number.Given as goal
-
-abbrev pub invariant-loop-digit : goal.invariant-loop-digit
-invariant-loop-digit l = (l.sum < 0o100000000000) × (octal_from l.sum (drop l.digit-index l.digits) ≡ octal_from 0 l.digits)

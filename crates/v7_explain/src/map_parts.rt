@@ -1,0 +1,169 @@
+//! The parts of a map but for its names: what becomes of the link, its limits, its segments and its objects. Only tested: the text.
+use crate::map_names::{self, Section};
+use crate::mapped::Mapped;
+use aout_core::Header;
+use link_maps::{LimitRecord, LinkMap, Member, Places, limits_of};
+use link_out::Options;
+use std::alloc::AllocError;
+use texts::{Printable, Text};
+
+/// How many of the largest objects are shown.
+const LARGEST: usize = 10;
+/// How many columns a path has after the numbers of its object.
+const PATH: usize = 33;
+/// The title of the objects, with their columns.
+const MEMBERS: &str = "\nObjects\n    text  bytes    data  bytes     bss  bytes\n";
+
+/// Adds how many objects there are, and what becomes of the link.
+pub(crate) fn put_head(text: &mut Text, mapped: &Mapped<'_>) {
+    let count = mapped.map.members.len();
+    let s = if count == 1 { "" } else { "s" };
+    text.say(format_args!("Link of {count} object{s}: "));
+    if let Some(refused) = &mapped.objects.refused {
+        let path = match refused.left.first() {
+            Some(first) => first.label.as_str(),
+            None => "",
+        };
+        let why = refused.cause.text();
+        text.say(format_args!(
+            "refused, {why} at\n  {path}\n  (addresses below count from 0 in each segment)\n"
+        ));
+    } else if let Some(outcome) = &mapped.map.outcome {
+        match &outcome.linked {
+            Err(fault) => text.say(format_args!("refused, {}\n", fault.text())),
+            Ok(linked) => {
+                let header = linked.file.header();
+                let what = if linked.report.status() == 0 {
+                    "nothing"
+                } else {
+                    "something"
+                };
+                text.say(format_args!("made, with {what} to report\n"));
+                text.say(format_args!(
+                    "  magic 0{:o}, entry point {:06o}\n",
+                    header.magic, header.entry_point
+                ));
+                if let Some(name) = &linked.report.entry_bad {
+                    text.say(format_args!(
+                        "  entry point not in text: {}\n",
+                        Printable(name.as_bytes())
+                    ));
+                }
+            }
+        }
+    }
+}
+
+/// Adds what is used of each limit, and what is left or over; and the largest objects of a link that is refused. (docs/LINK.md)
+pub(crate) fn put_limits(
+    text: &mut Text,
+    mapped: &Mapped<'_>,
+    options: &Options,
+) -> Result<(), AllocError> {
+    text.put("\nLimits              used      of    left\n");
+    for limit in &limits_of(text.allocator(), mapped.map, mapped.objects, options)? {
+        let label = match limit.kind {
+            1 => "text",
+            2 => "data",
+            3 => "bss",
+            4 => "end of bss",
+            5 => "symbols",
+            6 => "symbol number",
+            _ => "externals",
+        };
+        let LimitRecord { used, most, .. } = *limit;
+        let left = most.abs_diff(used);
+        let over = if most < used { " over" } else { "" };
+        text.say(format_args!("  {label:<14}{used:>8}{most:>8}{left:>8}{over}\n"));
+    }
+    if mapped.map.linked().is_none() {
+        put_largest(text, &mapped.map.members)?;
+    }
+    Ok(())
+}
+
+/// The bytes of all segments of an object.
+fn bytes_of(member: &Member) -> u32 {
+    let Header {
+        text_size,
+        data_size,
+        bss_size,
+        ..
+    } = member.header;
+    u32::from(text_size) + u32::from(data_size) + u32::from(bss_size)
+}
+
+/// Adds the largest objects, the largest first; those of one size keep their order.
+fn put_largest(text: &mut Text, members: &[Member]) -> Result<(), AllocError> {
+    let mut sized = Vec::new(text.allocator());
+    for member in members {
+        sized.push((bytes_of(member), member))?;
+    }
+    sized.sort_by(|one, other| other.0.cmp(&one.0))?;
+    sized.truncate(LARGEST);
+    text.put("\nLargest objects\n     text    data     bss     all  symbols\n");
+    for (bytes, member) in &sized {
+        let header = &member.header;
+        text.say(format_args!(
+            "  {:>7}{:>8}{:>8}",
+            header.text_size, header.data_size, header.bss_size
+        ));
+        text.say(format_args!("{:>8}{:>9}  {}\n", *bytes, member.symbols, member.label));
+    }
+    Ok(())
+}
+
+/// Adds where each segment begins and ends, and its size.
+pub(crate) fn put_segments(text: &mut Text, map: &LinkMap) {
+    let Some(outcome) = &map.outcome else {
+        return;
+    };
+    let bases = &outcome.bases;
+    text.put("\nSegments    from     end   bytes\n");
+    for (label, start, end) in [
+        ("text", 0, bases.text_end),
+        ("data", bases.data_start, bases.data_end),
+        ("commons", bases.data_end, bases.bss_start),
+        ("bss", bases.bss_start, bases.bss_end),
+    ] {
+        let bytes = end.saturating_sub(start);
+        text.say(format_args!("  {label:<8}{start:06o}  {end:06o}{bytes:>8}\n"));
+    }
+}
+
+/// Adds the line of an object: where its segments lie, and its path; a long path has a line of its own.
+fn put_member(text: &mut Text, member: &Member, at: &Places) {
+    let header = &member.header;
+    text.say(format_args!("  {:06o}{:>7}", at.text, header.text_size));
+    text.say(format_args!("  {:06o}{:>7}", at.data, header.data_size));
+    text.say(format_args!("  {:06o}{:>7}", at.bss, header.bss_size));
+    let gap = if PATH < member.label.len() {
+        "\n    "
+    } else {
+        "  "
+    };
+    text.say(format_args!("{gap}{}\n", member.label));
+}
+
+/// Adds the objects.
+pub(crate) fn put_members(text: &mut Text, map: &LinkMap) {
+    text.put(MEMBERS);
+    for (member, at) in map.members.iter().zip(&map.places) {
+        put_member(text, member, at);
+    }
+}
+
+/// Adds the objects that have a path: where each lies, what it defines, and what it needs.
+pub(crate) fn put_objects(text: &mut Text, mapped: &Mapped<'_>, path: &str) {
+    let members = mapped.map.members.as_slice();
+    for (number, member) in members.iter().enumerate() {
+        if member.label.as_str() == path {
+            text.put(MEMBERS);
+            if let Some(at) = mapped.map.places.get(number) {
+                put_member(text, member, at);
+            }
+            map_names::put(text, mapped, Section::Defined(number), "\nDefines\n");
+            map_names::put(text, mapped, Section::Needed(number), "\nNeeds\n");
+        }
+    }
+}

@@ -1,0 +1,249 @@
+//! What a file has under a name or at an address. Only tested: the text. Proved: whether what is asked is absent.
+ghost use Rattle.std.specs.Prelude.{◌≡◌, IfOk};
+ghost use Rattle.v7_explain.specs.Questions.{AnswersAt, IsAnswered, IsAnswer, has_address, is_within, answer_status};
+
+use crate::asked::{is_named, octal_number};
+use crate::explaining::MOST_BYTES;
+use crate::map_names::{put_line, put_word, put_words};
+use crate::map_spots::put_byte;
+use crate::program::NAME;
+use crate::source::{Source, explain_refused};
+use aout_core::{File, Header, Name, Part, Segment, decode_file};
+use disassemblies::{NamedFile, put_disassembly};
+use instructions::Decoder;
+use link_maps::{Places, is_function, label_before, words_at, words_to};
+use std::alloc::{AllocError, Global};
+use surroundings::{Answer, Fault, Office, read_whole};
+use texts::{Printable, Text};
+
+/// Whether an address is in a segment.
+fn is_within(start: u64, size: u16, address: u64) -> bool
+    ensures { result ≡ is_within start size address }
+{
+    start <= address && address - start < u64::from(size)
+}
+
+/// Whether a file has an address.
+fn has_address(header: &Header, address: Option<u64>) -> bool
+    ensures { result ≡ has_address header.now address }
+{
+    let Some(address) = address else {
+        return false;
+    };
+    let start = header.data_start() as u64;
+    is_within(0, header.text_size, address)
+        || is_within(start, header.data_size, address)
+        || is_within(
+            start + u64::from(header.data_size),
+            header.bss_size,
+            address,
+        )
+}
+
+/// The status of an answer: 1 if a file has neither a symbol of this name nor this address in octal digits.
+fn answer_status(file: &File, what: &str) -> u8
+    ensures { result ≡ answer_status file.now what.now }
+{
+    let is_there = is_named(file.symbols(), &Name::from_bytes(what.as_bytes()))
+        || has_address(file.header(), octal_number(what.as_bytes()));
+    if is_there { 0 } else { 1 }
+}
+
+/// Adds what a file has at an address, in each segment that has it.
+fn put_address(text: &mut Text, named: &NamedFile<'_>, address: u64) -> Result<(), AllocError> {
+    let file = named.file();
+    let header = file.header();
+    let value = (address % 65536) as u16;
+    if is_within(0, header.text_size, address) {
+        put_word(text, named, Part::Text, value, address)?;
+    }
+    let start = header.data_start() as u64;
+    if is_within(start, header.data_size, address) {
+        put_byte(
+            text,
+            file.symbols(),
+            Segment::DataSeg,
+            "data",
+            address,
+            value,
+        )?;
+    }
+    if is_within(
+        start + u64::from(header.data_size),
+        header.bss_size,
+        address,
+    ) {
+        put_byte(text, file.symbols(), Segment::BssSeg, "bss", address, value)?;
+    }
+    Ok(())
+}
+
+/// Adds what a file has under a name: for each symbol its line as `nm` has it, and the words that lead there, as far as the file shows them.
+fn put_named(text: &mut Text, named: &NamedFile<'_>, name: &Name) -> Result<(), AllocError> {
+    let file = named.file();
+    let header = file.header();
+    let places = Places {
+        text: 0,
+        data: header.data_start() as u64,
+        bss: 0,
+    };
+    for (number, symbol) in file.symbols().iter().enumerate() {
+        if symbol.name == *name {
+            put_line(text, Some(*symbol), symbol);
+            let words = if header.flag == 0 {
+                words_to(text.allocator(), file, number)?
+            } else {
+                words_at(text.allocator(), file, symbol.segment(), symbol.value)?
+            };
+            put_words(text, named, &places, &words);
+        }
+    }
+    Ok(())
+}
+
+/// Where the function begins and ends that is asked for: that of this name, or the one before this address of text, up to the next function.
+fn function_of(alloc: Global, file: &File, what: &str) -> Result<Option<(u16, u16)>, AllocError> {
+    let size = file.header().text_size;
+    let name = Name::from_bytes(what.as_bytes());
+    let mut symbols = file.symbols().iter();
+    let start = match (
+        symbols.find(|symbol| symbol.name == name && symbol.segment() == Segment::TextSeg),
+        octal_number(what.as_bytes()),
+    ) {
+        (Some(symbol), _) => symbol.value,
+        (None, Some(address)) if is_within(0, size, address) => {
+            let value = (address % 65536) as u16;
+            match label_before(alloc, file.symbols(), Segment::TextSeg, value)? {
+                Some(before) => value.saturating_sub(before.bytes),
+                None => 0,
+            }
+        }
+        _ => return Ok(None),
+    };
+    let mut end = size;
+    for symbol in file.symbols() {
+        let at = symbol.value;
+        if symbol.segment() == Segment::TextSeg && is_function(symbol) && start < at && at < end {
+            end = at;
+        }
+    }
+    Ok(Some((start, end)))
+}
+
+/// The address with which a line of a disassembly begins.
+fn address_of(line: &[u8]) -> Option<u64> {
+    match line.split_at_checked(6) {
+        Some((digits, rest)) if rest.first() == Some(&b' ') => octal_number(digits),
+        _ => None,
+    }
+}
+
+/// Adds the disassembly of text from one address to another, with its labels.
+fn put_function(text: &mut Text, file: &File, start: u16, end: u16) -> Result<(), AllocError> {
+    let alloc = text.allocator();
+    let mut whole = Text::new(alloc);
+    put_disassembly(&mut whole, Decoder::Unix, file);
+    let whole = whole.finish()?;
+    let mut labels = Text::new(alloc);
+    let mut is_inside = false;
+    for line in whole.split(|byte| *byte == b'\n') {
+        match address_of(line) {
+            Some(address) => {
+                is_inside = u64::from(start) <= address && address < u64::from(end);
+                let before = labels.finish()?;
+                labels = Text::new(alloc);
+                if is_inside {
+                    text.put_bytes(&before);
+                    text.put_bytes(line);
+                    text.put("\n");
+                }
+            }
+            None if !line.is_empty() => {
+                labels.put_bytes(line);
+                labels.put("\n");
+            }
+            None => {}
+        }
+    }
+    Ok(())
+}
+
+/// Adds what a file has of what is asked, or the function that is asked for.
+fn put_answer(
+    text: &mut Text,
+    file: &File,
+    what: &str,
+    shows_function: bool,
+) -> Result<(), AllocError> {
+    if shows_function {
+        if let Some((start, end)) = function_of(text.allocator(), file, what)? {
+            return put_function(text, file, start, end);
+        }
+    }
+    let named = NamedFile::new(text.allocator(), file)?;
+    let name = Name::from_bytes(what.as_bytes());
+    if is_named(file.symbols(), &name) {
+        return put_named(text, &named, &name);
+    }
+    match octal_number(what.as_bytes()) {
+        Some(address) if has_address(file.header(), Some(address)) => {
+            put_address(text, &named, address)
+        }
+        _ => {
+            text.say(format_args!("{}: not in the file\n", Printable(what.as_bytes())));
+            Ok(())
+        }
+    }
+}
+
+/// What a file has of what is asked.
+fn answer_of(
+    alloc: Global,
+    what: &str,
+    shows_function: bool,
+    file: &File,
+) -> Result<Answer, AllocError>
+    ensures { IfOk result (λ answer. IsAnswer what.now file.now answer) }
+{
+    let mut text = Text::new(alloc);
+    put_answer(&mut text, file, what, shows_function)?;
+    Ok(Answer {
+        output: text.finish()?,
+        errors: Vec::new(alloc),
+        status: answer_status(file, what),
+    })
+}
+
+/// What the bytes of a file have of what is asked.
+fn answer_bytes(
+    alloc: Global,
+    what: &str,
+    shows_function: bool,
+    source: Source<'_>,
+) -> Result<Answer, AllocError>
+    ensures { IfOk result (λ answer. IsAnswered what.now source.entry.bytes.now answer) }
+{
+    match decode_file(alloc, source.bytes)? {
+        Ok(file) => answer_of(alloc, what, shows_function, &file),
+        Err(fault) => explain_refused(alloc, None, source, false, fault),
+    }
+}
+
+/// What the file at a path has of what is asked: a symbol of this name, or this address; with its instructions, if a function is to be
+/// shown. (own choice)
+pub(crate) fn answer_at<O: Office>(
+    alloc: Global,
+    office: &mut O,
+    what: &str,
+    shows_function: bool,
+    path: &str,
+) -> Result<Answer, Fault>
+    ensures { AnswersAt what.now path.now (O.history office.old) (O.history office.new) result }
+{
+    let bytes = read_whole(alloc, office, NAME, path, MOST_BYTES)?;
+    let source = Source {
+        path,
+        bytes: &bytes,
+    };
+    Ok(answer_bytes(alloc, what, shows_function, source)?)
+}
