@@ -1,10 +1,10 @@
 //! The instructions of the objects' texts.
 ghost use Rattle.std.specs.Prelude.{◌≡◌, ◌<◌, length};
 
+use crate::json::{Bytes, Json};
 use aout_core::File;
 use disassemblies::{ListedLines, NamedFile, is_start, line_starts, put_line_text};
 use instructions::{Decoder, Line, Operand, UnixLine, branch_back_target, branch_target};
-use session_states::JsonWriter;
 use std::alloc::{AllocError, Global};
 use texts::{OctalBuffer, Text};
 
@@ -87,15 +87,15 @@ fn decoded_of(alloc: Global, file: &File) -> Result<Vec<Decoded>, AllocError> {
 impl Decoded {
     /// Appends it as it is in an image in which the object's text begins here: a branch has its place there, and in the object.
     fn put_moved(&self, text: &mut Text, front: u16, object: &str) {
-        let moved = self.target.filter(|_| front > 0);
-        match moved.and_then(|target| without_number(&self.text, target)) {
-            Some(before) => {
-                let target = self.target.unwrap_or(0);
-                text.put_bytes(before);
-                text.put_octal(u64::from(target.wrapping_add(front)));
-                text.say(format_args!(", in {object} {target:o}"));
-            }
-            None => text.put_bytes(&self.text),
+        if let Some(target) = self.target
+            && front > 0
+            && let Some(before) = without_number(&self.text, target)
+        {
+            let moved = target.wrapping_add(front);
+            text.put_bytes(before);
+            text.say(format_args!("{moved:o}, in {object} {target:o}"));
+        } else {
+            text.put_bytes(&self.text);
         }
     }
 }
@@ -117,30 +117,26 @@ pub(crate) fn push_instructions(
     Ok(())
 }
 
-/// Adds the instructions of a text by the indices of their first words, and the addresses to which some of them branch.
+/// Puts the instructions of a text by the indices of their first words, and the addresses to which some of them branch.
 pub(crate) fn put_instructions(
     alloc: Global,
-    out: &mut JsonWriter,
+    out: &mut Json,
     file: &File,
 ) -> Result<(), AllocError> {
     let all = decoded_of(alloc, file)?;
-    out.put_key("instructions");
-    out.begin_object();
+    out.open("\"instructions\":{");
     for (index, decoded) in all.iter().enumerate() {
         if !decoded.text.is_empty() {
-            out.put_number_key(index as u64);
-            out.put_bytes(b"", &decoded.text);
+            out.put(format_args!("\"{index}\":{}", Bytes(&decoded.text)));
         }
     }
-    out.end_object();
-    out.put_key("branches");
-    out.begin_object();
+    out.close("}");
+    out.open("\"branches\":{");
     for (index, decoded) in all.iter().enumerate() {
         if let Some(target) = decoded.target {
-            out.put_number_key(index as u64);
-            out.put_number(u64::from(target));
+            out.put(format_args!("\"{index}\":{target}"));
         }
     }
-    out.end_object();
+    out.close("}");
     Ok(())
 }

@@ -1,14 +1,13 @@
 //! The links of a session.
-use crate::json::put_reason;
+use crate::json::{Bytes, Joined, Json};
+use crate::parts::{WordPlace, part_of};
+use anyhow::{Result as Outcome, anyhow};
 use aout_core::{Segment, Symbol, Wire};
 use link_out::{
     Bases, Keep, Layout, LinkFault, Linked, Options, Report, finish, link_bases, link_externals,
 };
 use link_session::Session;
-use session_states::JsonWriter;
 use std::alloc::{AllocError, Global};
-use std::io::{self, Write};
-use texts::Text;
 
 /// A link: where its segments are, and what it gives or why it is refused.
 #[derive(Drop)]
@@ -38,125 +37,105 @@ impl Link {
             _ => 0,
         }
     }
+
+    /// A word of the image as it is in the link, if this is not refused.
+    pub(crate) fn word(&self, place: WordPlace) -> Option<u16> {
+        match &self.outcome {
+            Ok(linked) => linked
+                .file
+                .words_of(part_of(place.segment))
+                .get(usize::from(place.offset / 2))
+                .copied(),
+            Err(_) => None,
+        }
+    }
 }
 
 /// How many links are shown.
 pub(crate) const LINK_COUNT: usize = 4;
 
-/// The links that are shown.
-static LINKS: [(Layout, bool); LINK_COUNT] = [
-    (Layout::Plain, false),
-    (Layout::Pure, false),
-    (Layout::Split, false),
-    (Layout::Plain, true),
+/// The links that are shown: what each is called, and its options.
+static LINKS: [(&str, Layout, bool); LINK_COUNT] = [
+    ("plain", Layout::Plain, false),
+    ("-n", Layout::Pure, false),
+    ("-i", Layout::Split, false),
+    ("-r", Layout::Plain, true),
 ];
-
-/// What a link that is shown is called, by its place among them.
-static LAYOUTS: [&str; LINK_COUNT] = ["plain", "-n", "-i", "-r"];
 
 /// The link that is called so.
 pub(crate) fn layout_named(name: &str) -> Option<usize> {
-    LAYOUTS.iter().position(|layout| *layout == name)
+    LINKS.iter().position(|link| link.0 == name)
 }
 
-fn link_of(
+/// The link of this index of those that are shown.
+pub(crate) fn link_at(
     alloc: Global,
     session: &Session,
-    options: &Options,
-    is_split: bool,
-) -> Result<Link, AllocError> {
-    let outcome = finish(alloc, session, options);
+    index: usize,
+) -> Result<Option<Link>, AllocError> {
+    let Some((_, layout, is_relocatable)) = LINKS.get(index) else {
+        return Ok(None);
+    };
+    let Ok(options) = Options::new(*layout, *is_relocatable, Keep::All, None) else {
+        return Ok(None);
+    };
+    let outcome = finish(alloc, session, &options);
     let externals = match &outcome {
-        Ok(_) => link_externals(alloc, session, options)?,
+        Ok(_) => link_externals(alloc, session, &options)?,
         Err(LinkFault::Memory(refused)) => return Err(AllocError::from(*refused)),
         Err(_) => None,
     };
-    Ok(Link {
-        bases: link_bases(session, options),
+    Ok(Some(Link {
+        bases: link_bases(session, &options),
         outcome,
-        is_split,
+        is_split: *layout == Layout::Split,
         externals: externals.unwrap_or(Vec::new(alloc)),
-    })
+    }))
 }
 
 /// The links of a session that are shown.
 pub(crate) fn links_of(alloc: Global, session: &Session) -> Result<Vec<Link>, AllocError> {
     let mut links = Vec::new(alloc);
-    for (layout, relocatable) in &LINKS {
-        if let Ok(options) = Options::new(*layout, *relocatable, Keep::All, None) {
-            let is_split = *layout == Layout::Split;
-            links.push(link_of(alloc, session, &options, is_split)?)?;
+    for index in 0..LINK_COUNT {
+        if let Some(link) = link_at(alloc, session, index)? {
+            links.push(link)?;
         }
     }
     Ok(links)
 }
 
-/// A text as a device. It takes all bytes, and its text keeps that memory ran out for them.
-#[derive(Drop)]
-struct TextDevice {
-    text: Text,
-}
-
-impl Write for TextDevice {
-    fn write(&mut self, bytes: &[u8]) -> io::Result<usize> {
-        self.text.put_bytes(bytes);
-        Ok(bytes.len())
-    }
-
-    fn flush(&mut self) -> io::Result<()> {
-        Ok(())
-    }
-}
-
 /// The lines of a report.
-fn report_lines(alloc: Global, report: &Report) -> Result<Vec<u8>, AllocError> {
-    let mut out = Wire::new(TextDevice {
-        text: Text::new(alloc),
-    });
-    // the device takes all bytes
-    let _ = report.write(&mut out);
-    out.into_inner().text.finish()
-}
-
-/// Adds the lines of a report.
-fn put_report(alloc: Global, out: &mut JsonWriter, report: &Report) {
-    match report_lines(alloc, report) {
-        Ok(lines) => {
-            out.put_key("report");
-            out.put_bytes(b"", &lines);
-        }
-        Err(refused) => out.cut(refused),
+fn report_lines(alloc: Global, report: &Report) -> Outcome<Vec<u8>> {
+    let mut out = Wire::new(Vec::new(alloc));
+    match report.write(&mut out) {
+        Ok(()) => Ok(out.into_inner()),
+        Err(_) => Err(anyhow!("no memory")),
     }
 }
 
-/// Adds a link, with the bounds of its segments, or why it is refused.
-fn put_link(alloc: Global, out: &mut JsonWriter, link: &Link) {
-    let at = &link.bases;
-    out.begin_object();
-    out.put_key("bases");
-    out.begin_list();
-    for bound in [
-        at.text_end,
-        at.data_start,
-        at.data_end,
-        at.bss_start,
-        at.bss_end,
-    ] {
-        out.put_number(bound);
-    }
-    out.end_list();
-    match &link.outcome {
-        Ok(linked) => put_report(alloc, out, &linked.report),
-        Err(fault) => put_reason(alloc, out, fault),
-    }
-    out.end_object();
-}
-
-/// Adds the links, as a list.
-pub(crate) fn put_links(alloc: Global, out: &mut JsonWriter, links: &[Link]) {
-    out.begin_list();
+/// Puts the links, as a list: the bounds of the segments of each, and what is reported of it or why it is refused.
+pub(crate) fn put_links(alloc: Global, out: &mut Json, links: &[Link]) -> Outcome<()> {
+    out.open("\"links\":[");
     for link in links {
-        put_link(alloc, out, link);
+        let at = &link.bases;
+        let bounds = [
+            at.text_end,
+            at.data_start,
+            at.data_end,
+            at.bss_start,
+            at.bss_end,
+        ];
+        out.open("{");
+        out.put(format_args!("\"bases\":[{}]", Joined(&bounds)));
+        match &link.outcome {
+            Ok(linked) => {
+                let lines = report_lines(alloc, &linked.report)?;
+                out.put(format_args!("\"report\":{}", Bytes(&lines)));
+            }
+            Err(fault) => out.put_reason(fault)?,
+        }
+        out.close("}");
     }
-    out.end_list();
+    out.close("]");
+    Ok(())
 }

@@ -1,8 +1,8 @@
-//! The program `v7-lesson`, for a class: what a linker knows after each addition and withdrawal, as text or as a page.
+//! The program `v7-lesson`, for a class: what a linker knows after each addition and withdrawal, as text or as a page. Only tested: both,
+//! and which files of lessons are refused. Proved: what the arguments ask for.
 #![tactic(auto)]
 
 mod arguments;
-mod choices;
 mod decoded;
 mod files;
 mod fronts;
@@ -27,7 +27,6 @@ mod walk;
 use anyhow::{Error, Result};
 use arguments::{Call, call_of};
 use help::{HELP, USAGE};
-use link_session::Session;
 use page::write_page;
 use std::process::ExitCode;
 use steps::play;
@@ -36,35 +35,30 @@ use surroundings::{Given, given_in, readable_words, refuse, show, shown_in};
 /// The name of the program.
 const NAME: &str = "v7-lesson";
 
-/// Does a call.
-fn do_call(rt: &HostRuntime, session: &mut Session, call: Call<'_>) -> Result<()> {
-    match call {
-        Call::Steps { shown, files } => play(rt, files, shown),
-        Call::Page {
-            folder,
-            questions,
-            files,
-        } => write_page(rt, session, folder, questions, files),
-    }
-}
-
 /// Does the call that is asked for, if one is, and returns the status.
-fn run_given(rt: &HostRuntime, session: &mut Session, given: &Given) -> Result<u8> {
+fn run_given(rt: &HostRuntime, given: &Given) -> Result<u8> {
     match call_of(given) {
-        Ok(call) => do_call(rt, session, call)?,
+        Ok(Call::Steps { shown, files }) => play(rt, files, shown)?,
+        Ok(
+            Call::Page {
+                folder,
+                questions,
+                files,
+            },
+        ) => write_page(rt, folder, questions, files)?,
         Err(reason) => return Ok(refuse(rt, NAME, USAGE, reason)),
     }
     Ok(0)
 }
 
 /// Does what the arguments ask for, and returns the status.
-fn run(rt: &HostRuntime, session: &mut Session) -> Result<u8> {
+fn run(rt: &HostRuntime) -> Result<u8> {
     let words = readable_words(rt.alloc(), rt)?;
     if let Some(shown) = shown_in(&words) {
         return Ok(show(rt, NAME, HELP, shown));
     }
     match given_in(rt.alloc(), b"c", b"npq", &words)? {
-        Ok(given) => run_given(rt, session, &given),
+        Ok(given) => run_given(rt, &given),
         Err(reason) => Ok(refuse(rt, NAME, USAGE, reason)),
     }
 }
@@ -86,7 +80,7 @@ fn fail(rt: &HostRuntime, error: &Error) -> u8 {
 }
 
 fn main(rt: HostRuntime) -> ExitCode {
-    let status = match run(&rt, &mut Session::new(rt.alloc())) {
+    let status = match run(&rt) {
         Ok(status) => status,
         Err(error) => fail(&rt, &error),
     };

@@ -1,28 +1,21 @@
 //! The records of a state. The page has, for each state, only those that differ from the state before it.
-use crate::fronts::Fronts;
-use crate::given::{Given, RelocatedWord, words_of};
+use crate::fronts::Placed;
+use crate::given::RelocatedWord;
+use crate::json::{Bytes, Joined, Json};
 use crate::links::{LINK_COUNT, Link};
-use crate::parts::{Referent, place_meant, put_state};
+use crate::parts::{Referent, WordPlace, place_meant, what_is_known};
 use crate::places::{ArrowEnd, image_place, link_place};
-use crate::stage::cells_of;
 use anyhow::{Result, anyhow};
-use aout_core::{Segment, Symbol};
-use link_session::{Cell, Session, State};
-use session_states::JsonWriter;
+use aout_core::{Name, Symbol};
+use link_session::{Session, State};
 use std::alloc::{AllocError, Global};
+use std::fmt::{self, Display, Formatter, Write};
 use symtools::letter;
 
-/// A record, which the page has as a list.
-trait Record {
-    /// Adds its parts.
-    fn put(&self, out: &mut JsonWriter);
-}
-
-/// How many of these there are up to the last that differs from the first. A record leaves those after it out: they are as in a plain
-/// link.
-fn differing<T: PartialEq>(all: &[T]) -> usize {
+/// These up to the last that differs from the first. A record leaves out those after it, which are as in a plain link.
+fn differing<T: PartialEq>(all: &[T]) -> &[T] {
     let Some(first) = all.first() else {
-        return 0;
+        return all;
     };
     let mut count = 1;
     for (place, one) in all.iter().enumerate() {
@@ -30,23 +23,45 @@ fn differing<T: PartialEq>(all: &[T]) -> usize {
             count = place.saturating_add(1);
         }
     }
-    count
+    all.get(..count).unwrap_or(all)
+}
+
+/// A pair of values.
+#[derive(Clone, Copy, PartialEq, Eq)]
+struct Pair<T>(u16, T);
+
+impl<T: Display> Display for Pair<T> {
+    fn fmt<W: Write>(&self, f: &mut Formatter<W>) -> fmt::Result {
+        write!(f, "{},{}", self.0, self.1)
+    }
+}
+
+/// A letter of `nm`.
+#[derive(Clone, Copy, PartialEq, Eq)]
+struct Letter(u8);
+
+impl Display for Letter {
+    fn fmt<W: Write>(&self, f: &mut Formatter<W>) -> fmt::Result {
+        write!(f, "{}", Bytes(&[self.0]))
+    }
 }
 
 /// What is known of a name, and its value and its letter in each link: 0 and `?` in one that is refused.
 #[derive(Clone, Copy, PartialEq, Eq)]
 struct NameRecord {
+    name: Name,
     state: State,
-    symbols: [(u16, u8); LINK_COUNT],
+    symbols: [Pair<Letter>; LINK_COUNT],
 }
 
-impl Record for NameRecord {
-    fn put(&self, out: &mut JsonWriter) {
-        put_state(out, self.state);
-        for (value, letter) in self.symbols.iter().take(differing(&self.symbols)) {
-            out.put_number(u64::from(*value));
-            out.put_bytes(b"", &[*letter]);
-        }
+impl Display for NameRecord {
+    fn fmt<W: Write>(&self, f: &mut Formatter<W>) -> fmt::Result {
+        let (kind, number) = what_is_known(self.state);
+        write!(
+            f,
+            "\"{kind}\",{number},{}",
+            Joined(differing(&self.symbols))
+        )
     }
 }
 
@@ -57,32 +72,23 @@ struct GroupRecord {
     value: u16,
     meant: u16,
     referent: Referent,
-    sums: [(u16, u16); LINK_COUNT],
+    sums: [Pair<u16>; LINK_COUNT],
 }
 
-impl Record for GroupRecord {
-    fn put(&self, out: &mut JsonWriter) {
-        out.put_number(u64::from(self.value));
-        out.put_number(u64::from(self.meant));
-        self.referent.put(out);
-        for (plus, minus) in self.sums.iter().take(differing(&self.sums)) {
-            out.put_number(u64::from(*plus));
-            out.put_number(u64::from(*minus));
-        }
+impl Display for GroupRecord {
+    fn fmt<W: Write>(&self, f: &mut Formatter<W>) -> fmt::Result {
+        let sums = Joined(differing(&self.sums));
+        write!(f, "{},{},{},{sums}", self.value, self.meant, self.referent)
     }
 }
 
 /// The value of a local symbol in each link.
 #[derive(Clone, Copy, PartialEq, Eq)]
-struct LocalRecord {
-    values: [u16; LINK_COUNT],
-}
+struct LocalRecord([u16; LINK_COUNT]);
 
-impl Record for LocalRecord {
-    fn put(&self, out: &mut JsonWriter) {
-        for value in self.values.iter().take(differing(&self.values)) {
-            out.put_number(u64::from(*value));
-        }
+impl Display for LocalRecord {
+    fn fmt<W: Write>(&self, f: &mut Formatter<W>) -> fmt::Result {
+        write!(f, "{}", Joined(differing(&self.0)))
     }
 }
 
@@ -93,16 +99,22 @@ struct PlaceRecord {
     in_links: [ArrowEnd; LINK_COUNT],
 }
 
-impl Record for PlaceRecord {
-    fn put(&self, out: &mut JsonWriter) {
-        self.in_image.put(out);
-        let count = differing(&self.in_links);
+impl Display for PlaceRecord {
+    fn fmt<W: Write>(&self, f: &mut Formatter<W>) -> fmt::Result {
+        write!(f, "{}", self.in_image)?;
         if self.in_links != [ArrowEnd::AsInImage; LINK_COUNT] {
-            for place in self.in_links.iter().take(count) {
-                place.put(out);
-            }
+            write!(f, ",{}", Joined(differing(&self.in_links)))?;
         }
+        Ok(())
     }
+}
+
+/// A session, with what is computed from it.
+#[derive(Clone, Copy)]
+pub(crate) struct Computed<'a> {
+    pub(crate) session: &'a Session,
+    pub(crate) placed: &'a [Placed<'a>],
+    pub(crate) links: &'a [Link],
 }
 
 /// The records of a state, as lists that a longer list of objects continues.
@@ -117,14 +129,6 @@ pub(crate) struct Numbers {
     places: Vec<PlaceRecord>,
 }
 
-/// A session, with what is computed from it.
-#[derive(Clone, Copy)]
-pub(crate) struct Computed<'a> {
-    pub(crate) session: &'a Session,
-    pub(crate) fronts: &'a [Fronts],
-    pub(crate) links: &'a [Link],
-}
-
 impl Numbers {
     /// The records of no state.
     pub(crate) fn none(alloc: Global) -> Numbers {
@@ -136,71 +140,65 @@ impl Numbers {
         }
     }
 
-    /// The records of a session of the objects in the list.
-    pub(crate) fn of(
-        alloc: Global,
-        computed: Computed<'_>,
-        givens: &[Given],
-        list: &[usize],
-    ) -> Result<Numbers> {
+    /// The records of a session.
+    pub(crate) fn of(alloc: Global, computed: Computed<'_>) -> Result<Numbers> {
         let mut numbers = Numbers::none(alloc);
         push_names(&mut numbers.names, computed)?;
         push_locals(&mut numbers.locals, computed)?;
-        for (object, fronts) in list.iter().zip(computed.fronts) {
-            if let Some(given) = givens.get(*object) {
-                push_groups(&mut numbers.groups, computed, given, fronts)?;
-                push_places(&mut numbers.places, computed, given, fronts)?;
-            }
+        for placed in computed.placed {
+            push_groups(&mut numbers.groups, computed, placed)?;
+            push_places(&mut numbers.places, computed, placed)?;
         }
         Ok(numbers)
     }
 
-    /// Adds what differs from the records before.
-    pub(crate) fn put(&self, out: &mut JsonWriter, before: &Numbers) {
-        put_changes(out, "names", &before.names, &self.names);
-        put_changes(out, "groups", &before.groups, &self.groups);
-        put_changes(out, "locals", &before.locals, &self.locals);
-        put_changes(out, "places", &before.places, &self.places);
+    /// Puts the names that are new, and what differs from the records before.
+    pub(crate) fn put(&self, out: &mut Json, before: &Numbers) {
+        out.open("\"newNames\":[");
+        for record in self.names.get(before.names.len()..).unwrap_or(&[]) {
+            out.put(Bytes(record.name.as_bytes()));
+        }
+        out.close("]");
+        put_changes(out, "\"names\":[[", &before.names, &self.names);
+        put_changes(out, "\"groups\":[[", &before.groups, &self.groups);
+        put_changes(out, "\"locals\":[[", &before.locals, &self.locals);
+        put_changes(out, "\"places\":[[", &before.places, &self.places);
     }
 }
 
-/// Adds a list of the records that are new, after a list of those that have changed, each after its place.
-fn put_changes<R: Record + PartialEq>(out: &mut JsonWriter, key: &str, before: &[R], now: &[R]) {
-    out.put_key(key);
-    out.begin_list();
-    out.begin_list();
+/// Puts a list of the records that are new, after a list of those that have changed, each after its place.
+fn put_changes<R: Display + PartialEq>(out: &mut Json, start: &str, before: &[R], now: &[R]) {
+    out.open(start);
     for (place, (old, new)) in before.iter().zip(now).enumerate() {
         if *old != *new {
-            out.begin_list();
-            out.put_number(place as u64);
-            new.put(out);
-            out.end_list();
+            out.put(format_args!("[{place},{new}]"));
         }
     }
-    out.end_list();
-    out.begin_list();
+    out.close("]");
+    out.open("[");
     for record in now.get(before.len()..).unwrap_or(&[]) {
-        out.begin_list();
-        record.put(out);
-        out.end_list();
+        out.put(format_args!("[{record}]"));
     }
-    out.end_list();
-    out.end_list();
+    out.close("]]");
 }
 
 /// Adds the records of the names.
 fn push_names(out: &mut Vec<NameRecord>, computed: Computed<'_>) -> Result<(), AllocError> {
     for index in 0..computed.session.external_count() {
-        let Some((_, state)) = computed.session.external(index) else {
+        let Some((name, state)) = computed.session.external(index) else {
             break;
         };
-        let mut symbols = [(0u16, b'?'); LINK_COUNT];
+        let mut symbols = [Pair(0u16, Letter(b'?')); LINK_COUNT];
         for (slot, link) in symbols.iter_mut().zip(computed.links) {
             if let Some(symbol) = link.externals.get(usize::from(index)) {
-                *slot = (symbol.value, letter(symbol));
+                *slot = Pair(symbol.value, Letter(letter(symbol)));
             }
         }
-        out.push(NameRecord { state, symbols })?;
+        out.push(NameRecord {
+            name,
+            state,
+            symbols,
+        })?;
     }
     Ok(())
 }
@@ -232,23 +230,15 @@ fn local_record(links: &[Link], symbol: &Symbol, place: usize) -> Result<LocalRe
             _ => return Err(anyhow!("symbol {place} of a link is another one")),
         }
     }
-    Ok(LocalRecord { values })
+    Ok(LocalRecord(values))
 }
 
-/// The cell at an offset of a merged segment.
-pub(crate) fn cell_at(session: &Session, segment: Segment, offset: u16) -> Option<Cell> {
-    cells_of(session, segment)
-        .get(usize::from(offset / 2))
-        .copied()
-}
-
-/// The word at an offset of a merged segment in a link, if the link is not refused.
-pub(crate) fn linked_word(link: &Link, segment: Segment, offset: u16) -> Option<u16> {
-    match &link.outcome {
-        Ok(linked) => words_of(&linked.file, segment)
-            .get(usize::from(offset / 2))
-            .copied(),
-        Err(_) => None,
+/// A word of an object, in the merged image.
+fn merged(placed: &Placed<'_>, reference: &RelocatedWord) -> WordPlace {
+    let segment = reference.segment;
+    WordPlace {
+        segment,
+        offset: reference.offset.wrapping_add(placed.front(segment)),
     }
 }
 
@@ -256,19 +246,17 @@ pub(crate) fn linked_word(link: &Link, segment: Segment, offset: u16) -> Option<
 fn push_places(
     out: &mut Vec<PlaceRecord>,
     computed: Computed<'_>,
-    given: &Given,
-    fronts: &Fronts,
+    placed: &Placed<'_>,
 ) -> Result<(), AllocError> {
-    for reference in &given.references {
-        let segment = reference.segment;
-        let offset = reference.offset.wrapping_add(fronts.starts.of(segment));
+    for reference in &placed.given.references {
+        let place = merged(placed, reference);
         let mut in_image = ArrowEnd::Nowhere;
         let mut in_links = [ArrowEnd::Nowhere; LINK_COUNT];
-        if let Some(cell) = cell_at(computed.session, segment, offset) {
-            in_image = image_place(computed.session, cell, offset);
+        if let Some(cell) = place.cell(computed.session) {
+            in_image = image_place(computed.session, cell, place.offset);
             for (slot, link) in in_links.iter_mut().zip(computed.links) {
-                if let Some(word) = linked_word(link, segment, offset) {
-                    let address = link.start(segment).wrapping_add(offset);
+                if let Some(word) = link.word(place) {
+                    let address = link.start(place.segment).wrapping_add(place.offset);
                     *slot = link_place(link, cell, word, address, in_image);
                 }
             }
@@ -281,26 +269,25 @@ fn push_places(
 /// The record of a word, which the other words of its group have too.
 fn group_record(
     computed: Computed<'_>,
-    given: &Given,
-    fronts: &Fronts,
+    placed: &Placed<'_>,
     reference: RelocatedWord,
 ) -> Result<GroupRecord> {
-    let RelocatedWord { segment, word, .. } = reference;
-    let offset = reference.offset.wrapping_add(fronts.starts.of(segment));
-    let Some(cell) = cell_at(computed.session, segment, offset) else {
-        return Err(anyhow!("{}: word {offset} is not in the image", given.path));
+    let (given, RelocatedWord { segment, word, .. }) = (placed.given, reference);
+    let place = merged(placed, &reference);
+    let Some(cell) = place.cell(computed.session) else {
+        return Err(anyhow!("{}: word {} is not in the image", given.path, place.offset));
     };
-    let mut sums = [(0u16, 0u16); LINK_COUNT];
+    let mut sums = [Pair(0u16, 0u16); LINK_COUNT];
     for (slot, link) in sums.iter_mut().zip(computed.links) {
         // how far the word itself has moved
-        let moved = link.start(segment).wrapping_add(fronts.shifts.of(segment));
+        let moved = link.start(segment).wrapping_add(placed.shifts.of(segment));
         let minus = if cell.pc { moved } else { 0 };
-        let last = linked_word(link, segment, offset).unwrap_or(word);
-        *slot = (last.wrapping_sub(word).wrapping_add(minus), minus);
+        let last = link.word(place).unwrap_or(word);
+        *slot = Pair(last.wrapping_sub(word).wrapping_add(minus), minus);
     }
     Ok(GroupRecord {
         value: cell.value.wrapping_sub(word),
-        meant: place_meant(cell, offset).wrapping_sub(given.meant(reference)),
+        meant: place_meant(cell, place.offset).wrapping_sub(given.meant(reference)),
         referent: Referent::of(computed.session, cell.target),
         sums,
     })
@@ -310,21 +297,17 @@ fn group_record(
 fn push_groups(
     out: &mut Vec<GroupRecord>,
     computed: Computed<'_>,
-    given: &Given,
-    fronts: &Fronts,
+    placed: &Placed<'_>,
 ) -> Result<()> {
     let first = out.len();
-    for reference in &given.groups {
-        out.push(group_record(computed, given, fronts, *reference)?)?;
+    for reference in &placed.given.groups {
+        out.push(group_record(computed, placed, *reference)?)?;
     }
-    for reference in &given.references {
-        let record = group_record(computed, given, fronts, *reference)?;
+    for reference in &placed.given.references {
+        let record = group_record(computed, placed, *reference)?;
         if out.get(first.saturating_add(reference.group)).copied() != Some(record) {
-            return Err(anyhow!(
-                "{}: the word at {} differs from its group",
-                given.path,
-                reference.offset
-            ));
+            let (path, offset) = (&placed.given.path, reference.offset);
+            return Err(anyhow!("{path}: the word at {offset} differs from its group"));
         }
     }
     Ok(())

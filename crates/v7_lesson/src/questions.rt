@@ -1,23 +1,43 @@
 //! The questions of lessons: a text file, of which each line is checked against the objects as it is read.
-ghost use Rattle.std.specs.Prelude.{◌≡◌};
-ghost use Rattle.v7_lesson.specs.Choices.{may_begin};
-
-use crate::choices::Choices;
 use crate::files::text_at;
 use crate::given::Given;
-use crate::keys::{Act, Asked, Wanted, WordPlace, changed_words, first_word, put_answer};
+use crate::json::Json;
+use crate::keys::{Act, Asked, Wanted, changed_words, first_word, put_answer, word_at, word_named};
 use crate::links::layout_named;
-use crate::numbers::cell_at;
+use crate::parts::WordPlace;
 use crate::prose::put_prose;
 use crate::walk::ALL_ORDERS;
 use anyhow::{Result, anyhow};
 use aout_core::Name;
 use link_session::Session;
-use session_states::JsonWriter;
 use std::alloc::{AllocError, Global};
 
+/// The answers to choose from that a question has so far.
+#[derive(Clone, Copy, Default)]
+struct Choices {
+    has_right: bool,
+    has_wrong: bool,
+    /// Whether the last wrong one has no reason yet.
+    needs_reason: bool,
+}
+
+impl Choices {
+    /// What is missing.
+    fn missing(self) -> Option<&'static str> {
+        if self.needs_reason {
+            Some("reason for its wrong answer")
+        } else if !self.has_right {
+            Some("right answer")
+        } else if !self.has_wrong {
+            Some("wrong answer")
+        } else {
+            None
+        }
+    }
+}
+
 /// What the lines before have begun.
-#[derive(Clone, Copy, PartialEq, Eq)]
+#[derive(Clone, Copy)]
 enum Begun {
     Nothing,
     Lesson,
@@ -29,12 +49,14 @@ enum Begun {
 
 impl Begun {
     /// Whether a line may begin by this word.
-    fn allows(self, word: &str) -> bool
-        ensures { result ≡ may_begin self word.now }
-    {
+    fn allows(self, word: &str) -> bool {
         match self {
             Begun::Nothing => word == "lesson",
-            Begun::Choice(_, choices) => choices.allow(word),
+            Begun::Choice(_, choices) => match word {
+                "because" => choices.needs_reason,
+                "right" | "wrong" => !choices.needs_reason,
+                _ => choices.missing().is_none(),
+            },
             Begun::Computed(_) => matches!(
                 word,
                 "word" | "number" | "add" | "withdraw" | "link" | "image"
@@ -62,12 +84,7 @@ struct Reader<'a> {
     list: Vec<usize>,
     begun: Begun,
     /// What the question before the next step asks of it.
-    wanted: Wanted,
-    /// The name whose place it asks for.
-    name: Name,
-    /// The words that the file gives as its answer, and the number.
-    words: Vec<WordPlace>,
-    number: Option<u16>,
+    asked: Asked,
 }
 
 /// Whether a path is a file's name, or ends by it.
@@ -80,19 +97,19 @@ fn is_at(path: &str, name: &str) -> bool {
 
 impl<'a> Reader<'a> {
     /// Adds a word and the text after it, which must not be empty.
-    fn put_said(&self, out: &mut JsonWriter, word: &str, text: &str) -> Result<()> {
+    fn put_said(&self, out: &mut Json, word: &str, text: &str) -> Result<()> {
         if text.is_empty() {
             return Err(anyhow!("{word} is followed by a text"));
         }
-        out.begin_list();
-        out.put_text(word);
+        out.open("[");
+        out.put(format_args!("\"{word}\""));
         put_prose(self.alloc, out, &self.session, text)?;
-        out.end_list();
+        out.close("]");
         Ok(())
     }
 
     /// A lesson begins: no object is there.
-    fn put_lesson(&mut self, out: &mut JsonWriter, title: &str) -> Result<()> {
+    fn put_lesson(&mut self, out: &mut Json, title: &str) -> Result<()> {
         self.session = Session::new(self.alloc);
         self.list = Vec::new(self.alloc);
         self.begun = Begun::Lesson;
@@ -100,56 +117,86 @@ impl<'a> Reader<'a> {
     }
 
     /// A right or wrong answer to choose, or why one is wrong.
-    fn put_choice(&mut self, out: &mut JsonWriter, word: &str, text: &str) -> Result<()> {
-        let Begun::Choice(line, choices) = self.begun else {
+    fn put_choice(&mut self, out: &mut Json, word: &str, text: &str) -> Result<()> {
+        let Begun::Choice(_, choices) = &mut self.begun else {
             return Err(anyhow!("an answer to no question"));
         };
-        self.begun = Begun::Choice(line, choices.with(word));
+        choices.has_right = choices.has_right || word == "right";
+        choices.has_wrong = choices.has_wrong || word == "wrong";
+        choices.needs_reason = word == "wrong";
         self.put_said(out, word, text)
     }
 
     /// A word of the image, by its segment and its offset in octal digits.
     fn word_at(&self, text: &str) -> Result<WordPlace> {
-        match WordPlace::parse(text) {
-            Some(word) if word.is_in(&self.session) => Ok(word),
+        match word_named(text) {
+            Some(word) if word.cell(&self.session).is_some() => Ok(word),
             _ => Err(anyhow!("there is no word {text}")),
         }
     }
 
     /// A word that the file gives as one of those that the next step changes.
     fn answer_word(&mut self, text: &str) -> Result<()> {
-        if !matches!(self.wanted, Wanted::Changes) {
+        if !matches!(self.asked.wanted, Wanted::Changes) {
             return Err(anyhow!("an answer to no question"));
         }
         let word = self.word_at(text)?;
-        self.words.push(word)?;
+        self.asked.words.push(word)?;
         Ok(())
     }
 
     /// An answer that is a number, in octal digits.
     fn answer_number(&mut self, text: &str) -> Result<()> {
-        if !matches!(self.wanted, Wanted::Value(_) | Wanted::Where) {
+        if !matches!(self.asked.wanted, Wanted::Value(..) | Wanted::Where(_)) {
             return Err(anyhow!("an answer to no question"));
         }
         match u16::from_str_radix(text, 8) {
             Ok(number) => {
-                self.number = Some(number);
+                self.asked.number = Some(number);
                 Ok(())
             }
             Err(_) => Err(anyhow!("there is no number {text}")),
         }
     }
 
-    /// A question: of the step after it, or with answers to choose from.
-    fn put_ask(&mut self, out: &mut JsonWriter, line: usize, text: &str) -> Result<()> {
+    /// Takes what a question asks of the next step, and returns its text.
+    fn take_wanted<'t>(&mut self, text: &'t str) -> Result<&'t str> {
         let (word, rest) = first_word(text);
-        self.wanted = wanted_of(word, rest)?;
-        self.name = name_in(rest);
-        self.words = Vec::new(self.alloc);
-        self.number = None;
-        self.put_said(out, "ask", question_in(word, rest, text).trim())?;
-        self.begun = match self.wanted {
-            Wanted::Nothing => Begun::Choice(line, Choices::none()),
+        let (first, others) = first_word(rest.trim_start());
+        match word {
+            "changes" => {
+                self.asked.wanted = Wanted::Changes;
+                Ok(rest)
+            }
+            "value" => {
+                let (digits, said) = first_word(others.trim_start());
+                let Some(word) = word_at(first, digits) else {
+                    return Err(anyhow!("value is followed by text or data, an offset and a text"));
+                };
+                let before = word.cell(&self.session).map_or(0, |cell| cell.value);
+                self.asked.wanted = Wanted::Value(word, before);
+                Ok(said)
+            }
+            "where" if first.is_empty() => Err(anyhow!("where is followed by a name and a text")),
+            "where" => {
+                self.asked.wanted = Wanted::Where(Name::from_bytes(first.as_bytes()));
+                Ok(others)
+            }
+            _ => {
+                self.asked.wanted = Wanted::Nothing;
+                Ok(text)
+            }
+        }
+    }
+
+    /// A question: of the step after it, or with answers to choose from.
+    fn put_ask(&mut self, out: &mut Json, line: usize, text: &str) -> Result<()> {
+        let said = self.take_wanted(text)?;
+        self.asked.words = Vec::new(self.alloc);
+        self.asked.number = None;
+        self.put_said(out, "ask", said.trim())?;
+        self.begun = match self.asked.wanted {
+            Wanted::Nothing => Begun::Choice(line, Choices::default()),
             _ => Begun::Computed(line),
         };
         Ok(())
@@ -189,34 +236,17 @@ impl<'a> Reader<'a> {
         Ok(Act::Withdraw)
     }
 
-    /// The step that shows a link.
-    fn link(&self, name: &str) -> Result<Act> {
-        match layout_named(name) {
-            Some(layout) => Ok(Act::Link(layout)),
-            None => Err(anyhow!("there is no link {name}")),
-        }
-    }
-
-    /// The word that a question is about, before the step.
-    fn word_before(&self) -> u16 {
-        match self.wanted {
-            Wanted::Value(word) => cell_at(&self.session, word.segment, word.offset).map_or(
-                0,
-                |cell| cell.value,
-            ),
-            _ => 0,
-        }
-    }
-
     /// A line that makes a step.
-    fn put_step(&mut self, out: &mut JsonWriter, word: &str, rest: &str) -> Result<()> {
+    fn put_step(&mut self, out: &mut Json, word: &str, rest: &str) -> Result<()> {
         self.begun = Begun::Lesson;
-        let before = self.word_before();
         let overwritten = changed_words(self.alloc, &self.session)?;
         let act = match word {
             "add" => self.add(rest)?,
             "withdraw" => self.withdraw()?,
-            "link" => self.link(rest)?,
+            "link" => match layout_named(rest) {
+                Some(layout) => Act::Link(layout),
+                None => return Err(anyhow!("there is no link {rest}")),
+            },
             _ => Act::Image,
         };
         let changed = match act {
@@ -224,27 +254,14 @@ impl<'a> Reader<'a> {
             Act::Withdraw => overwritten,
             _ => Vec::new(self.alloc),
         };
-        let asked = Asked {
-            wanted: self.wanted,
-            name: &self.name,
-            words: &self.words,
-            number: self.number,
-            before,
-        };
-        put_answer(self.alloc, out, &self.session, asked, act, &changed)?;
-        self.wanted = Wanted::Nothing;
+        put_answer(self.alloc, out, &self.session, &self.asked, act, &changed)?;
+        self.asked.wanted = Wanted::Nothing;
         put_act(out, act);
         Ok(())
     }
 
     /// A line that has this word first.
-    fn put_line(
-        &mut self,
-        out: &mut JsonWriter,
-        line: usize,
-        word: &str,
-        rest: &str,
-    ) -> Result<()> {
+    fn put_line(&mut self, out: &mut Json, line: usize, word: &str, rest: &str) -> Result<()> {
         if !self.begun.allows(word) {
             return match self.begun.missing() {
                 Some((asked, what)) => Err(anyhow!("the question of line {asked} has no {what}")),
@@ -267,77 +284,18 @@ impl<'a> Reader<'a> {
     }
 }
 
-/// A text without its first word.
-fn without_word(text: &str) -> &str {
-    let (_, rest) = first_word(text.trim_start());
-    rest
-}
-
-/// The text of a question, without what it asks.
-fn question_in<'a>(word: &str, rest: &'a str, text: &'a str) -> &'a str {
-    match word {
-        "changes" => rest,
-        "where" => without_word(rest),
-        "value" => without_word(without_word(rest)),
-        _ => text,
-    }
-}
-
-/// What a question asks of the next step, by its first word and what follows it.
-fn wanted_of(word: &str, rest: &str) -> Result<Wanted> {
-    match word {
-        "changes" => Ok(Wanted::Changes),
-        "value" => wanted_value(rest.trim_start()),
-        "where" => wanted_name(rest.trim_start()),
-        _ => Ok(Wanted::Nothing),
-    }
-}
-
-/// A question of a word's value.
-fn wanted_value(text: &str) -> Result<Wanted> {
-    let (segment, rest) = first_word(text);
-    let (digits, _) = first_word(rest.trim_start());
-    match WordPlace::at(segment, digits) {
-        Some(word) => Ok(Wanted::Value(word)),
-        None => Err(anyhow!("value is followed by text or data, an offset and a text")),
-    }
-}
-
-/// The name that a text begins with.
-fn name_in(text: &str) -> Name {
-    let (name, _) = first_word(text.trim_start());
-    Name::from_bytes(name.as_bytes())
-}
-
-/// A question of a name's place.
-fn wanted_name(text: &str) -> Result<Wanted> {
-    let (name, _) = first_word(text);
-    if name.is_empty() {
-        return Err(anyhow!("where is followed by a name and a text"));
-    }
-    Ok(Wanted::Where)
-}
-
-/// Adds a step.
-fn put_act(out: &mut JsonWriter, act: Act) {
-    out.begin_list();
+/// Puts a step.
+fn put_act(out: &mut Json, act: Act) {
     match act {
-        Act::Add(object) => {
-            out.put_text("add");
-            out.put_number(object as u64);
-        }
-        Act::Link(layout) => {
-            out.put_text("link");
-            out.put_number(layout as u64);
-        }
-        Act::Withdraw => out.put_text("withdraw"),
-        Act::Image => out.put_text("image"),
+        Act::Add(object) => out.put(format_args!("[\"add\",{object}]")),
+        Act::Link(layout) => out.put(format_args!("[\"link\",{layout}]")),
+        Act::Withdraw => out.put("[\"withdraw\"]"),
+        Act::Image => out.put("[\"image\"]"),
     }
-    out.end_list();
 }
 
 /// Adds the lines of a text, and returns the number of the line that a fault is in.
-fn put_lines(reader: &mut Reader<'_>, out: &mut JsonWriter, path: &str, text: &str) -> Result<()> {
+fn put_lines(reader: &mut Reader<'_>, out: &mut Json, path: &str, text: &str) -> Result<()> {
     for (index, line) in text.lines().enumerate() {
         let line = line.trim();
         let number = index.saturating_add(1);
@@ -355,10 +313,10 @@ fn put_lines(reader: &mut Reader<'_>, out: &mut JsonWriter, path: &str, text: &s
     }
 }
 
-/// Adds the lessons in the file at a path, as a list of its lines.
+/// Puts the lessons in the file at a path, as a list of its lines.
 pub(crate) fn put_questions(
     rt: &HostRuntime,
-    out: &mut JsonWriter,
+    out: &mut Json,
     path: &str,
     givens: &[Given],
 ) -> Result<()> {
@@ -370,13 +328,14 @@ pub(crate) fn put_questions(
         session: Session::new(alloc),
         list: Vec::new(alloc),
         begun: Begun::Nothing,
-        wanted: Wanted::Nothing,
-        name: name_in(""),
-        words: Vec::new(alloc),
-        number: None,
+        asked: Asked {
+            wanted: Wanted::Nothing,
+            words: Vec::new(alloc),
+            number: None,
+        },
     };
-    out.begin_list();
+    out.open("\"lessons\":[");
     put_lines(&mut reader, out, path, text.as_str())?;
-    out.end_list();
+    out.close("]");
     Ok(())
 }

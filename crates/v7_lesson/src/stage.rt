@@ -1,20 +1,19 @@
 //! A session whose states are shown, with the rows of a state: one for each word, for bss, and for each name.
-ghost use Rattle.std.specs.Prelude.{◌≤◌, ◌*◌, length};
-
 use crate::decoded::{offset_of, push_instructions};
-use crate::parts::{Referent, Size, place_meant, say_name, say_state};
-use crate::places::{Merged, size_of};
+use crate::parts::{
+    Known, Referent, Size, WordPlace, cells_of, place_meant, segment_name, size_of,
+};
 use anyhow::{Result, anyhow};
 use aout_core::{Name, Object, Segment};
-use link_session::{Cell, Mark, Place, Session, State};
+use link_session::{Cell, Mark, Session, State};
 use std::alloc::{AllocError, Global};
-use texts::Text;
+use texts::{Printable, Text};
 
 /// A kind of rows.
 #[derive(Clone, Copy)]
 pub(crate) enum RowKind {
-    Text,
-    Data,
+    /// Words of text or of data.
+    Word(Segment),
     Bss,
     Name,
     Multiple,
@@ -22,29 +21,20 @@ pub(crate) enum RowKind {
 
 /// The kinds of rows in their order.
 pub(crate) static ROW_KINDS: [RowKind; 5] = [
-    RowKind::Text,
-    RowKind::Data,
+    RowKind::Word(Segment::TextSeg),
+    RowKind::Word(Segment::DataSeg),
     RowKind::Bss,
     RowKind::Name,
     RowKind::Multiple,
 ];
 
-/// The cells of a merged segment with words.
-pub(crate) fn cells_of(session: &Session, segment: Segment) -> &[Cell]
-    ensures { 2 * length result.now ≤ 65534 }
-{
-    match segment {
-        Segment::DataSeg => session.data_cells(),
-        _ => session.text_cells(),
-    }
-}
-
-/// Appends a place of a segment of this size, after the name of the segment.
-fn put_place(text: &mut Text, segment: &str, size: usize, meant: u16) {
-    if meant > 32767 && usize::from(meant) > size {
-        text.say(format_args!("{segment} - {:o}", 65536 - u32::from(meant)));
+/// Appends a place of a segment, after the name of the segment.
+fn put_place(text: &mut Text, session: &Session, segment: Segment, meant: u16) {
+    let name = segment_name(segment);
+    if meant > 32767 && usize::from(meant) > size_of(session, segment) {
+        text.say(format_args!("{name} - {:o}", 65536 - u32::from(meant)));
     } else {
-        text.say(format_args!("{segment} {meant:06o}"));
+        text.say(format_args!("{name} {meant:06o}"));
     }
 }
 
@@ -56,12 +46,11 @@ fn put_cell(text: &mut Text, session: &Session, offset: u16, cell: Cell) {
     match Referent::of(session, cell.target) {
         Referent::Number if cell.pc => text.say(format_args!("a number {meant:06o}")),
         Referent::Number => text.put("a number"),
-        Referent::Text => put_place(text, "text", size_of(session, Merged::Text), meant),
-        Referent::Data => put_place(text, "data", size_of(session, Merged::Data), meant),
-        Referent::Bss => put_place(text, "bss", size_of(session, Merged::Bss), meant),
+        Referent::Text => put_place(text, session, Segment::TextSeg, meant),
+        Referent::Data => put_place(text, session, Segment::DataSeg, meant),
+        Referent::Bss => put_place(text, session, Segment::BssSeg, meant),
         Referent::Name(name) => {
-            text.put("waits for ");
-            say_name(text, &name);
+            text.say(format_args!("waits for {}", Printable(name.as_bytes())));
             if meant > 32767 {
                 text.say(format_args!(" - {:o}", 65536 - u32::from(meant)));
             } else if meant > 0 {
@@ -80,12 +69,7 @@ fn put_word(
     instruction: &[u8],
 ) {
     if let Some(cell) = cells_of(session, segment).get(index) {
-        let offset = offset_of(index);
-        let name = if segment == Segment::DataSeg {
-            "data"
-        } else {
-            "text"
-        };
+        let (name, offset) = (segment_name(segment), offset_of(index));
         text.say(format_args!("  {name} {offset:06o}  "));
         put_cell(text, session, offset, *cell);
         if !instruction.is_empty() {
@@ -98,11 +82,7 @@ fn put_word(
 
 /// Appends the row of a name.
 fn put_name(text: &mut Text, name: &Name, state: State) {
-    text.put("  name ");
-    say_name(text, name);
-    text.put(": ");
-    say_state(text, state);
-    text.put("\n");
+    text.say(format_args!("  name {}: {}\n", Printable(name.as_bytes()), Known(state)));
 }
 
 /// Appends what the last addition overwrote, a line each.
@@ -111,20 +91,15 @@ pub(crate) fn put_marks(text: &mut Text, session: &Session) {
         text.put("  mark ");
         match *mark {
             Mark::CellWas(place, cell) => {
-                let (segment, index) = match place {
-                    Place::InText(index) => ("text", index),
-                    Place::InData(index) => ("data", index),
-                };
-                let offset = index.wrapping_mul(2);
-                text.say(format_args!("{segment} {offset:06o} was "));
+                let WordPlace { segment, offset } = WordPlace::of(place);
+                text.say(format_args!("{} {offset:06o} was ", segment_name(segment)));
                 put_cell(text, session, offset, cell);
             }
             Mark::StateWas(index, state) => {
                 if let Some((name, _)) = session.external(index) {
-                    say_name(text, &name);
+                    text.say(Printable(name.as_bytes()));
                 }
-                text.put(" was ");
-                say_state(text, state);
+                text.say(format_args!(" was {}", Known(state)));
             }
         }
         text.put("\n");
@@ -191,8 +166,7 @@ impl Stage {
     pub(crate) fn count(&self, kind: RowKind) -> usize {
         let session = &self.session;
         match kind {
-            RowKind::Text => session.text_cells().len(),
-            RowKind::Data => session.data_cells().len(),
+            RowKind::Word(segment) => cells_of(session, segment).len(),
             RowKind::Bss => usize::from(session.bss_total() > 0),
             RowKind::Name => usize::from(session.external_count()),
             RowKind::Multiple => session.multiples().len(),
@@ -200,10 +174,10 @@ impl Stage {
     }
 
     /// The instruction that begins at a word of the merged text; empty if none does.
-    fn instruction(&self, index: usize) -> &[u8] {
+    fn instruction(&self, segment: Segment, index: usize) -> &[u8] {
         match self.instructions.get(index) {
-            Some(instruction) => instruction,
-            None => &[],
+            Some(instruction) if segment == Segment::TextSeg => instruction,
+            _ => &[],
         }
     }
 
@@ -211,14 +185,10 @@ impl Stage {
     pub(crate) fn put_row(&self, text: &mut Text, kind: RowKind, index: usize) {
         let session = &self.session;
         match kind {
-            RowKind::Text => put_word(
-                text,
-                session,
-                Segment::TextSeg,
-                index,
-                self.instruction(index),
-            ),
-            RowKind::Data => put_word(text, session, Segment::DataSeg, index, &[]),
+            RowKind::Word(segment) => {
+                let instruction = self.instruction(segment, index);
+                put_word(text, session, segment, index, instruction);
+            }
             RowKind::Bss if index < self.count(kind) => {
                 text.say(format_args!("  bss {} bytes\n", Size(session.bss_total())));
             }
@@ -230,9 +200,8 @@ impl Stage {
             }
             RowKind::Multiple => {
                 if let Some(name) = session.multiples().get(index) {
-                    text.put("  name ");
-                    say_name(text, name);
-                    text.put(": multiply defined\n");
+                    let name = Printable(name.as_bytes());
+                    text.say(format_args!("  name {name}: multiply defined\n"));
                 }
             }
         }
@@ -254,19 +223,10 @@ impl Stage {
     pub(crate) fn has_same_row(&self, other: &Stage, kind: RowKind, index: usize) -> bool {
         let (old, new) = (&self.session, &other.session);
         match kind {
-            RowKind::Text => {
-                is_same_cell(
-                    old.text_cells().get(index),
-                    new.text_cells().get(index),
-                    index,
-                ) && self.instruction(index) == other.instruction(index)
-            }
-            RowKind::Data => {
-                is_same_cell(
-                    old.data_cells().get(index),
-                    new.data_cells().get(index),
-                    index,
-                )
+            RowKind::Word(segment) => {
+                let (was, now) = (cells_of(old, segment), cells_of(new, segment));
+                is_same_cell(was.get(index), now.get(index), index)
+                    && self.instruction(segment, index) == other.instruction(segment, index)
             }
             RowKind::Name => match (external_at(old, index), external_at(new, index)) {
                 (Some((name, state)), Some((other, now))) => name == other && state == now,

@@ -1,5 +1,5 @@
 //! Every list of objects without repetition, depth first.
-use std::alloc::AllocError;
+use std::alloc::{AllocError, Global};
 
 /// The largest number of objects of which every order is walked through.
 pub(crate) const ALL_ORDERS: usize = 5;
@@ -16,11 +16,11 @@ pub(crate) struct Walk {
 }
 
 impl Walk {
-    /// The walk through the lists of so many objects, at the empty one. `room` is an empty list.
-    pub(crate) fn new(count: usize, room: Vec<usize>) -> Walk {
+    /// The walk through the lists of so many objects, at the empty one.
+    pub(crate) fn new(alloc: Global, count: usize) -> Walk {
         Walk {
             count,
-            list: room,
+            list: Vec::new(alloc),
             passed: None,
         }
     }
@@ -33,34 +33,16 @@ impl Walk {
 
     /// Whether an object is after the one that was refused or withdrawn.
     fn is_after(&self, object: usize) -> bool {
-        match self.passed {
-            Some(passed) => passed < object,
-            None => true,
-        }
-    }
-
-    /// The first object that may come.
-    fn first_free(&self) -> Option<usize> {
-        (0..self.count).find(|object| self.is_after(*object) && !self.list.contains(object))
-    }
-
-    /// The object after those of the list, if it may come.
-    fn next_in_order(&self) -> Option<usize> {
-        let next = self.list.len();
-        if self.is_after(next) && next < self.count {
-            Some(next)
-        } else {
-            None
-        }
+        self.passed.is_none_or(|passed| passed < object)
     }
 
     /// The object that comes next; `None` where all that may come have been there.
     pub(crate) fn next(&self) -> Option<usize> {
+        let next = self.list.len();
         if self.count > ALL_ORDERS {
-            self.next_in_order()
-        } else {
-            self.first_free()
+            return (self.is_after(next) && next < self.count).then_some(next);
         }
+        (0..self.count).find(|object| self.is_after(*object) && !self.list.contains(object))
     }
 
     /// The object is added. An error: out of memory; then nothing changes.
@@ -77,12 +59,7 @@ impl Walk {
 
     /// The last object is withdrawn, or `false` where there is none.
     pub(crate) fn withdraw(&mut self) -> bool {
-        match self.list.pop() {
-            Some(object) => {
-                self.pass(object);
-                true
-            }
-            None => false,
-        }
+        self.passed = self.list.pop();
+        self.passed.is_some()
     }
 }
