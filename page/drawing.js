@@ -62,8 +62,8 @@ function chosenName(state) {
 // all words that refer to something, with the place that each refers to
 function allReferences(state) {
     const layout = isLinked(state) ? view.layout : -1;
-    return state.list.flatMap((number, place) => PARTS.flatMap((part, which) => [...DATA.objects[number].references[part]].map(([index, reference]) => {
-        const id = wordKey(part, state.fronts[place][which] + 2 * index);
+    return state.list.flatMap((number, place) => PARTS.flatMap((part) => [...DATA.objects[number].references[part]].map(([index, reference]) => {
+        const id = keyAt(state, place, part, index);
         const to = placeOf(state, state.referenceStarts[place] + reference.number, layout);
         return { place, part, index, id, to, name: DATA.objects[number].groups[reference.group].name };
     })));

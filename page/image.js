@@ -88,9 +88,8 @@ function ownerOf(object, part) {
 
 function objectRows(context, place, part) {
     const object = DATA.objects[context.full.list[place]];
-    const front = context.full.fronts[place][PARTS.indexOf(part)];
     if (!context.open.has(place)) return [ownerOf(object.number, part), foldRow(context, place, part)];
-    return [ownerOf(object.number, part), ...object[part].map((_, index) => plainRow(context, wordKey(part, front + 2 * index)))];
+    return [ownerOf(object.number, part), ...object[part].map((_, index) => plainRow(context, keyAt(context.full, place, part, index)))];
 }
 
 // ---- places that are no words
@@ -147,7 +146,7 @@ function partRows(context, part) {
 
 function roomGroup(context, name, kind, bounds) {
     const rows = [...edgeRows(context, kind, true), ...roomRows(context, kind), ...edgeRows(context, kind, false)];
-    return groupElement(name, name === "bss" ? context.full.sizes[2] : bounds[1] - bounds[0], context.bases ? bounds : null, rows);
+    return groupElement(name, name === "bss" ? sizeOf(context.state, name) : bounds[1] - bounds[0], context.bases ? bounds : null, rows);
 }
 
 function imageContext(state, changed) {

@@ -34,8 +34,8 @@ function broughtParts({ full }, isAll) {
     const place = full.list.length - 1;
     if (place < 0) return [];
     const object = DATA.objects[full.list[place]];
-    const keysOf = (part, indices) => indices.map((index) => wordKey(part, full.fronts[place][PARTS.indexOf(part)] + 2 * index));
-    const all = PARTS.flatMap((part) => keysOf(part, object[part].map((_, index) => index)));
+    const keysOf = (part, indices) => indices.map((index) => keyAt(full, place, part, index));
+    const all = PARTS.flatMap((part) => keysOf(part, [...object[part].keys()]));
     if (isAll) return [{ title: `${label(object.number)}, all words`, groups: [{ ...newGroup("all", "", all), isPlain: true }] }];
     const names = PARTS.flatMap((part) => keysOf(part, [...new Set(object.labels[part].filter((one) => one.isExternal).map(({ index }) => index))]));
     const waits = allReferences(full).filter((one) => one.place === place && !one.to && one.name).map(({ id }) => id);
@@ -72,7 +72,7 @@ function unitKey(full, { place, part, index }, by) {
         at += 1;
         while (at < units.length && units[at] !== at) at += 1;
     }
-    return at >= piece.end || (by !== 0 && at === units[index]) ? "" : wordKey(part, full.fronts[place][PARTS.indexOf(part)] + 2 * at);
+    return at >= piece.end || (by !== 0 && at === units[index]) ? "" : keyAt(full, place, part, at);
 }
 
 // the words that refer to what is chosen, below them this, and below it what it refers to; then those that mean a place before or after it
@@ -168,9 +168,8 @@ function saidOf(object, word) {
 // what a word was, what was added to it, and what it is
 function resultOf(state, word, change) {
     if (isLinked(state)) {
-        const { plus, minus, final } = sumOf(state, word, view.layout);
-        const isSum = word.own.kind !== 0 || word.own.pc;
-        return [...(isSum ? [["span", "by", `${shown(word.own.value)} + ${shown(plus)}${minus ? ` \u2212 ${shown(minus)}` : ""} = `]] : []), ["span", "value", shown(final)]];
+        const sum = sumOf(state, word, view.layout);
+        return [...(word.own.kind !== 0 || word.own.pc ? [["span", "by", sumText(word, sum)]] : []), ["span", "value", shown(sum.final)]];
     }
     const mark = change === "bound" || change === "put back" ? marksOf(stateShown()).get(wordKey(word.part, word.offset)) : null;
     const value = ["span", "value", shown(word.value)];
@@ -254,7 +253,7 @@ function openFold(key) {
         opened.add(Number(name));
         const place = view.list.indexOf(Number(name));
         const part = PARTS.find((one) => DATA.objects[Number(name)][one].length > 0);
-        if (place >= 0 && part) active.image = wordKey(part, stateNow().fronts[place][PARTS.indexOf(part)]);
+        if (place >= 0 && part) active.image = keyAt(stateNow(), place, part, 0);
     }
     showChosen(true, () => (what === "more" ? null : byId(`text-of-${name}`) ?? byId(`data-of-${name}`)));
 }

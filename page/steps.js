@@ -33,7 +33,7 @@ function viewOf(hash) {
 // ---- showing
 function stepText() {
     const { list, gone } = view;
-    const changed = [...changesOf(view).entries()].filter(([key, how]) => /^(text|data)-/.test(key) && how !== "new").length;
+    const changed = changedWords(changesOf(view)).length;
     const words = changed > 0 ? `: ${counted(changed, "word")} ${gone >= 0 ? "put back" : "bound"}` : "";
     if (gone >= 0) return `Withdrew ${label(gone)}${words}`;
     return list.length > 0 ? `Added ${label(list[list.length - 1])}${words}` : "No objects yet";
@@ -77,11 +77,9 @@ function wordMarks() {
 
 // what the last step brought or cut off
 function broughtText() {
-    const list = view.gone >= 0 ? [...view.list, view.gone] : view.list;
-    if (list.length === 0) return "";
-    const name = label(list[list.length - 1]);
-    if (view.gone >= 0) return `${cutText(list) || "Nothing"} of ${name} cut off.`;
-    return `${name} brought ${cutText(list) || "nothing"}.`;
+    const { list } = stateShown();
+    const text = list.length > 0 ? cutText(list) : "";
+    return view.gone >= 0 ? `${text || "Nothing"} of ${label(view.gone)} cut off.` : list.length > 0 ? `${label(list[list.length - 1])} brought ${text || "nothing"}.` : "";
 }
 
 // the sentence above the image: why the chosen word changed, or the first of those that did, and what came or went

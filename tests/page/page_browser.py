@@ -46,6 +46,9 @@ class Browser:
         self.url = "file://" + path
         self.open("")
 
+    def back(self):
+        self.run("history.back()")
+
     def wait(self, script, *words):
         """Waits until a script gives true."""
         end = time.monotonic() + PATIENCE
@@ -60,7 +63,7 @@ class Chromium(Browser):
     # it tells how much of the processor the page has taken
     counts_processor = True
 
-    def __init__(self, path="", width=1366, height=768, text=16):
+    def __init__(self, text=16):
         """`text` is the size of text that the browser is set to, in pixels."""
         options = webdriver.ChromeOptions()
         options.add_experimental_option("prefs", {"webkit": {"webprefs": {"default_font_size": text}}})
@@ -70,9 +73,7 @@ class Chromium(Browser):
         self.driver = self.begin(options)
         self.driver.set_script_timeout(PATIENCE)
         self.driver.execute_cdp_cmd("Performance.enable", {"timeDomain": "threadTicks"})
-        self.size(width, height)
-        if path:
-            self.load(path)
+        self.size(1366, 768)
 
     def begin(self, options):
         """Starts the browser. The driver gives up after a minute, which a busy machine can need for other work: then once more."""
@@ -115,23 +116,20 @@ class Chromium(Browser):
         for key in keys:
             ActionChains(self.driver, duration=0).send_keys(key).perform()
 
+    def press(self, wanted):
+        """Goes by the tabulator to the button with this id or text, and presses it by Enter."""
+        for _ in range(60):
+            self.type(Keys.TAB)
+            if wanted in self.run("return [document.activeElement.id, document.activeElement.textContent]"):
+                return self.type(Keys.ENTER)
+        raise TimeoutError(f"the tabulator does not come to {wanted}")
+
     def click(self, name):
         self.driver.find_element("id", name).click()
 
     def pick(self, name, option):
         """Chooses an option of a list by its text."""
         Select(self.driver.find_element("id", name)).select_by_visible_text(option)
-
-    def press_at(self, x, y):
-        """Presses the mouse at a spot of the window."""
-        for kind in ("mousePressed", "mouseReleased"):
-            self.driver.execute_cdp_cmd("Input.dispatchMouseEvent", {"type": kind, "x": x, "y": y, "button": "left", "clickCount": 1})
-
-    def back(self):
-        self.driver.back()
-
-    def forward(self):
-        self.driver.forward()
 
     def picture(self, path):
         self.driver.save_screenshot(path)
@@ -141,21 +139,24 @@ class Chromium(Browser):
         printed = self.driver.execute_cdp_cmd("Page.printToPDF", {"preferCSSPageSize": True, "printBackground": True})
         return base64.b64decode(printed["data"])
 
+    def tree(self):
+        """The accessibility tree: the nodes by their numbers, and of each its role and its name."""
+        nodes = {node["nodeId"]: node for node in self.driver.execute_cdp_cmd("Accessibility.getFullAXTree", {})["nodes"]}
+        return nodes, {number: (node.get("role", {}).get("value", ""), node.get("name", {}).get("value", "")) for number, node in nodes.items()}
+
     def roles(self):
-        """The accessibility tree, as pairs of a role and a name."""
-        nodes = self.driver.execute_cdp_cmd("Accessibility.getFullAXTree", {})["nodes"]
-        return [(node.get("role", {}).get("value", ""), node.get("name", {}).get("value", "")) for node in nodes if not node["ignored"]]
+        """What is not ignored of the accessibility tree, as pairs of a role and a name."""
+        nodes, roles = self.tree()
+        return [roles[number] for number, node in nodes.items() if not node["ignored"]]
 
     def live(self):
         """What the accessibility tree has in the place that is announced."""
-        nodes = {node["nodeId"]: node for node in self.driver.execute_cdp_cmd("Accessibility.getFullAXTree", {})["nodes"]}
-        status = next(node for node in nodes.values() if node.get("role", {}).get("value") == "status")
-        texts, waiting = [], [status]
+        nodes, roles = self.tree()
+        texts, waiting = [], [number for number, (role, _) in roles.items() if role == "status"]
         while waiting:
-            node = waiting.pop()
-            waiting += [nodes[child] for child in reversed(node.get("childIds", [])) if child in nodes]
-            if node.get("role", {}).get("value") == "StaticText":
-                texts.append(node["name"]["value"])
+            number = waiting.pop()
+            waiting += [child for child in reversed(nodes[number].get("childIds", [])) if child in nodes]
+            texts += [roles[number][1]] if roles[number][0] == "StaticText" else []
         return " ".join(" ".join(texts).split())
 
     def busy(self):
@@ -181,7 +182,7 @@ class Firefox(Browser):
     name = "Firefox"
     counts_processor = False
 
-    def __init__(self, path="", zoom=1):
+    def __init__(self, zoom=1):
         self.home = tempfile.mkdtemp()
         with socket.socket() as free:
             free.bind(("127.0.0.1", 0))
@@ -195,8 +196,6 @@ class Firefox(Browser):
         self.socket, self.rest, self.number = self.reach(port), b"", 0
         self.receive()
         self.send("WebDriver:NewSession", {"timeouts": {"script": 1000 * PATIENCE}})
-        if path:
-            self.load(path)
 
     def reach(self, port):
         end = time.monotonic() + PATIENCE
@@ -246,12 +245,6 @@ class Firefox(Browser):
         acts = [{"type": kind, "value": key} for key in keys for kind in ("keyDown", "keyUp")]
         self.send("WebDriver:PerformActions", {"actions": [{"type": "key", "id": "keys", "actions": acts}]})
 
-    def press_at(self, x, y):
-        """Presses the mouse at a spot of the page."""
-        move = {"type": "pointerMove", "x": round(x), "y": round(y), "duration": 0, "origin": "viewport"}
-        acts = [move, {"type": "pointerDown", "button": 0}, {"type": "pointerUp", "button": 0}]
-        self.send("WebDriver:PerformActions", {"actions": [{"type": "pointer", "id": "mouse", "parameters": {"pointerType": "mouse"}, "actions": acts}]})
-
     def busy(self):
         """The clock, in milliseconds."""
         return 1000 * time.monotonic()
@@ -264,10 +257,6 @@ class Firefox(Browser):
 
     def settle(self):
         self.send("WebDriver:ExecuteAsyncScript", {"script": SETTLED, "args": []})
-
-    def picture(self, path):
-        with open(path, "wb") as out:
-            out.write(base64.b64decode(self.send("WebDriver:TakeScreenshot", {"full": False})["value"]))
 
     def quit(self):
         self.process.terminate()

@@ -2,7 +2,7 @@
 `v7-lesson` prints them, and its links, as `v7 ld` writes and `v7 nm` prints them. Then come the places that words mean, what it has of
 each object, and the answers of its lessons. Wrong files of questions have to be refused.
 
-usage: python3 -m tests.page.page_data [QUESTIONS FILE...]     five FILEs
+usage: python3 -m tests.page.page_data 
 tier: check, 60 seconds; programs: v7 v7-lesson v7-explain; for: crates/v7_lesson page examples/lessons.txt tests/page
 """
 import os
@@ -12,104 +12,14 @@ import sys
 import tempfile
 from itertools import permutations
 
-from tests.lib.compare import Differs, notices
+import asm  # of examples
+from tests.lib.compare import notices
 from tests.lib.files import TOP, read, read_bytes, write
-from tests.lib.objects import pack, unpack
-from tests.lib.programs import asked, program, ran
+from tests.lib.objects import unpack
+from tests.lib.programs import ran
 from tests.page.page_lessons import bad_questions, lesson_answers, questions_of_all_kinds, remarks, states_in
-from tests.page.page_objects import FILES as COMPILED, PLACE, asm, object_like_c
-
-LAYOUTS = {"plain": [], "-n": ["-n"], "-i": ["-i"], "-r": ["-r"]}
-WORD = 0o200000
-PARTS = ("text", "data")
-SEGMENTS = ("a number", "text", "data", "bss")
-
-# the questions and the objects of the class example
-GIVEN = [f"{TOP}/examples/{name}" for name in ("lessons.txt", "main.o", "twice.o", "k.o", "l.o", "double.o")]
-faults = []
-compared = 0
-
-
-def same(what, shown, wanted):
-    global compared
-    compared += 1
-    if shown != wanted:
-        faults.append(f"{what}\n  the page: {shown}\n  wanted:   {wanted}")
-
-
-def planted():
-    """Compares what differs."""
-    same("planted", "", "planted")
-    if faults:
-        raise Differs(faults.pop())
-
-
-def words_of(line):
-    return " ".join(line.split())
-
-
-class Tools:
-    """The programs that the page is compared with."""
-
-    def __init__(self, room):
-        self.lesson, self.v7, self.explain = map(program, ("v7-lesson", "v7", "v7-explain"))
-        self.page, self.room = f"{TOP}/page", room
-
-    def page_of(self, files, name="lesson.html", questions=""):
-        return write(f"{self.room}/{name}", asked(self.lesson, "-p", self.page, *(["-q", questions] if questions else []), *files))
-
-    def asked_of(self, questions, *files):
-        """The status and both outputs for a page with a file of questions."""
-        return ran(self.lesson, "-p", self.page, "-q", questions, *files).texts("utf-8")
-
-    def steps(self, files):
-        """The lines of all steps, each without its first."""
-        steps = re.split(r"^(?:add|withdraw) .*\n", asked(self.lesson, *files), flags=re.M)[1:]
-        return [[words_of(line) for line in step.splitlines()] for step in steps]
-
-    def step(self, number, files):
-        """The lines of a step, after the first."""
-        return self.steps(files)[number - 1] if files else ["nothing"]
-
-    def listing(self, file):
-        """A file as v7-explain lists it."""
-        return ran(self.explain, file).texts("utf-8")[1]
-
-    def map_of(self, files):
-        return ran(self.explain, "-m", *files).texts("utf-8")[1]
-
-    def calls(self, files):
-        """The places of the calls that the map of a link lists: it has those of their operands, one word after them."""
-        return [int(offset, 8) - 2 for offset in re.findall(r"text ([0-7]{6}) .*: jsr pc,", self.map_of(files))]
-
-    def uses(self, files):
-        """For each name how many words of objects that do not define it refer to it, by the map of a link."""
-        uses, name, definer = {}, "", ""
-        for line in self.map_of(files).partition("\nExternals\n")[2].splitlines():
-            found = re.match(r"[0-7 ]{6} [A-Za-z] (\S+)$", line)
-            name, definer = (found[1], "") if found else (name, definer)
-            defined = re.match(r"    defined in  (\S+)$", line)
-            definer = defined[1] if defined else definer
-            used = re.match(r"    (?:used in    )? +(\S+) \((\d+)\)$", line) if "common in" not in line else None
-            uses[name] = uses.get(name, 0) + (int(used[2]) if used and used[1] != definer else 0)
-        return uses
-
-    def nm(self, file):
-        return asked(self.v7, "nm", "-p", file)
-
-    def bytes_of_link(self, options, files):
-        """The file that a link writes."""
-        asked(self.v7, "ld", *options, "-o", f"{self.room}/linked", *files)
-        return read_bytes(f"{self.room}/linked")
-
-    def link(self, options, files):
-        """The words and the header of a link, its table as `nm -p` has it, its report; or why it is refused."""
-        out = os.path.join(self.room, "linked")
-        status, report, error = ran(self.v7, "ld", *options, "-o", out, *files).texts("utf-8")
-        if status == 2:
-            return {"refused": error.strip().split(": ", 1)[1]}
-        made = unpack(read_bytes(out))
-        return {"header": made.header, "segments": {"text": made.text, "data": made.data}, "table": self.nm(out), "report": report or "nothing to report\n"}
+from tests.page.page_tools import (CLASS, FIVE, IN_C, LAYOUTS, PARTS, SEGMENTS, SIXTEEN, TABLES, WORD, Tools, addend_said, known_as, lessons_of, object_of, planted, report,
+                                   same, size_said, words_of)
 
 
 # ---- what a page holds
@@ -117,15 +27,6 @@ def about_link(values, count, layout):
     """The values about a link, so many for each: those after the last that differs from a plain link are left out."""
     start = count * layout if count * layout < len(values) else 0
     return values[start:start + count]
-
-
-def size_said(size):
-    return f"0{size:o} ({size}.) bytes"
-
-
-def addend_said(meant):
-    """A place beside a name."""
-    return "" if meant == 0 else f" - {WORD - meant:o}" if meant >= WORD // 2 else f" + {meant:o}"
 
 
 class State:
@@ -206,10 +107,6 @@ class State:
         return "".join(f"{line}\n" for line in lines)
 
 
-def known_as(kind, number):
-    return kind if kind == "undefined" else f"a common of {size_said(number)}" if kind == "common" else f"{'the number' if kind == 'number' else kind} {number:06o}"
-
-
 def mark_line(mark):
     if mark[0] == "name":
         return f"mark {mark[1]} was {known_as(*mark[2:4])}"
@@ -248,9 +145,9 @@ def place_in_image(line, sizes):
     return (f"{segment}-end", 0) if meant == sizes[segment] else (f"{segment}-beyond", meant)
 
 
-def place_in_link(linked, base, own, meant):
+def place_in_link(linked, own, meant):
     """The place at an address of a link, of which the word names the segment `own`, or none: its end goes before what follows it."""
-    magic, text, data, bss = linked["header"][:4]
+    base, (magic, text, data, bss) = linked["base"], linked["header"][:4]
     bounds = {"text": (0, text), "data": (base, base + data), "common": (base + data, base + data + linked["commons"]),
               "bss": (base + data + linked["commons"], base + data + bss)}
     start, end = {"": (0, 0), **bounds, "bss": (base + data, base + data + bss)}[own]
@@ -268,8 +165,7 @@ def compare_link(state, layout, name, linked, what):
     record = state.record["links"][layout]
     if "refused" in linked:
         return same(f"{what}: refused", record.get("refused"), linked["refused"])
-    header = linked["header"]
-    base = {0o407: header[1], 0o410: (header[1] + 8191) // 8192 * 8192, 0o411: 0}[header[0]]
+    header, base = linked["header"], linked["base"]
     same(f"{what}: table", state.table(layout), linked["table"])
     same(f"{what}: report", (record["report"] or "nothing to report").rstrip("\n") + "\n", linked["report"])
     bases = record["bases"]
@@ -287,7 +183,7 @@ def compare_link(state, layout, name, linked, what):
         referent, pc = word["referent"], word["pc"]
         own = {"T": "text", "D": "data", "B": "bss"}.get(letters.get(referent)) if isinstance(referent, str) else SEGMENTS[referent] if referent else "" if pc else None
         meant = (final + offset + (base if part == "data" else 0) + 2) % WORD if pc else final
-        wanted = ("nowhere", 0) if own is None else place_in_link(linked, base, own, meant)
+        wanted = ("nowhere", 0) if own is None else place_in_link(linked, own, meant)
         same(f"{what}: {part} {offset:o} means", place_said(word["places"], layout), wanted)
     return None
 
@@ -368,16 +264,6 @@ def branches_in(file, instructions, references):
 
 
 # ---- files that are refused, and counts
-def object_of(words, symbols, data=()):
-    """An object of text words with their relocation words, of symbols, and of data without relocation."""
-    return pack(words, [(word, 0) for word in data], 0, [(name.encode(), kind, value) for name, kind, value in symbols])
-
-
-def made_objects(tools, count, size, seed=0):
-    """Objects of so many words that are made from a seed."""
-    return [write(f"{tools.room}/made{size}-{number}.o", object_like_c(number, size, count, seed)) for number in range(count)]
-
-
 def refusals(tools, files):
     """Bad files, and a page that is too large: the fault's own text, no page, status 2."""
     cut = write(f"{tools.room}/cut.o", read_bytes(files[0])[:-5])
@@ -412,13 +298,12 @@ def counts(tools, files):
     """How many lists a page has."""
     for count, lists in ((1, 1), (2, 4), (4, 64), (5, 325), (6, 6)):
         given = [files[number % len(files)] for number in range(count)]
-        data, size = states_in(tools.page_of(given, "counted.html"))
+        data, _ = states_in(tools.page_of(given, "counted.html"))
         reached = [tuple(state["list"]) for state in data["states"] if state["list"]]
         orders = [order for n in range(1, count + 1) for order in permutations(range(count), n)]
         if count > 5:
             orders = [tuple(range(n)) for n in range(1, count + 1)]
         same(f"lists of {count} objects", (len(reached), sorted(reached)), (lists, sorted(orders)))
-        same(f"bytes of {count} objects", size <= 5_000_000, True)
 
 
 def scripts(folder):
@@ -438,32 +323,12 @@ def scripts(folder):
 
 
 # ---- all of it
-def program_files(files):
-    """Five objects of one program."""
-    return [os.path.join(os.path.dirname(files[0]), name) for name in ("start.o", "print.o", "main.o", "twice.o", "count.o")]
-
-
-def program_in_c(files):
-    """The objects of a program in C, with one that has a fault."""
-    return [os.path.join(os.path.dirname(files[0]), "total", name) for name in ("total.o", "say.o", "console.o", "low.o", "limit.o")]
-
-
-def tables_and_bss(files):
-    """The objects of the lessons about pointers, bss and the output of -r."""
-    return [os.path.join(os.path.dirname(files[0]), "menu", name) for name in ("menu.o", "stop.o", "room.o", "more.o", "pair.o")]
-
-
 def same_objects(folder):
     """The objects of a folder are what the assembler makes of the compiler's files beside them."""
     names = [name[:-2] for name in sorted(os.listdir(folder)) if name.endswith(".s")]
     for name in names:
         same(f"{folder}/{name}.o", read_bytes(f"{folder}/{name}.o") == asm.assembled(read(f"{folder}/{name}.s")), True)
     same(f"objects of {folder}", len(names) > 0, True)
-
-
-def sixteen_objects():
-    """The paths of the sixteen objects of tests/page/data."""
-    return [os.path.join(PLACE, f"{name}.o") for name in COMPILED]
 
 
 def long_names(tools):
@@ -474,47 +339,34 @@ def long_names(tools):
         same(f"asm.py with {names}", (status, error), wanted)
 
 
-def check_data(tools, questions, files):
+def check_data(tools):
     """All that needs no browser."""
     long_names(tools)
     scripts(tools.page)
-    refusals(tools, files)
-    largest_page(tools, files)
-    full(tools, files)
-    bad_questions(tools, files, same)
-    questions_of_all_kinds(tools, files, same)
-    counts(tools, files)
-    given, many = program_in_c(files), sixteen_objects()
-    for one in (given, tables_and_bss(files)):
-        same_objects(os.path.dirname(one[0]))
-    again = tools.bytes_of_link(["-r"], tables_and_bss(files)[:2])
-    same("pair.o is the output of ld -r", read_bytes(tables_and_bss(files)[4]) == again, True)
-    of_c, of_tables = (os.path.join(os.path.dirname(one[0]), "lessons.txt") for one in (given, tables_and_bss(files)))
-    for what, held, of, least in (("the class example", files, questions, (10, 12)), ("a program in C", given, of_c, (2, 5)),
-                                  ("tables and bss", tables_and_bss(files), of_tables, (3, 10)),
-                                  ("a program", program_files(files), "", ()), ("sixteen objects", many, "", ())):
-        path = tools.page_of(held, "data.html", of)
+    for check in (refusals, largest_page, full, bad_questions, questions_of_all_kinds, counts):
+        check(tools, CLASS)
+    for files in (IN_C, TABLES):
+        same_objects(os.path.dirname(files[0]))
+    same("pair.o is the output of ld -r", read_bytes(TABLES[4]), tools.bytes_of_link(["-r"], TABLES[:2]))
+    for what, files, lessons, answers in (("the class example", CLASS, 10, 12), ("a program in C", IN_C, 2, 5), ("tables and bss", TABLES, 3, 10), ("a program", FIVE, 0, 0),
+                                          ("sixteen objects", SIXTEEN, 0, 0)):
+        path = tools.page_of(files, "data.html", lessons_of(files) if lessons else "")
         data, size = states_in(path)
-        compare_objects(tools, held, data)
-        compare_states(tools, held, data, what)
-        print(f"{what}: {len(data['states'])} states, {compared} things so far", flush=True)
-        if of:
-            lesson_answers(tools, path, held, LAYOUTS, same, *least)
-        if what == "a program in C":
-            remarks(tools, path, held, same)
-        if what == "sixteen objects":
-            same("bytes of sixteen objects", size <= 500_000, True)
+        compare_objects(tools, files, data)
+        compare_states(tools, files, data, what)
+        if lessons:
+            lesson_answers(tools, path, files, lessons, answers)
+        if files == IN_C:
+            remarks(tools, path, files)
+        same(f"bytes of {what}", size <= 500_000 or files != SIXTEEN, True)
+        print(f"{what}: {len(data['states'])} states", flush=True)
 
 
 def main():
-    questions, *files = sys.argv[1:] or GIVEN
     notices(planted)
     with tempfile.TemporaryDirectory() as room:
-        check_data(Tools(room), questions, files)
-    print(f"{compared} things of pages were compared, without a browser")
-    for fault in faults[:20]:
-        print(fault)
-    return 1 if faults else 0
+        check_data(Tools(room))
+    return report("without a browser")
 
 
 if __name__ == "__main__":

@@ -1,4 +1,11 @@
-"""Looks at where things are on the page of the lesson: arrows, text in its frames, badges."""
+"""Looks at where things are on the page of the lesson: arrows, text in its frames, badges. The pictures of docs/pictures are made here too."""
+import base64
+import re
+import tempfile
+
+from tests.lib.files import read_bytes
+from tests.page.page_tools import faults, same
+
 # faults of the layout that is shown, as texts, and how many things were looked at
 LOOK = r"""
 const faults = [], counts = { arrows: 0, lines: 0, texts: 0, badges: 0, crossings: 0 };
@@ -121,14 +128,14 @@ if (main.scrollWidth > main.clientWidth + 1) fault("the image is wider than its 
 return { faults, counts };
 """
 
-def look(page, what, faults, counts):
+def look(page, what, counts):
     """Looks at what is shown; adds to the faults, and to the counts."""
-    add(page.run(LOOK), what, faults, counts)
+    add(page.run(LOOK), what, counts)
 
 
 # widths, heights and scales of a window in Chromium; a zoom of 200 % at 1280 is a window of 640 pixels, each of two dots
 SIZES = [(390, 844, 1), (820, 1180, 1), (1280, 720, 1), (1920, 1080, 1), (640, 360, 2)]
-WIDTHS = [390, 820, 1280, 1920]
+FIREFOX_SIZES = [(width, 800, 1) for width in (390, 820, 1280, 1920)]
 
 # of each page the states that are looked at
 STATES = {
@@ -136,16 +143,13 @@ STATES = {
                          "objects=1,2&addresses=-r&numbers=decimal", "tour=1", "objects=1,2&tour=4", "objects=1&lesson=1&done=1",
                          "objects=1,2,5&addresses=plain&lesson=5&done=4"],
     "five objects": ["objects=1", "objects=1,2", "objects=1,2,3,4,5", "objects=1,2,3,4,5&addresses=-i", "objects=1,2,3,4&withdrawn=5"],
-    "five of 500 words": ["objects=1", "objects=1,2,3,4,5", "objects=5,4,3,2,1&addresses=plain", "objects=1,2,3,4&withdrawn=5"],
+    "five large objects": ["objects=1", "objects=1,2,3,4,5", "objects=5,4,3,2,1&addresses=plain", "objects=1,2,3,4&withdrawn=5"],
     "sixteen objects": [f"objects={','.join(map(str, range(1, count + 1)))}" for count in (1, 2, 4, 7, 16)]
     + ["objects=1,2,3,4,5,6,7,8,9,10&addresses=-r", "objects=1,2,3,4,5,6,7,8,9&withdrawn=10"],
 }
 # names and words that are chosen besides, each in the last state but one of its page
-CHOSEN = {"the default page": ["name _count", "text-6"], "five objects": ["name left", "text-2", "text-46"], "five of 500 words": ["name _errno", "name csv"],
+CHOSEN = {"the default page": ["name _count", "text-6"], "five objects": ["name left", "text-2", "text-46"], "five large objects": ["name csv", "name _say"],
           "sixteen objects": ["name csv", "name _say", "text-0", "name _here"]}
-CHOOSE = "choose(arguments[0], true);"
-GO = "location.hash = arguments[0] || '#'; return true;"
-THERE = "return location.hash.replace('#', '') === arguments[0] && hashOf(view) === arguments[0]"
 
 # gives each word of text an instruction, as long as they come; how many of them are shown
 INSTRUCTIONS = """
@@ -173,41 +177,43 @@ return { faults, counts: { printed: document.querySelectorAll(".word").length } 
 """
 
 
-def add(seen, what, faults, counts):
+def add(seen, what, counts):
     faults.extend(f"{what}: {text}" for text in seen["faults"])
     for name, count in seen["counts"].items():
         counts[name] = counts.get(name, 0) + count
 
 
-def look_at_states(page, name, what, faults, counts):
+def go(page, state):
+    page.run("location.hash = arguments[0] || '#';", state)
+    page.wait("return location.hash.replace('#', '') === arguments[0] && hashOf(view) === arguments[0]", state)
+
+
+def look_at_states(page, name, what, counts):
     for state in STATES[name]:
-        page.run(GO, state)
-        page.wait(THERE, state)
-        look(page, f"{name}, {what}, {state}", faults, counts)
-    page.run(GO, STATES[name][2])
-    page.wait(THERE, STATES[name][2])
+        go(page, state)
+        look(page, f"{name}, {what}, {state}", counts)
+    go(page, STATES[name][2])
     for key in CHOSEN[name]:
-        page.run(CHOOSE, key)
-        look(page, f"{name}, {what}, {key}", faults, counts)
+        page.run("choose(arguments[0], true);", key)
+        look(page, f"{name}, {what}, {key}", counts)
 
 
-def look_on_paper(page, name, faults, counts):
+def look_on_paper(page, pages, counts):
     """As it is printed, upright and across: the window has the width of the paper less its margins."""
-    for width in (703, 1032):
-        page.size(width, 1000)
-        page.media("print")
-        for state in STATES[name]:
-            if "addresses" not in state and "objects" in state:
-                page.run(GO, state)
-                page.wait(THERE, state)
-                look(page, f"{name}, {width} on paper, {state}", faults, counts)
-                add(page.run(PAPER), f"{name} on paper, {state}", faults, counts)
-        page.media("")
-    pages = page.paper().count(b"/Type /Page\n") + page.paper().count(b"/Type /Page ")
-    counts["sheets"] = counts.get("sheets", 0) + pages
+    for name, path in pages.items():
+        page.load(path)
+        for width in (703, 1032):
+            page.size(width, 1000)
+            page.media("print")
+            for state in [one for one in STATES[name] if "addresses" not in one and "objects" in one]:
+                go(page, state)
+                look(page, f"{name}, {width} on paper, {state}", counts)
+                add(page.run(PAPER), f"{name} on paper, {state}", counts)
+            page.media("")
+        counts["sheets"] = counts.get("sheets", 0) + len(re.findall(rb"/Type /Page[\n ]", page.paper()))
 
 
-def look_with_instructions(page, path, faults, counts):
+def look_with_instructions(page, path, counts):
     """The longest instruction beside each word of text, in the image, in a link and in the objects."""
     page.load(path)
     for width, height, scale in SIZES:
@@ -216,26 +222,60 @@ def look_with_instructions(page, path, faults, counts):
             page.open(state)
             counts["instructions"] = counts.get("instructions", 0) + page.run(INSTRUCTIONS)
             page.settle()
-            look(page, f"instructions, {width} wide, {state}", faults, counts)
+            look(page, f"instructions, {width} wide, {state}", counts)
 
 
-def look_everywhere(page, pages, faults, counts):
-    """In all sizes, with the longest instructions, and on paper."""
-    look_with_instructions(page, pages["the default page"], faults, counts)
+def look_everywhere(page, pages, sizes, what, counts):
+    """In these sizes."""
     for name, path in pages.items():
         page.load(path)
-        for width, height, scale in SIZES:
+        for width, height, scale in sizes:
             page.size(width, height, scale)
-            look_at_states(page, name, f"{width} wide", faults, counts)
-        page.open("")
-        look_on_paper(page, name, faults, counts)
-
-
-def look_so_wide(page, pages, widths, what, faults, counts):
-    """In some widths."""
-    for name, path in pages.items():
-        page.load(path)
-        for width in widths:
-            page.size(width, 800)
             page.open("")
-            look_at_states(page, name, f"{width} wide, {what}", faults, counts)
+            look_at_states(page, name, f"{width} wide, {what}", counts)
+
+
+# ---- pictures
+PICTURES = "docs/pictures"
+STATES_SHOWN = {"first": "", "bound": "objects=1,2"}
+# how many of a thousand pixels may differ: other versions of a browser smooth letters in another way
+LIMIT = 15
+
+DIFFERENCE = r"""
+const [one, other, done] = arguments;
+const pixels = async (text) => {
+    const image = await createImageBitmap(await (await fetch(`data:image/png;base64,${text}`)).blob());
+    const canvas = Object.assign(document.createElement("canvas"), { width: image.width, height: image.height });
+    canvas.getContext("2d").drawImage(image, 0, 0);
+    return canvas.getContext("2d").getImageData(0, 0, image.width, image.height);
+};
+(async () => {
+    const [a, b] = [await pixels(one), await pixels(other)];
+    if (a.width !== b.width || a.height !== b.height) return 1000;
+    let count = 0;
+    for (let i = 0; i < a.data.length; i += 4) if ([0, 1, 2].some((part) => Math.abs(a.data[i + part] - b.data[i + part]) > 64)) count += 1;
+    return 1000 * count / (a.width * a.height);
+})().then(done, () => done(1000));
+"""
+
+
+def make_pictures(page, folder):
+    """Pictures of some states, in a folder."""
+    page.size(1366, 768)
+    for name, address in STATES_SHOWN.items():
+        page.open("#" + address)
+        page.settle()
+        page.picture(f"{folder}/{name}.png")
+
+
+def difference(page, one, other):
+    """How many of a thousand pixels differ."""
+    return page.driver.execute_async_script(DIFFERENCE, *(base64.b64encode(read_bytes(path)).decode() for path in (one, other)))
+
+
+def compare_pictures(page):
+    """The pictures are those of the page."""
+    with tempfile.TemporaryDirectory() as folder:
+        make_pictures(page, folder)
+        for name in STATES_SHOWN:
+            same(f"docs/pictures/{name}.png, as the part `pictures` makes it", difference(page, f"{folder}/{name}.png", f"{PICTURES}/{name}.png") <= LIMIT, True)

@@ -7,7 +7,10 @@ from itertools import permutations
 
 from tests.lib.files import read_bytes
 from tests.lib.objects import unpack
-from tests.page.page_data import PARTS, WORD, branch_of, size_said
+from tests.page.page_data import branch_of
+from tests.page.page_stage import SEEN, first
+from tests.page.page_states import by_alphabet, lines_on, read
+from tests.page.page_tools import PARTS, WORD, addend_said, known_as, same, size_said
 
 SEGMENT = {0o2: "text", 0o4: "data", 0o6: "bss"}
 DEFINED = {0o42: "text", 0o43: "data", 0o44: "bss"}
@@ -18,7 +21,7 @@ def counted(number, what):
 
 
 def addend(meant):
-    return "" if meant == 0 else f" \u2212 {WORD - meant:o}" if meant >= WORD // 2 else f" + {meant:o}"
+    return addend_said(meant, "\u2212")
 
 
 class Given:
@@ -37,10 +40,11 @@ class Given:
 
 class Word:
     """A word of the image: its value, the pc bit, what it refers to (a segment, "" for a number, or None while it waits), the name that its
-    object has for it, and the place that is meant."""
+    object has for it, and the place that is meant. Then its object, its segment, index, value and relocation word there."""
 
     def __init__(self, value, pc, kind, name, added, meant):
         self.value, self.pc, self.kind, self.name, self.added, self.meant = value, pc, kind, name, added, meant
+        self.of, self.part, self.index, self.own, self.reloc = None, "", 0, 0, 0
 
 
 class Session:
@@ -59,7 +63,8 @@ class Session:
         for one, front in zip(objects, fronts):
             for part in PARTS:
                 for index, (word, reloc) in enumerate(one.words[part]):
-                    self.words[part, front[part] + 2 * index] = self.word(one, front, part, index, word, reloc)
+                    made = self.words[part, front[part] + 2 * index] = self.word(one, front, part, index, word, reloc)
+                    made.of, made.part, made.index, made.own, made.reloc = one, part, index, word, reloc
 
     def mention(self, one, front, name, kind, value):
         if not kind & 0o40:
@@ -91,22 +96,17 @@ class Session:
 
     def waiting(self):
         """The names for which words wait, one for each word, object by object."""
-        fronts, found = {"text": 0, "data": 0}, []
-        for one in self.objects:
-            for part in PARTS:
-                here = range(fronts[part], fronts[part] + 2 * len(one.words[part]), 2)
-                found += [self.words[part, offset].name for offset in here if self.words[part, offset].kind is None]
-                fronts[part] = here.stop
-        return found
+        waiting = [word for word in self.words.values() if word.kind is None]
+        return [word.name for one in self.objects for part in PARTS for word in waiting if word.of is one and word.part == part]
+
+    def rows(self):
+        """The words by the ids of their rows."""
+        return {f"{part}-{offset}": word for (part, offset), word in self.words.items()}
 
     def place(self, word):
         if word.meant >= WORD // 2 and word.meant > self.sizes.get(word.kind, 0):
             return f"{word.kind} \u2212 {WORD - word.meant:o}"
         return f"{word.kind or 'a number'} {word.meant:06o}" if word.kind or word.pc else "a number"
-
-
-def state_said(kind, number):
-    return kind if kind == "undefined" else f"a common of {size_said(number)}" if kind == "common" else f"{'the number' if kind == 'number' else kind} {number:06o}"
 
 
 class Step:
@@ -150,11 +150,11 @@ class Step:
         """The rows of the names: each with what is known, what is struck out, and its tag; first those that changed, then new ones."""
         old, new, rows = self.before.names, self.after.names, []
         for name in new:
-            state, was, tag = state_said(*new[name]), "", "" if name in old else "new"
+            state, was, tag = known_as(*new[name]), "", "" if name in old else "new"
             if self.is_gone:
-                state, tag = (state, "cut off") if name not in old else (state_said(*old[name]), "")
+                state, tag = (state, "cut off") if name not in old else (known_as(*old[name]), "")
             if name in old and old[name] != new[name]:
-                was, tag = state_said(*(new if self.is_gone else old)[name]), "put back" if self.is_gone else "changed"
+                was, tag = known_as(*(new if self.is_gone else old)[name]), "put back" if self.is_gone else "changed"
             rows.append([name, state, was, tag])
         order = {"changed": 0, "put back": 0, "new": 1, "cut off": 1, "": 2}
         rows.sort(key=lambda row: order[row[3]])
@@ -171,37 +171,33 @@ class Step:
         return found
 
 
-SAID = r"""
+# shows a list of objects, or with the last one withdrawn
+SHOW = """
 const [list, isGone] = arguments;
 isWhole = null;
 show(isGone ? { ...START, list: list.slice(0, -1), gone: list[list.length - 1] } : { ...START, list });
-const text = (row, name) => row.querySelector(name)?.textContent ?? "";
-const note = byId("note").textContent, status = byId("status").textContent;
-const names = [...document.querySelectorAll("#names .name")].map((row) => [text(row, "b"), text(row, ".state"), text(row, ".was"), text(row, ".tag")]);
-isWhole = true;
-for (const object of stateShown().list) opened.add(object);
-showChosen(true);
-const struck = [...document.querySelectorAll("#image .word:is(.bound, .put-back)")].map((row) => [row.id, text(row, ".was")]);
-return [note, status, names, Object.fromEntries(struck)];
+return [byId("note").textContent, byId("status").textContent];
 """
 # what depends on the space for arrows, and what the first step says besides
 BESIDES = re.compile(r" \d+ arrows? more: choose a word to see its own\.| Now add another object, and look at which words change\.")
 
 
-def says(page, path, files, same, most):
-    """The sentence, the status, the names and what is struck out in each state, or so many."""
-    page.load(path)
+def says(tools, page, files, most=1000):
+    """The sentence, the status, the names and what is struck out in each state, or so many, and all lines that `v7-lesson` has."""
     objects, count = [Given(file) for file in files], len(files)
     lists = [order for length in range(1, count + 1) for order in permutations(range(count), length)] if count <= 5 else [range(length) for length in range(1, count + 1)]
     lists = lists[::max(1, len(lists) // most)]
     for order in lists:
         for is_gone in (False, True):
             step, what = Step([objects[number] for number in order], is_gone), f"{[*order]}{', withdrawn' if is_gone else ''}"
-            note, status, names, struck = page.run(SAID, [*order], is_gone)
+            note, status = page.run(SHOW, [*order], is_gone)
+            shown = read(page)
             same(f"{what}: the sentence", BESIDES.sub("", note), step.sentence())
             same(f"{what}: the status", status, step.status())
-            same(f"{what}: the names", names, step.names())
-            same(f"{what}: what is struck out", struck, step.struck())
+            same(f"{what}: the names", [name[:4] for name in shown["names"]], step.names())
+            same(f"{what}: what is struck out", {word["id"]: word["was"] for word in shown["words"] if word["isOld"]}, step.struck())
+            if not is_gone:
+                same(f"{what}: lines", lines_on(shown), by_alphabet(tools.step(len(order), [files[number] for number in order])))
     return 2 * len(lists)
 
 
@@ -223,79 +219,78 @@ return [said, after.includes(said) || after.includes("attr(aria-description)"), 
 """
 
 
-def cards(page, path, files, same):
+def cards(_, page, files):
     """Each line of a card: where the word is in its object, its value, and its relocation word; the chosen row has this too. The symbols have
     the numbers that these words name."""
-    page.load(path)
     shown = page.run(CARDS)
     for file, (rows, symbols) in zip(files, shown):
         one = Given(file)
         same(f"symbols of the card of {one.name}", [(line.split()[0], line.split()[-1]) for line in symbols], [(str(number), name) for number, (name, _, _) in enumerate(one.symbols)])
-        wanted = [(part, index, word, reloc) for part in PARTS for index, (word, reloc) in enumerate(one.words[part])]
-        same(f"lines of the card of {one.name}", len(rows), len(wanted))
-        for (part, index, word, reloc), (offset, value, said) in zip(wanted, rows):
-            same(f"the card of {one.name}, {part} {index}", (offset, value), (f"{one.start(part) + 2 * index:06o}", f"{word:06o}"))
-            same(f"the relocation word of {one.name}, {part} {index}: {said}", said.startswith(reloc_said(reloc)) if reloc else " = " not in said, True)
+        words = Session([one]).words.values()
+        same(f"the card of {one.name}", [row[:2] for row in rows], [[f"{one.start(word.part) + 2 * word.index:06o}", f"{word.own:06o}"] for word in words])
+        for word, (_, _, said) in zip(words, rows):
+            same(f"the relocation word of {one.name}, {word.part} {word.index}: {said}", said.startswith(reloc_said(word.reloc)) if word.reloc else " = " not in said, True)
     page.open("#objects=1,2")
-    words = [(part, reloc) for one in map(Given, files[:2]) for part in PARTS for _, reloc in one.words[part]]
-    places = {part: [reloc for of, reloc in words if of == part] for part in PARTS}
-    for part in PARTS:
-        for index, reloc in enumerate(places[part][:40]):
-            said, is_seen, _ = page.run(CHOSEN, f"{part}-{2 * index}")
-            same(f"the relocation word of the chosen {part} {2 * index:o}", (said, is_seen), (reloc_said(reloc), True))
+    for key, word in [*Session([Given(file) for file in files[:2]]).rows().items()][::2]:
+        said, is_seen, _ = page.run(CHOSEN, key)
+        same(f"the relocation word of the chosen {key}", (said, is_seen), (reloc_said(word.reloc), True))
 
 
-OF = "for (const one of view.list) opened.add(one); isWhole = true; showChosen(true); return [...document.querySelectorAll('#image .word:not(.spot)')].map((row) => [row.id, row.querySelector('.of')?.textContent ?? '']);"
-
-
-def in_link(page, path, files, same):
+def in_link(_, page, files):
     """Each word of a plain link says to what its sum leads: the name with what is added to it, or the segment."""
-    page.load(path)
     page.run("show({ ...START, list: DATA.objects.map(({ number }) => number).slice(0, arguments[0]), layout: 0 })", len(files))
-    words = Session([Given(file) for file in files]).words
-    for key, said in page.run(OF):
-        part, offset = key.split("-")
-        word = words[part, int(offset)]
-        same(f"what {key} of a link refers to", said, f"{word.name}{addend(word.added)}" if word.name else word.kind)
+    words = Session([Given(file) for file in files]).rows()
+    for shown in read(page)["words"]:
+        word = words[shown["id"]]
+        same(f"what {shown['id']} of a link refers to", shown["of"], f"{word.name}{addend(word.added)}" if word.name else word.kind)
 
 
 LEGEND = "return [...document.querySelectorAll('.legend li')].map((line) => [line.querySelector('.swatch')?.className ?? '', line.querySelector('b')?.textContent ?? '']).filter(([swatch]) => swatch);"
 
 
-def legend(page, path, same):
-    page.load(path)
+def counts_said(_, page, __):
+    """The legend, and the tour's count."""
     same("the legend", page.run(LEGEND), [["swatch new", "new"], ["swatch bound", "bound"], ["swatch put-back", "put back"]])
-
-
-def tour_count(page, path, same):
-    page.load(path)
     for number in range(1, 6):
         page.open(f"#tour={number}")
         same("the tour's count", page.run("return document.querySelector('#guide h2').textContent"), f"Tour, {number} of 5")
 
 
-# ---- branches
-BRANCHES = "isWhole = true; for (const one of view.list) opened.add(one); showChosen(true); return [...document.querySelectorAll('#image .word')].map((row) => [row.id, row.querySelector('.instruction')?.textContent ?? '']);"
-
-
-def branches(page, path, files, same):
-    """A branch of the image leads to its place there, and has that of the object after it, if this is another one; the sentence says so."""
-    page.load(path)
+def in_object(_, page, files):
+    """A word that refers to a segment has the number that it has in its object too, if that is another one. A branch of the image leads to its
+    place there, and has that of the object after it, if this is another one; the sentence says so."""
     page.run("show({ ...START, list: DATA.objects.map(({ number }) => number).slice(0, arguments[0]) })", len(files))
-    objects, front, count = [Given(file) for file in files], 0, 0
-    shown = dict(page.run(BRANCHES))
-    for one in objects:
-        for index, (word, reloc) in enumerate(one.words["text"]):
-            said, own = shown[f"text-{front + 2 * index}"], branch_of(word, 2 * index)
-            if reloc & 0o17 or own is None or not re.match(r"(b\w+|sob \w+,) ?[0-7]+(,|$)", said):
-                continue
+    count, words = 0, Session([Given(file) for file in files]).rows()
+    for shown in read(page)["words"]:
+        word, key, said = words[shown["id"]], shown["id"], shown["instruction"]
+        wanted = f", in {word.of.name} {word.own:06o}" if word.reloc & 0o16 in SEGMENT and int(shown["value"], 8) != word.own else ""
+        same(f"what {key} is in its object", shown["given-word"], wanted)
+        own, front = branch_of(word.own, 2 * word.index), shown["number"] - 2 * word.index
+        if word.part == "text" and not word.reloc & 0o17 and own is not None and re.match(r"(b\w+|sob \w+,) ?[0-7]+(,|$)", said):
             target = (own + front) % WORD
-            same(f"the branch of {one.name} at {2 * index:o}", re.search(r"[ ,]([0-7]+)(?:, in (\S+) ([0-7]+))?$", said).groups(), (f"{target:o}", one.name, f"{own:o}") if front else (f"{target:o}", None, None))
-            note = page.run(CHOSEN, f"text-{front + 2 * index}")[2]
-            same(f"the sentence of the branch of {one.name} at {2 * index:o}: {note}", f"branches to text {target:06o}" in note, True)
+            same(f"the branch {key}", re.search(r"[ ,]([0-7]+)(?:, in (\S+) ([0-7]+))?$", said).groups(), (f"{target:o}", word.of.name, f"{own:o}") if front else (f"{target:o}", None, None))
+            note = page.run(CHOSEN, key)[2]
+            same(f"the sentence of the branch {key}: {note}", f"branches to text {target:06o}" in note, True)
             count += front > 0
-        front += one.text
-    same("branches that have moved", count > 0, True)
+    return count
+
+
+OWNERS = """
+const chips = [...document.querySelectorAll("#rest .fold")].map((row) => row.textContent.replace(/ (new|cut off)$/, ""));
+return [chips, [...document.querySelectorAll(".place-line .owned")].map((one) => [one.closest(".word").id, one.textContent])];
+"""
+
+
+def owners(_, page, files):
+    """The objects below a scene are in their order, and a place below its words has the name of its object."""
+    page.open("#" + first(len(files)))
+    page.settle()
+    chips, places = page.run(OWNERS)
+    objects = [Given(file) for file in files]
+    same(f"{len(files)} objects in their order", chips, [f"{number} {one.name} {(one.text + one.data) // 2}" for number, one in enumerate(objects, 1)])
+    words = Session(objects).rows()
+    same(f"{len(files)} objects: the objects of places", [said for _, said in places], [words[key].of.name for key, _ in places])
+    return len(places)
 
 
 # ---- questions
@@ -306,14 +301,17 @@ for (const key of "12345wfapnir") document.dispatchEvent(new KeyboardEvent("keyd
 return [view.list, view.gone, view.layout, view.guide, view.done, byId("addresses").disabled];
 """
 # the answer of the open question, if the screen has it
-ON_SCREEN = r"""
+ON_SCREEN = SEEN + r"""
 const wait = nextStep(), found = [];
-if (!wait?.ask) return null;
 const has = (row) => row && new RegExp(`\\b${octal(wait.number)}\\b`).test(row.textContent);
 if (wait.kind === "changes" && wait.act[0] === "withdraw" && wait.answers.length > 0) found.push("the marks have what is put back");
 if (wait.kind === "value" && [...document.querySelectorAll("#image .word, #marks .mark")].some((row) => row.dataset.key === wait.word && has(row))) found.push(`${wait.word} has ${octal(wait.number)}`);
 if (wait.kind === "where" && wait.number !== null && [...document.querySelectorAll("#names .name")].some((row) => row.dataset.key === `name ${wait.name}` && has(row))) found.push(`${wait.name} has ${octal(wait.number)}`);
 if (wait.act?.[0] === "link" && wait.act[1] === view.layout) found.push("the link is shown");
+if (wait.kind === "changes") {
+    const out = wait.answers.filter((key) => !seen(byId(key)));
+    if (out.length > more) found.push(...out);
+}
 return found;
 """
 # the answer of the open question in decimal, as far as its digits could be octal, and what is said of it
@@ -326,41 +324,34 @@ return [typed, wait.number, predictionOf(view.done + 1).reason, predictionOf(vie
 """
 
 
-def questions(page, path, same):
-    """Under an open question nothing changes the session, and its answer is not on the screen; a number in the other base is reported."""
-    page.load(path)
-    asked, others = 0, 0
+def asked(page):
+    """Goes to each open question of the lessons; the texts say which it is."""
     for guide in range(1, page.run("return GUIDES.length")):
         for done in range(page.run("return GUIDES[arguments[0]].steps.length - 1", guide)):
             page.run("goTo(arguments[0], arguments[1])", guide, done)
-            found = page.run(ON_SCREEN)
-            if found is None:
-                continue
-            what, before = f"lesson {guide}, question {done + 1}", page.run("return [view.list, view.gone, view.layout, view.guide, view.done]")
-            same(f"{what}: the answer on the screen", found, [])
-            same(f"{what}: what buttons and keys change", page.run(TRIED), [*before, True])
-            other = page.run(OTHER_BASE)
-            if other:
-                typed, number, reason, is_right = other
-                same(f"{what}: {typed} for {number:o}", (is_right, reason), (False, f"Read in decimal that is right, but {typed} is octal here: type 0{number:o}, or {number}. with the point."))
-            asked, others = asked + 1, others + bool(other)
+            if page.run("return isAsked()"):
+                page.settle()
+                yield f"lesson {guide}, question {done + 1}"
+
+
+def questions(_, page, __):
+    """Under an open question nothing changes the session, its answer is not on the screen, and the right words are on the stage; a number in the
+    other base is reported."""
+    count, others = 0, 0
+    for what in asked(page):
+        before = page.run("return [view.list, view.gone, view.layout, view.guide, view.done]")
+        same(f"{what}: the answer on the screen, and right words that are not on the stage", page.run(ON_SCREEN), [])
+        same(f"{what}: what buttons and keys change", page.run(TRIED), [*before, True])
+        other = page.run(OTHER_BASE)
+        if other:
+            typed, number, reason, is_right = other
+            same(f"{what}: {typed} for {number:o}", (is_right, reason), (False, f"Read in decimal that is right, but {typed} is octal here: type 0{number:o}, or {number}. with the point."))
+        count, others = count + 1, others + bool(other)
     done = page.run("return GUIDES[1].steps.findIndex(({ ask }) => ask) - 1")
     page.open(f"#objects=2&lesson=1&done={done}")
     same("an address with other objects", page.run("return [view.list, isAsked()]"), [page.run("return guideView(1, arguments[0]).list", done), True])
-    same("questions, and numbers in the other base", (asked > 5, others > 0), (True, True))
+    same("questions, and numbers in the other base", (count > 5, others > 0), (True, True))
 
 
-def said_everywhere(page, pages, same, most=1000):
-    """All of this, of each page that many states; `pages` are paths with their objects, the first with the lessons of the class, the second a
-    program in C."""
-    count = sum(says(page, path, files, same, most) for path, files in pages)
-    for path, files in pages[:3]:
-        cards(page, path, files, same)
-    for path, files in pages:
-        in_link(page, path, files, same)
-    branches(page, *pages[1], same)
-    legend(page, pages[0][0], same)
-    tour_count(page, pages[0][0], same)
-    for path, _ in pages[:3]:
-        questions(page, path, same)
-    print(f"{page.name}: {count} sentences, and as many lists of names, are those of the model", flush=True)
+# the checks of this file, and those of pages.py's pages that each is for
+CHECKS = ((says, (0, 1, 2, 3)), (cards, (0, 1, 2)), (in_link, (0, 1, 2, 3)), (in_object, (1, 3)), (counts_said, (0,)), (owners, (3,)), (questions, (0, 1, 2)))

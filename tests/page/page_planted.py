@@ -1,29 +1,27 @@
 """Plants faults into the page of the lesson, one after another, and prints whether what tests/page/page.py measures finds each. Without
 the fault the same measure has to find nothing."""
 import re
-import tempfile
+from functools import partial
 
 from tests.lib.files import read, write
-from tests.page import page_model, page_pictures
-from tests.page.page_layout import look
+from tests.page import page_layout, page_model, page_use
 from tests.page.page_lessons import lesson_answers
-from tests.page.page_stage import STEP, VIEW, choices, compare_ends, compare_given, first, moved, owners
-from tests.page.page_use import beside, distances, maps, numbers, old_browser, paper, practice, reasons, result
+from tests.page.page_stage import STEP, choices, compare_ends, first, one_step
+from tests.page.page_tools import CLASS, SIXTEEN, faults_of, lessons_of, same, words_of
 
 # scripts that plant a fault into the page that is shown, and the measure that has to find it
 STAGE = {
     "an arrow one row off": ("ends", "placeOf = ((real) => (...of) => real(...of).replace(/^text-(\\d+)$/, (_, number) => `text-${Number(number) + 2}`))(placeOf);"),
     "an arrow to the title of its segment": ("ends", "placeOf = ((real) => (...of) => real(...of).replace(/^data-\\d+$/, 'data'))(placeOf);"),
-    "an instruction dropped": ("view", "document.querySelector('.word.bound .instruction').remove();"),
-    "a name dropped": ("view", "document.querySelector('.place-line .label').remove();"),
+    "an instruction dropped": ("step", "document.querySelector('.word.bound .instruction').remove();"),
+    "a name dropped": ("step", "document.querySelector('.place-line .label').remove();"),
     "a word left out of its group": ("step", "groupsOf = ((real) => (state, keys) => real(state, keys.slice(1)))(groupsOf); showChosen(true);"),
-    "an old value dropped": ("view", "document.querySelector('.word.bound .was').remove();"),
-    "the sentence dropped": ("view", "document.getElementById('note').textContent = '';"),
+    "an old value dropped": ("step", "document.querySelector('.word.bound .was').remove();"),
+    "the sentence dropped": ("step", "document.getElementById('note').textContent = '';"),
     "a reference left out": ("choice", "chosenReferences = ((real) => (state) => real(state).slice(1))(chosenReferences);"),
     "an arrow left out": ("choice", "bundles = ((real) => (state, all) => real(state, all.filter((one) => one.id !== all[0].id)))(bundles);"),
-    "a row moved by 2 pixels": ("moved", "document.getElementById('withdraw').addEventListener('click', () => { document.getElementById('image').style.paddingTop = '2px'; });"),
-    "the number of the object dropped": ("given", "targetParts = ((real) => (state, word) => real(state, word).filter((part) => part[1] !== 'given-word'))(targetParts);"),
-    "a button moved by 2 pixels": ("moved", "document.getElementById('withdraw').addEventListener('click', () => { document.getElementById('withdraw').style.marginLeft = '2px'; });"),
+    "a row moved by 2 pixels": ("step", "document.getElementById('withdraw').addEventListener('click', () => { document.getElementById('image').style.paddingTop = '2px'; });"),
+    "a button moved by 2 pixels": ("step", "document.getElementById('withdraw').addEventListener('click', () => { document.getElementById('withdraw').style.marginLeft = '2px'; });"),
 }
 LAYOUT = {
     "an arrow 5 pixels lower": "document.querySelector('g.arrow .line').setAttribute('transform', 'translate(0 5)');",
@@ -34,8 +32,9 @@ LAYOUT = {
     "badges that overlap": "for (const tag of document.querySelectorAll('.tag')) tag.style.cssText = 'position: fixed; top: 9rem; left: 9rem';",
     "a word that is wider than the page": "document.querySelector('.word').style.width = '300rem';",
 }
-# changes of the scripts, and the measure that has to find each
+# changes of the scripts, and the measure that has to find each: one of the class example, unless PAGES has another page
 SCRIPTS = {
+    "the number of the object dropped": ("in_object", '["span", "given-word",', '["span", "other-word",'),
     "reasons exchanged": ("reasons", '() => "That is what the word is now, and the step changes it."', '({ wait }) => `The step leaves the word at ${keyText(wait.word)} as it is.`'),
     "a reason for a word of another segment": ("reasons", '`${wordText(one)}: add the address where ${targetText(one.word)} begins in this link.`', '"It refers to bss 000000: add the address where bss begins in this link."'),
     "decimal read as octal": ("numbers", "return parseInt(typed, 10);", "return parseInt(typed, 8);"),
@@ -52,13 +51,13 @@ SCRIPTS = {
     "a name without its addend": ("in_link", "const of = word.own.kind < 0 ? nameText(word.own)", "const of = word.own.kind < 0 ? word.own.name"),
     "offsets of a card that begin at 0": ("cards", "const cells = [column(word.offset), column(word.value)", "const cells = [column(2 * index), column(word.value)"),
     "another symbol in a relocation word": ("cards", "`symbol ${reloc >> 4}`", "`symbol ${reloc >> 3}`"),
-    "one word more that refers to a name": ("count", 'counted(drawn.references.length, "word")} refer', 'counted(drawn.references.length + 1, "word")} refer'),
+    "one word more that refers to a name": ("named", 'counted(drawn.references.length, "word")} refer', 'counted(drawn.references.length + 1, "word")} refer'),
     "shares of the first segment": ("maps", "const next = state.fronts[place + 1]?.[which]", "const next = state.fronts[place + 1]?.[0]"),
-    "another colour in the legend": ("legend", '<li><span class="swatch new"></span>', '<li><span class="swatch put-back"></span>'),
+    "another colour in the legend": ("counts_said", '<li><span class="swatch new"></span>', '<li><span class="swatch put-back"></span>'),
     "a hint to subtract": ("reasons", ": add the place of ${name} to the word, modulo", ": subtract the place of ${name} from the word, modulo"),
-    "the tour's count": ("tour", "`${view.done + 1} of ${guide.steps.length}`", "`${view.done} of ${guide.steps.length}`"),
+    "the tour's count": ("counts_said", "`${view.done + 1} of ${guide.steps.length}`", "`${view.done} of ${guide.steps.length}`"),
     "a button that acts under a question": ("questions", 'off || isAsked()', 'off'),
-    "a branch of the object": ("branches", "((target + moved) % WORD).toString(8)", "target.toString(8)"),
+    "a branch of the object": ("in_object", "((target + moved) % WORD).toString(8)", "target.toString(8)"),
     "objects in another order": ("owners", 'context.full.list.map((_, place) => foldRow(context, place, ""))', 'context.full.list.map((_, place) => foldRow(context, place, "")).reverse()'),
     "a place with another object": ("owners", '["span", "owned", label(object.number)]', '["span", "owned", label(0)]'),
     "a count that is one less": ("counts", '`and ${counted(left, "other word")}`', '`and ${counted(left - 1, "other word")}`'),
@@ -71,160 +70,112 @@ SCRIPTS = {
 LABEL_AS_PROPERTY = "addEventListener('DOMContentLoaded', () => { if (typeof showAll === 'undefined') return; withAttributes = (element, all) => { for (const name in all) element[name === 'id' ? 'id' : name.replace(/-(.)/, (_, c) => c.toUpperCase())] = all[name]; return element; }; showAll(); });"
 
 
-class Found:
-    """The faults that a measure finds."""
-
-    def __init__(self):
-        self.faults = []
-
-    def same(self, what, shown, wanted):
-        if shown != wanted:
-            self.faults.append(what)
+# the pages of other measures: 1 a program in C, 2 pointers and bss, 3 sixteen objects
+PAGES = {"distances": 1, "in_object": 1, "bss": 2, "cards": 2, "owners": 3, "counts": 3}
 
 
-def counts(page, path, count, same):
+def named(tools, page, files):
+    """A name that is chosen is said to have as many references as it has."""
+    page.open("#" + first(len(files)))
+    choices(page, "a choice", ["name _twice", "name _count"], tools.uses(files))
+
+
+def says(tools, page, files):
+    page_model.says(tools, page, files, 12)
+
+
+def counts(_, page, files):
     """In a low window the changed words of the last step are in view, or counted."""
-    page.load(path)
     page.size(1366, 600)
-    page.open("#" + first(count))
+    page.open("#" + first(len(files)))
     page.settle()
     seen = page.run(STEP)
     same("words in view, or counted", (seen["there"] + seen["more"], seen["more"] > 0), (seen["words"], True))
 
 
-def named(tools, page, path, files, same):
-    """A name that is chosen is said to have as many references as it has."""
-    page.load(path)
-    page.open("#" + first(len(files)))
-    choices(page, same, "a choice", ["name _twice", "name _count"], tools.uses(files))
+MEASURES = {**{measure.__name__: measure for measure, _ in (*page_model.CHECKS, *page_use.CHECKS)}, "counts": counts, "named": named, "says": says, "bss": says}
 
 
-def on_stage(tools, page, files, layouts, kind, script):
-    """What a measure of the stage finds with five of the objects."""
-    found = Found()
+def in_scripts(tools, page, pages, kind, old, new):
+    """The measure of a fault, in a page whose scripts are changed."""
+    path, files = pages[PAGES.get(kind, 0)]
+    text = read(path)
+    same(f"how often the scripts have: {old}", text.count(old), 1)
+    page.load(write(f"{tools.room}/changed.html", text.replace(old, new)))
+    page.size(1366, 768)
+    MEASURES[kind](tools, page, files)
+
+
+def on_stage(tools, page, pages, kind, script):
+    """A measure of the stage with five of sixteen objects."""
+    page.load(pages[3][0])
     page.size(1366, 768)
     page.open("#" + first(5))
     page.settle()
     page.run("(0, eval)(arguments[0])", script)
     if kind == "ends":
         page.run("showChosen(true)")
-        compare_ends(tools, page, files, layouts, found.same, 5)
-    elif kind == "view":
-        found.same("in view", [name for name, is_seen in page.run(VIEW).items() if name != "count" and not is_seen], [])
+        compare_ends(tools, page, SIXTEEN[:5], 5)
     elif kind == "step":
-        seen = page.run(STEP)
-        found.same("words in view, or counted", seen["there"] + seen["more"], seen["words"])
-    elif kind == "given":
-        compare_given(page, files, found.same)
-    elif kind == "choice":
-        choices(page, found.same, "a choice", ["name _next", "name _say", "text-0"], tools.uses(files))
+        one_step(page, "a step")
     else:
-        page.run("document.getElementById('withdraw').focus()")
-        found.same("moved", moved(page)[0], [])
-    return found.faults
+        choices(page, "a choice", ["name _next", "name _say", "text-0"], tools.uses(SIXTEEN[:5]))
 
 
-def on_layout(page, script):
-    """What is wrong with the layout of the default page."""
-    faults = []
+def on_layout(page, pages, script):
+    page.load(pages[0][0])
     page.size(1280, 720)
     page.open("#objects=1,2")
     page.run(script)
-    look(page, "the layout", faults, {})
-    return faults
+    page_layout.look(page, "the layout", {})
 
 
-def in_scripts(tools, page, path, files, layouts, room, change):
-    """What the measure of a fault finds in a page whose scripts are changed."""
-    kind, old, new = change
-    found, text = Found(), read(path)
-    if text.count(old) != 1:
-        return [f"the scripts have {text.count(old)} times: {old}"] if new == old else []
-    changed = write(f"{room}/changed.html", text.replace(old, new))
-    measures = {"reasons": lambda: reasons(tools, page, [(changed, files)], found.same, 20), "numbers": lambda: numbers(page, changed, found.same),
-                "maps": lambda: maps(tools, page, changed, files, layouts, found.same), "practice": lambda: practice(tools, page, changed, files, found.same),
-                "owners": lambda: owners(page, changed, files, found.same), "counts": lambda: counts(page, changed, len(files), found.same), "paper": lambda: paper(page, changed, found.same),
-                "result": lambda: result(page, changed, found.same), "beside": lambda: beside(page, changed, files, found.same), "distances": lambda: distances(page, changed, found.same),
-                **{kind: lambda: page_model.says(page, changed, files, found.same, 40) for kind in ("says", "bss")},
-                "in_link": lambda: page_model.in_link(page, changed, files, found.same),
-                "cards": lambda: page_model.cards(page, changed, files, found.same), "legend": lambda: page_model.legend(page, changed, found.same),
-                "tour": lambda: page_model.tour_count(page, changed, found.same), "questions": lambda: page_model.questions(page, changed, found.same),
-                "branches": lambda: page_model.branches(page, changed, files, found.same), "count": lambda: named(tools, page, changed, files, found.same)}
-    measures[kind]()
-    return found.faults
+def answer_key(tools, key):
+    """v7-lesson accepts the lessons with a key for the first question of what changes."""
+    text = re.sub(r"^(ask changes Which word changes when twice.o is added\?)$", rf"\1\nword {key}", read(lessons_of(CLASS)), count=1, flags=re.M)
+    same("the status", tools.asked_of(write(f"{tools.room}/key.txt", text), *CLASS)[0], 0)
 
 
-# ---- answer keys
-def refused_key(tools, questions, files, room, change):
-    """What v7-lesson says of the lessons with a changed text."""
-    status, _, error = tools.asked_of(write(f"{room}/key.txt", change(read(questions))), *files)
-    return [error] if status else []
+def answers(tools, pages, key):
+    """The answers of the page are right, where its first one of what changes is another word."""
+    text = re.sub(r'\["changes","text-\d+"\]', f'["changes","{key}"]', read(pages[0][0]), count=1)
+    lesson_answers(tools, write(f"{tools.room}/answers.html", text), CLASS)
 
 
-def wrong_answers(tools, default, files, layouts, room, change):
-    """What is wrong with the answers that a page has, where its data were changed."""
-    found = Found()
-    lesson_answers(tools, write(f"{room}/answers.html", change(read(default))), files, layouts, found.same)
-    return found.faults
+def picture(tools, page, pages, name):
+    """A picture of the page without objects is one of docs/pictures."""
+    page.load(pages[0][0])
+    page_layout.make_pictures(page, tools.room)
+    same("the picture", page_layout.difference(page, f"{tools.room}/first.png", f"{page_layout.PICTURES}/{name}.png") <= page_layout.LIMIT, True)
 
 
-def with_key(text):
-    """A key that is wrong for the first question of what changes."""
-    return re.sub(r"^(ask changes Which word changes when twice.o is added\?)$", r"\1\nword text 4", text, count=1, flags=re.M)
+def labels(tools, page, pages, more):
+    """Roles and labels in an old browser."""
+    page.load(pages[0][0])
+    page_use.old_browser(tools, page, CLASS, more)
 
 
-def with_right_key(text):
-    return with_key(text).replace("word text 4", "word text 6", 1)
-
-
-def with_answer(text):
-    """The first answer of what changes is another word."""
-    return re.sub(r'\["changes","text-\d+"\]', '["changes","text-4"]', text, count=1)
-
-
-# ---- pictures
-def other_picture(page, folder, name):
-    """Whether a picture of the page without objects differs from one of docs/pictures."""
-    page_pictures.make(page, folder)
-    different = page_pictures.difference(page, f"{folder}/first.png", f"{page_pictures.PICTURES}/{name}.png")
-    return [name] if different > page_pictures.LIMIT else []
-
-
-def labels(page, default, more):
-    """What is wrong with roles and labels in an old browser."""
-    found = Found()
-    old_browser(page, default, found.same, more)
-    return found.faults
-
-
-def all_faults(tools, page, questions, pages, layouts, room):
-    """Each fault, with what finds it where it is planted, and where it is not."""
-    class_example, in_c, with_bss, sixteen = pages
-    (default, files), (compiled, many) = class_example, sixteen
-    yield "a label set as a property", lambda is_planted: labels(page, default, LABEL_AS_PROPERTY if is_planted else "")
-    yield "a wrong answer key", lambda is_planted: refused_key(tools, questions, files, room, with_key if is_planted else with_right_key)
-    yield "a wrong answer in the page", lambda is_planted: wrong_answers(tools, default, files, layouts, room, with_answer if is_planted else str)
+def all_faults(tools, page, pages):
+    """Each fault, with the measure where it is not planted, and where it is."""
+    yield "a label set as a property", partial(labels, tools, page, pages), "", LABEL_AS_PROPERTY
+    yield "a wrong answer key", partial(answer_key, tools), "text 6", "text 4"
+    yield "a wrong answer in the page", partial(answers, tools, pages), "text-6", "text-4"
+    yield "a picture of another state", partial(picture, tools, page, pages), "first", "bound"
     for what, (kind, old, new) in SCRIPTS.items():
-        path, of = {"owners": sixteen, "counts": sixteen, "distances": in_c, "branches": in_c, "bss": with_bss, "cards": with_bss}.get(kind, class_example)
-        yield what, lambda is_planted, path=path, of=of, kind=kind, old=old, new=new: in_scripts(tools, page, path, of, layouts, room, (kind, old, new if is_planted else old))
-    page.load(default)
+        yield what, partial(in_scripts, tools, page, pages, kind, old), old, new
     for what, script in LAYOUT.items():
-        yield what, lambda is_planted, script=script: on_layout(page, script if is_planted else "")
-    page.load(default)
-    yield "a picture of another state", lambda is_planted: other_picture(page, room, "bound" if is_planted else "first")
+        yield what, partial(on_layout, page, pages), "", script
     for what, (kind, script) in STAGE.items():
-        page.load(compiled)
-        yield what, lambda is_planted, kind=kind, script=script: on_stage(tools, page, many[:5], layouts, kind, script if is_planted else "")
+        yield what, partial(on_stage, tools, page, pages, kind), "", script
 
 
-def plant_all(tools, page, questions, pages, layouts, same):
+def plant_all(tools, page, pages):
     """Plants each fault, and prints whether it is found."""
     count = 0
-    with tempfile.TemporaryDirectory() as room:
-        for what, measure in all_faults(tools, page, questions, pages, layouts, room):
-            without, planted = measure(False), measure(True)
-            print(f"planted: {what}: {'found' if planted else 'NOT FOUND'}{f': {planted[0].strip()[:90]}' if planted else ''}", flush=True)
-            same(f"planted: {what}, without the fault", without, [])
-            same(f"planted: {what}", len(planted) > 0, True)
-            count += 1
-    return count
+    for what, measure, right, wrong in all_faults(tools, page, pages):
+        without, planted = faults_of(measure, right), faults_of(measure, wrong)
+        print(f"planted: {what}: {f'found: {words_of(planted[0])[:90]}' if planted else 'NOT FOUND'}", flush=True)
+        same(f"planted: {what}, without the fault", without, [])
+        same(f"planted: {what}", len(planted) > 0, True)
+        count += 1
+    print(f"{count} faults were planted", flush=True)

@@ -1,13 +1,11 @@
 """Measures the stage of the page: where arrows end, what a step moves, what is in view, what a choice and the search find, in
 Chromium and in Firefox."""
-import os
 import re
 import time
 
-from tests.lib.files import read_bytes
-from tests.lib.objects import unpack
 from tests.page.page_browser import Keys
-from tests.page.page_data import PARTS, place_in_image, sizes_of
+from tests.page.page_data import place_in_image, sizes_of
+from tests.page.page_tools import LAYOUTS, PARTS, WORD, same
 
 # widths, heights and scales of a window; a zoom of 200 % at 1280 is a window of 640 pixels, each of two dots
 SIZES = [(1920, 1080, 1), (1366, 768, 1), (1024, 768, 1), (390, 844, 1), (640, 360, 2)]
@@ -17,17 +15,8 @@ def first(count):
     """The address of the state of the first objects."""
     return "objects=" + ",".join(str(number) for number in range(1, count + 1))
 
-# ---- arrows: for each word that refers to something, the place that the page has for it, in a link with its address
-PLACES_MEANT = r"""
-const state = stateNow(), bases = isLinked(state) ? state.links[view.layout].bases : [0, 0, 0, 0];
-const starts = { text: 0, data: bases[1], bss: bases[3] };
-const context = { state, bases: isLinked(state) ? bases : null };
-return allReferences(state).filter((one) => one.to || !isLinked(state)).map((one) => {
-    const [kind, ...rest] = one.to.split("-");
-    return [one.id, one.to, rest.length === 1 && /^\d+$/.test(rest[0]) && kind in starts ? starts[kind] + Number(rest[0]) : one.to ? spotNumber(context, one.to) : 0];
-});
-"""
-# and for some of them the row at which the drawn arrow ends
+
+# ---- arrows: for some words that refer to something the row at which the drawn arrow ends, its number, and whether the word is relative to the pc
 ENDS = r"""
 const [step, first] = arguments;
 const found = [];
@@ -35,14 +24,13 @@ const state = stateNow();
 allReferences(state).forEach((one, i) => {
     if (i % step !== first % step) return;
     choose(one.id, false);
-    const arrow = document.querySelector(`g.arrow[data-from="${one.id}"]`);
-    if (!arrow) return found.push([one.id, "", ""]);
+    const arrow = document.querySelector(`g.arrow[data-from="${one.id}"]`), isPc = wordOf(state, one.id).pc;
+    if (!arrow) return found.push([one.id, "", "", isPc]);
     const row = document.getElementById(arrow.dataset.to);
     const head = arrow.querySelector(".head").getBoundingClientRect(), box = row.getBoundingClientRect();
     const [middle, near] = [(head.top + head.bottom) / 2, (one, other) => Math.abs(one - other) <= 2];
     const isAt = (middle > box.top && middle < box.bottom) || (head.right <= box.right + 2 && (near(head.bottom, box.top) || near(head.top, box.bottom)));
-    const fold = row.classList.contains("fold");
-    found.push([one.id, isAt ? row.id : `not at ${row.id}`, fold ? "fold" : row.querySelector(".offset")?.textContent.replace(/^[a-z]+ /, "") ?? "no row"]);
+    found.push([one.id, isAt ? row.id : `not at ${row.id}`, row.querySelector(".offset")?.textContent.replace(/^[a-z]+ /, "") ?? "no row", isPc]);
 });
 choose("", false);
 return found;
@@ -60,169 +48,55 @@ def ends_in_image(lines):
     return wanted
 
 
-def meant_in_link(page, linked):
-    """For each word that refers to something the address that it means in a link."""
-    base = page.run("return stateNow().links[view.layout].bases[1]")
-    relative = page.run("return Object.fromEntries(allReferences(stateNow()).map((one) => [one.id, imageWord(stateNow(), one.place, one.part, one.index).pc]))")
-    meant = {}
-    for word, is_pc in relative.items():
-        part, offset = word.split("-")
-        final = linked["segments"][part][int(offset) // 2]
-        meant[word] = (final + int(offset) + (base if part == "data" else 0) + 2) % 65536 if is_pc else final
-    return meant
+def meant_in_link(linked, word, end, is_pc):
+    """The address that a word means in a link; that of a row of a word is even."""
+    part, offset = word.split("-")
+    final = linked["segments"][part][int(offset) // 2]
+    meant = (final + int(offset) + (linked["base"] if part == "data" else 0) + 2) % WORD if is_pc else final
+    return meant - meant % 2 if re.fullmatch(r"(text|data)-\d+", end) else meant
 
 
-def row_address(end, address):
-    """The address of a row of a word is even."""
-    return address - address % 2 if re.fullmatch(r"(text|data)-\d+", end) else address
-
-
-def compare_ends(tools, page, files, layouts, same, step=1):
-    """Each word has the place that it means, in the image and in each link; in a link that is the word's address. Of so many words one
-    arrow is drawn in each layout, another one in the next, and ends there."""
-    lines = tools.step(len(files), files)
-    wanted = ends_in_image(lines)
-    what = f"{len(files)} objects"
-    places = page.run(PLACES_MEANT)
-    for word, end, _ in places:
-        same(f"{what}, the image: {word} has", end, wanted.get(word, ""))
+def compare_ends(tools, page, files, step=1):
+    """Of so many words one arrow is drawn in the image, another one in each link, and ends at the place that the word means: in a link its
+    address."""
+    wanted, what = ends_in_image(tools.step(len(files), files)), f"{len(files)} objects"
     drawn = page.run(ENDS, step, 0)
-    for word, end, _ in drawn:
+    count = len(drawn)
+    for word, end, *_ in drawn:
         same(f"{what}, the image: {word} means", end, wanted.get(word, ""))
-    counts = [len(places), len(drawn)]
-    for number, (key, (layout, options)) in enumerate(zip("pnir", layouts.items())):
+    for number, (key, (layout, options)) in enumerate(zip("pnir", LAYOUTS.items())):
         page.type(key)
         linked = tools.link(options, files)
-        if "refused" in linked:
-            continue
-        meant = meant_in_link(page, linked)
-        places = page.run(PLACES_MEANT)
-        for word, end, address in places:
-            same(f"{what}, {layout}: {word} has {end}", address, row_address(end, meant[word]))
-        drawn = [one for one in page.run(ENDS, step, number + 1) if one[1]]
-        for word, end, address in drawn:
-            same(f"{what}, {layout}: {word} means {end}", address, f"{row_address(end, meant[word]):06o}")
-        counts = [counts[0] + len(places), counts[1] + len(drawn)]
+        for word, end, address, is_pc in page.run(ENDS, step, number + 1) if "refused" not in linked else ():
+            if end:
+                same(f"{what}, {layout}: {word} means {end}", address, f"{meant_in_link(linked, word, end, is_pc):06o}")
+                count += 1
     page.type("a")
-    return counts
+    return count
 
 
-# shows the whole image with each object unfolded, as key o and clicks on all folds do
-WHOLE = """
-isWhole = true;
-for (const object of view.list) opened.add(object);
-showChosen(true);
-return document.querySelectorAll("#image .fold").length;
+# ---- steps
+SEEN = r"""
+const stage = document.getElementById("stage").getBoundingClientRect();
+const seen = (row) => {
+    const box = row?.getBoundingClientRect();
+    return Boolean(box) && box.height > 0 && box.top >= stage.top - 2 && box.bottom <= Math.min(stage.bottom, innerHeight) + 2;
+};
+const arrowOf = (key) => document.querySelector(`g.arrow[data-from="${key}"]`);
+const isWholeArrow = (key) => {
+    const to = wordOf(stateNow(), key)?.to;
+    return Boolean(to) && arrowOf(key)?.dataset.to === to && seen(byId(key)) && seen(byId(to));
+};
+const more = [...document.querySelectorAll("#image .more-line")].filter(seen).reduce((sum, row) => sum + Number(row.textContent.match(/and (\d+) other/)?.[1] ?? 0), 0);
 """
-GIVEN = """
-const text = (row, name) => row.querySelector(`.${name}`)?.textContent ?? "";
-return [...document.querySelectorAll("#image .word:not(.spot)")].map((row) => [row.id, text(row, "value"), text(row, "given-word")]);
-"""
-
-
-def words_of_files(files):
-    """For each word of the merged image the name of its object, the word there, and whether it refers to a segment there."""
-    found, fronts = {}, {"text": 0, "data": 0}
-    for path in files:
-        one = unpack(read_bytes(path))
-        for part, words, relocs in (("text", one.text, one.relocation), ("data", one.data, one.relocation[len(one.text):])):
-            for index, (word, reloc) in enumerate(zip(words, relocs)):
-                found[f"{part}-{fronts[part] + 2 * index}"] = os.path.basename(path), word, reloc & 0o16 in (2, 4, 6)
-            fronts[part] += 2 * len(words)
-    return found
-
-
-def compare_given(page, files, same):
-    """A word that refers to a segment has the number that it has in its object too, if that is another one."""
-    page.run(WHOLE)
-    of_files, shown = words_of_files(files), page.run(GIVEN)
-    for word, value, said in shown:
-        name, given, is_segment = of_files[word]
-        wanted = f", in {name} {given:06o}" if is_segment and int(value, 8) != given else ""
-        same(f"{len(files)} objects: what {word} is in its object", said, wanted)
-    return len(shown)
-
-
-OWNERS = """
-const chips = [...document.querySelectorAll("#rest .fold")].map((row) => row.textContent.replace(/ (new|cut off)$/, ""));
-return [chips, [...document.querySelectorAll(".place-line .owned")].map((one) => [one.closest(".word").id, one.textContent])];
-"""
-
-
-def owners(page, path, files, same):
-    """The objects below a scene are in their order, and a place below its words has the name of its object."""
-    page.load(path)
-    page.size(1366, 768)
-    page.open("#" + first(len(files)))
-    page.settle()
-    chips, places = page.run(OWNERS)
-    of_files = words_of_files(files)
-    names = [name for name, *_ in of_files.values()]
-    same(f"{len(files)} objects in their order", chips, [f"{number} {os.path.basename(file)} {names.count(os.path.basename(file))}" for number, file in enumerate(files, 1)])
-    for key, said in places:
-        same(f"{len(files)} objects: the object of {key}", said, of_files[key][0])
-    same(f"{len(files)} objects: places with an object", len(places) > 0, True)
-
-
-# ---- what a step moves
-PLACES = r"""
-const places = {};
-for (const row of document.querySelectorAll("#image .word, #image .fold, #image .owner, #image h3, #names .name, button")) {
-    if (!row.checkVisibility() || row.closest("#guide")) continue;
-    const box = row.getBoundingClientRect();
-    const key = row.id || (row.closest(".segment") ?? row.parentElement).id + " " + (row.dataset.key ?? [...row.parentElement.children].indexOf(row));
-    places[key] = [Math.round(10 * box.left) / 10, Math.round(10 * box.top) / 10];
-}
-return places;
-"""
-
-
-def moved(page):
-    """What moves by the withdrawal of the last object, and how many things do not."""
-    before = page.run(PLACES)
-    page.type("w")
-    page.settle()
-    after = page.run(PLACES)
-    both = [key for key in before if key in after]
-    return [f"{key}: {before[key]} to {after[key]}" for key in both if before[key] != after[key]] + [f"{key} is gone" for key in before if key not in after], len(both)
-
-
-def stands(page, count, sizes, same, what):
-    """A withdrawal moves no row and no button."""
-    kept = 0
-    for width, height, scale in sizes:
-        page.size(width, height, scale)
-        for number in range(1, count + 1):
-            page.open("#" + first(number))
-            page.settle()
-            gone, left = moved(page)
-            kept += left
-            same(f"{what}, {width} wide: what the withdrawal of object {number} moves", gone[:3], [])
-    return kept
-
-
-def six_clicks(page, sizes, same):
-    """Six clicks on one spot withdraw five objects."""
-    for width, height, scale in sizes:
-        page.size(width, height, scale)
-        page.open("#" + first(5))
-        x, y = page.run("const box = document.getElementById('withdraw').getBoundingClientRect(); return [(box.left + box.right) / 2, (box.top + box.bottom) / 2]")
-        left = []
-        for _ in range(6):
-            page.press_at(x, y)
-            left.append(page.run("return view.list.length"))
-        same(f"six clicks on one spot, {width} wide", left, [4, 3, 2, 1, 0, 0])
-
-
-# ---- what is in view
-VIEW = r"""
-const seen = (element, room) => {
+# of a step: what is hidden of it; its changed words, how many have rows in view, and how many are counted there; those that lead somewhere, and
+# whole arrows of these; arrows with an end out of view; and where everything is
+STEP = SEEN + r"""
+const within = (element, room) => {
     if (!element || !element.checkVisibility()) return false;
     const [box, frame] = [element.getBoundingClientRect(), room.getBoundingClientRect()];
     return box.top >= frame.top - 1 && box.bottom <= Math.min(frame.bottom, innerHeight) + 1 && box.left >= -1 && box.right <= innerWidth + 1;
 };
-const note = document.getElementById("note");
-const row = document.querySelector(".word.bound, .word.put-back"), name = document.querySelector(".name.changed, .name.put-back");
 // whether a row shows the instruction that its word belongs to, if it belongs to one
 const showsInstruction = (one) => {
     const word = wordOf(stateNow(), one.id);
@@ -238,124 +112,64 @@ const isNamed = (row) => {
     const labels = byId(word.to)?.matches(".place-line") && word.own.meant === 0 ? [...byId(word.to).querySelectorAll(".label")].map((part) => part.textContent) : [`${word.own.name}:`];
     return names.includes(word.own.name) && labels.includes(`${word.own.name}:`) && Boolean(row.querySelector(".was"));
 };
-const changedRows = [...document.querySelectorAll(".word.bound, .word.put-back")];
-return {
-    sentence: note.textContent.length > 20 && seen(note, document.body) && note.scrollHeight <= note.clientHeight + 1,
-    status: document.getElementById("status").textContent.length > 5 && seen(document.getElementById("status"), document.body),
-    row: !row || seen(row, document.getElementById("stage")),
-    name: !name || seen(name, document.getElementById("known")),
-    unit: changedRows.every(showsInstruction),
-    bound: changedRows.every(isNamed), count: changedRows.length };
+const places = {};
+for (const row of document.querySelectorAll("#image .word, #image .fold, #image .owner, #image h3, #names .name, button")) {
+    if (!row.checkVisibility() || row.closest("#guide")) continue;
+    const box = row.getBoundingClientRect();
+    const key = row.id || (row.closest(".segment") ?? row.parentElement).id + " " + (row.dataset.key ?? [...row.parentElement.children].indexOf(row));
+    places[key] = [Math.round(10 * box.left) / 10, Math.round(10 * box.top) / 10];
+}
+const [note, status] = [byId("note"), byId("status")];
+const changedRows = [...document.querySelectorAll(".word:is(.bound, .put-back)")], changedNames = [...document.querySelectorAll(".name:is(.changed, .put-back)")];
+const isHidden = {
+    sentence: !(note.textContent.length > 20 && within(note, document.body) && note.scrollHeight <= note.clientHeight + 1),
+    status: !(status.textContent.length > 5 && within(status, document.body)),
+    row: changedRows.length > 0 && !within(changedRows[0], byId("stage")), name: changedNames.length > 0 && !within(changedNames[0], byId("known")),
+    instruction: !changedRows.every(showsInstruction), "name of a word": !changedRows.every(isNamed) };
+const changed = [...changesOf(view)].filter(([key, how]) => isWordKey(key) && how !== "new").map(([key]) => key);
+const lead = changed.filter((key) => wordOf(stateNow(), key)?.to);
+return { hidden: Object.keys(isHidden).filter((name) => isHidden[name]), rows: changedRows.length, names: changedNames.length, named: changedNames.filter((row) => within(row, byId("names")) && within(row, document.body)).length,
+    words: changed.length, there: changed.filter((key) => seen(byId(key))).length, more, leading: lead.length, whole: lead.filter(isWholeArrow).length, places,
+    cut: [...document.querySelectorAll("g.arrow")].filter((arrow) => ![arrow.dataset.from, arrow.dataset.to].every((id) => seen(byId(id)))).length };
 """
 
+# a step that changes more words may count those that do not fit, and one that changes more names may have the last ones below
+MOST, MOST_NAMES = 108, 4
 
-def in_view(page, count, sizes, same, what):
-    """At each step the sentence, the changed name and the first changed row can be seen; bound rows have their names."""
-    changed = 0
+def one_step(page, what, is_large=True):
+    """The step that is shown, and its withdrawal: the sentence, the status, the first changed row and name are in view, and nothing moves. In a
+    large window each changed word is, or is counted in its group, and both ends of each arrow are. Returns how many rows had changed, how many
+    of the two are whole in view, with all words, arrows and changed names, and how many of the others change more of them than may be asked."""
+    rows, whole, large, before = 0, 0, 0, {}
+    for act in ("add", "withdraw"):
+        if before:
+            page.type("w")
+        page.settle()
+        seen = page.run(STEP)
+        same(f"{what}, {act}: what cannot be seen", seen["hidden"], [])
+        if is_large:
+            same(f"{what}, {act}: changed words in view, or counted", seen["there"] + seen["more"], seen["words"])
+            same(f"{what}, {act}: arrows with an end out of view", seen["cut"], 0)
+        is_whole = (seen["there"], seen["whole"], seen["named"]) == (seen["words"], seen["leading"], seen["names"])
+        rows, whole, large = rows + seen["rows"], whole + is_whole, large + (not is_whole and (seen["words"] > MOST or seen["names"] > MOST_NAMES))
+        if before:
+            gone = [f"{key}: {place} to {seen['places'].get(key)}" for key, place in before.items() if seen["places"].get(key) != place]
+            same(f"{what}: what the withdrawal moves", gone[:3], [])
+        before = seen["places"]
+    return rows, whole, large
+
+
+def steps(page, count, sizes, what, script=""):
+    """Each step in each size of window; a script comes first. Returns the sums of what `one_step` does, but for the rows only at 1366 x 768."""
+    rows, whole, large = 0, 0, 0
     for width, height, scale in sizes:
         page.size(width, height, scale)
-        page.open("")
         for number in range(1, count + 1):
-            page.run("addObject(arguments[0])", number - 1)
-            for act in ("add", "withdraw"):
-                if act == "withdraw":
-                    page.run("withdraw()")
-                page.settle()
-                seen = page.run(VIEW)
-                changed += seen.pop("count")
-                same(f"{what}, {width} wide: what cannot be seen after {act} {number}", [name for name, is_seen in seen.items() if not is_seen], [])
-            page.run("addObject(arguments[0])", number - 1)
-    return changed
-
-
-# ---- scenes
-# what is whole in view: of a step its changed words, those that its groups count besides, and its arrows; of a choice its arrow, and of a
-# question the right words
-SEEN = r"""
-const stage = document.getElementById("stage").getBoundingClientRect();
-const seen = (row) => {
-    const box = row?.getBoundingClientRect();
-    return Boolean(box) && box.height > 0 && box.top >= stage.top - 2 && box.bottom <= Math.min(stage.bottom, innerHeight) + 2;
-};
-const arrowOf = (key) => document.querySelector(`g.arrow[data-from="${key}"]`);
-const isWholeArrow = (key) => {
-    const to = wordOf(stateNow(), key)?.to;
-    return Boolean(to) && arrowOf(key)?.dataset.to === to && seen(byId(key)) && seen(byId(to));
-};
-const more = [...document.querySelectorAll("#image .more-line")].filter(seen).reduce((sum, row) => sum + Number(row.textContent.match(/and (\d+) other/)?.[1] ?? 0), 0);
-"""
-STEP = SEEN + r"""
-const changed = [...changesOf(view)].filter(([key, how]) => isWordKey(key) && how !== "new").map(([key]) => key);
-const names = [...document.querySelectorAll(".name:is(.changed, .put-back)")];
-const inNames = (row) => [byId("names"), document.body].every((room) => row.getBoundingClientRect().top >= room.getBoundingClientRect().top - 2 && row.getBoundingClientRect().bottom <= Math.min(room.getBoundingClientRect().bottom, innerHeight) + 2);
-const lead = changed.filter((key) => wordOf(stateNow(), key)?.to);
-const note = byId("note");
-return { said: note.getBoundingClientRect().height > 0 && note.scrollHeight <= note.clientHeight + 1, words: changed.length, there: changed.filter((key) => seen(byId(key))).length, more, leading: lead.length, whole: lead.filter(isWholeArrow).length,
-    names: names.length, named: names.filter(inNames).length,
-    drawn: document.querySelectorAll("g.arrow").length, cut: [...document.querySelectorAll("g.arrow")].filter((arrow) => ![arrow.dataset.from, arrow.dataset.to].every((id) => seen(byId(id)))).length };
-"""
-CHOSEN = SEEN + r"""
-const keys = allReferences(stateNow()).filter((one) => one.to).map(({ id }) => id);
-const some = keys.filter((_, i) => i % Math.ceil(keys.length / 60) === 0);
-return some.map((key) => {
-    choose(key, true);
-    const isThere = isWholeArrow(key);
-    choose("", false);
-    return isThere ? "" : key;
-});
-"""
-ASKED = SEEN + r"""
-const wait = nextStep();
-if (wait?.kind !== "changes") return null;
-return wait.answers.filter((key) => !seen(byId(key))).length <= more ? [] : wait.answers;
-"""
-
-
-# a step that changes more words may count those that do not fit
-MOST = 108
-
-
-def whole_steps(page, count, same, what):
-    """At 1366 x 768, of each addition and each withdrawal: the changed names are in view, and each changed word is, or is counted in its group.
-    Returns how many of them change at most so many words, and how many of these are whole in view, with all words and arrows."""
-    page.size(1366, 768)
-    steps, whole = 0, 0
-    for number in range(1, count + 1):
-        page.open("#" + first(number))
-        for act in ("add", "withdraw"):
-            if act == "withdraw":
-                page.run("withdraw()")
-            page.settle()
-            seen = page.run(STEP)
-            where = f"{what}, {act} {number}"
-            same(f"{where}: changed words in view, or counted", seen["there"] + seen["more"], seen["words"])
-            same(f"{where}: arrows with an end out of view, changed names, and the sentence", (seen["cut"], seen["named"], seen["said"]), (0, seen["names"], True))
-            if seen["words"] <= MOST:
-                steps, whole = steps + 1, whole + ((seen["there"], seen["whole"]) == (seen["words"], seen["leading"]))
-    print(f"{page.name}: {whole} of {steps} steps are whole in view at 1366 x 768, {what}", flush=True)
-    return steps, whole
-
-
-def scenes(page, path, count, same, what):
-    """At 1366 x 768: of the choices in each state nine of ten are whole in view. The right words of each question are on the stage."""
-    page.load(path)
-    page.size(1366, 768)
-    chosen, wholly = 0, 0
-    for number in range(1, count + 1):
-        page.open("#" + first(number))
-        page.settle()
-        missing = page.run(CHOSEN)
-        chosen, wholly = chosen + len(missing), wholly + missing.count("")
-    asked = 0
-    for guide in range(1, page.run("return GUIDES.length")):
-        for done in range(page.run("return GUIDES[arguments[0]].steps.length - 1", guide)):
-            page.run("goTo(arguments[0], arguments[1])", guide, done)
-            page.settle()
-            out = page.run(ASKED)
-            asked += out is not None
-            same(f"{what}, question {done + 1} of lesson {guide}: right words that are not on the stage", out or [], [])
-    same(f"{what}: choices whole in view, nine of ten", (10 * wholly >= 9 * chosen, chosen > 0), (True, True))
-    print(f"whole in view at 1366 x 768, {what}: {wholly} of {chosen} choices; {asked} questions have their right words there", flush=True)
+            page.open("#" + first(number))
+            page.run(script)
+            found = one_step(page, f"{what}, {width} wide, object {number}", width == 1366 and not script)
+            rows, whole, large = rows + found[0], whole + found[1] * (width == 1366), large + found[2] * (width == 1366)
+    return rows, whole, large
 
 
 # ---- choices
@@ -370,25 +184,32 @@ const left = without.length === 0 ? 0 : [...groups].reduce((sum, group) => sum +
 const shown = new Set(arrows.map(([row]) => row));
 const nowhere = drawn.references.filter((one) => one.to && byId(one.id) && !shown.has(byId(one.id))).length;
 const counted = drawn.references.filter((one) => byId(one.id)).length + left;
-return { faults, ends: arrows.length, all: drawn.references.length, counted, nowhere, said: document.getElementById("note").textContent };
+return { faults, ends: arrows.length, all: drawn.references.length, counted, nowhere, isWhole: !wordOf(stateNow(), key)?.to || isWholeArrow(key), said: byId("note").textContent };
+"""
+# all names, and so many of the words that refer to something
+CHOOSE_FROM = """
+const names = stateNow().nameList.map((name) => `name ${name}`), words = allReferences(stateNow());
+return [...names, ...words.filter((_, i) => i % Math.ceil(words.length / arguments[0]) === 0).map(({ id }) => id)];
 """
 
 
-def choices(page, same, what, keys, uses):
-    """Both ends of each arrow of a choice are seen; all references have a row or are counted, and they are no fewer than those of
-    the map."""
-    ends = 0
+def choices(page, what, keys, uses):
+    """Both ends of each arrow of a choice are seen, and of nine of ten words the own arrow; all references have a row or are counted, and they are
+    no fewer than those of the map."""
+    ends, wholly = 0, []
     for key in keys:
         seen = page.run(CHOICE, key)
         ends += seen["ends"]
+        wholly += [] if key.startswith("name ") else [seen["isWhole"]]
         same(f"{what}: {key}", (seen["faults"][:2], seen["nowhere"], seen["counted"]), ([], 0, seen["all"]))
         if key.startswith("name "):
             same(f"{what}: {key} in words", re.search(r"(\d+) words? refer", seen["said"])[1], str(seen["all"]))
             same(f"{what}: {key} has as many references as in the map", seen["all"] >= uses.get(key[5:], 0), True)
+    same(f"{what}: choices whole in view, nine of ten", 10 * sum(wholly) >= 9 * len(wholly) or "1366" not in what, True)
     return ends
 
 
-def whole_and_back(page, same):
+def whole_and_back(page):
     """Key o shows the whole image with the choice, and the scene again; Escape leads back to the step."""
     word = page.run("return allReferences(stateNow()).filter((one) => one.to)[0].id")
     page.run("document.activeElement.blur(); choose('', false)")
@@ -407,7 +228,7 @@ def whole_and_back(page, same):
 FIND = "byId('find').value = arguments[0]; find(); return matches.map(({ id }) => [id.split('-')[0], Number(id.split('-')[1])]);"
 
 
-def search(tools, page, same, files):
+def search(tools, page, files):
     """`/jsr pc,` finds each such instruction, in folds too: as many as v7-lesson lists, and those of the map of v7-explain."""
     lines = tools.step(len(files), files)
     wanted = [["text", int(line.split()[1], 8)] for line in lines if "jsr pc," in line]
@@ -431,7 +252,8 @@ def search(tools, page, same, files):
     return len(found), len(mapped)
 
 
-CLICKED = {"Withdraw": "#withdraw", "a word": ".word.bound", "a name": ".name.changed", "a fold": ".fold", "Addresses": "#addresses"}
+# what is clicked with so many objects, or with one fewer
+CLICKED = {"an object": "#add{count}", "Withdraw": "#withdraw", "a word": ".word.bound", "a name": ".name", "a fold": ".fold", "Addresses": "#addresses"}
 CLICK = """
 const element = document.querySelector(arguments[0]);
 if (element.matches("select")) element.value = "0";
@@ -439,18 +261,18 @@ element.dispatchEvent(element.matches("select") ? new Event("change") : new Mous
 """
 
 
-def response(page, objects, clicks):
-    """Prints how long a click takes in its state, with the two frames after it: the middle of five, in milliseconds of the processor
+def response(page, objects, count):
+    """Prints how long a click takes, with the two frames after it: the middle of five, in milliseconds of the processor
     in Chromium, and by the clock in Firefox, which does not say more. The aim is 100; docs/internals/COSTS.md says what misses it."""
     page.size(1366, 768)
     times = {}
-    for what, (state, selector) in clicks.items():
+    for what, selector in CLICKED.items():
         taken = []
         for _ in range(5):
-            page.open("#" + state)
+            page.open("#" + first(count - (what == "an object")))
             page.settle()
             before = page.busy()
-            page.run(CLICK, selector)
+            page.run(CLICK, selector.format(count=count))
             page.settle()
             taken.append(page.busy() - before)
         times[what] = sorted(taken)[2]
@@ -458,47 +280,26 @@ def response(page, objects, clicks):
     print(f"{page.name}: milliseconds for a click with {objects}: {said}", flush=True)
 
 
-def response_with_all(page, path, count):
-    """The same with all objects of a page."""
-    page.load(path)
-    response(page, "all objects", {what: (first(count), selector) for what, selector in CLICKED.items()})
-
-
-# all names, and so many of the words that refer to something
-CHOOSE_FROM = """
-const names = stateNow().nameList.map((name) => `name ${name}`), words = allReferences(stateNow());
-return [...names, ...words.filter((_, i) => i % Math.ceil(words.length / arguments[0]) === 0).map(({ id }) => id)];
-"""
-
-
-def stage(tools, page, path, files, layouts, same, what, sizes=SIZES):
-    """All of this, with some objects."""
-    began = time.monotonic()
+def stage(tools, page, path, files, what, sizes=SIZES):
+    """All of this, with some objects. Returns how many steps are whole in view at 1366 x 768, and how many large ones are not."""
+    began, uses = time.monotonic(), tools.uses(files)
+    same("uses in the map", sum(uses.values()) > 0, True)
     page.load(path)
     page.size(1366, 768)
-    page.open("#" + first(len(files)))
-    counts = {"words of objects": compare_given(page, files, same), "places of words": 0, "ends of arrows": 0, "arrows of choices": 0}
+    counts = {"ends of arrows": 0, "arrows of choices": 0}
     for number in {2, 5, len(files)}:
         page.open("#" + first(number))
-        places, ends = compare_ends(tools, page, files[:number], layouts, same, 5 if number > 5 or not page.counts_processor else 1)
-        counts["places of words"] += places
-        counts["ends of arrows"] += ends
-    counts["things that stay"] = stands(page, len(files), sizes, same, what)
-    counts["words that changed"] = in_view(page, len(files), sizes, same, what)
-    six_clicks(page, sizes, same)
-    uses = tools.uses(files)
-    same("uses in the map", sum(uses.values()) > 0, True)
+        counts["ends of arrows"] += compare_ends(tools, page, files[:number], 5 if number > 5 or not page.counts_processor else 1)
+    counts["rows that changed"], whole, large = steps(page, len(files), sizes, what)
     for width, height, scale in sizes:
         page.size(width, height, scale)
-        page.open("#" + first(len(files)))
-        counts["arrows of choices"] += choices(page, same, f"{what}, {width} wide", page.run(CHOOSE_FROM, 20), uses)
-        whole_and_back(page, same)
-    whole = whole_steps(page, len(files), same, what)
-    if page.counts_processor:
-        scenes(page, path, len(files), same, what)
+        for number in {5, len(files)} if width == 1366 else {len(files)}:
+            page.open("#" + first(number))
+            counts["arrows of choices"] += choices(page, f"{what}, {number} objects, {width} wide", page.run(CHOOSE_FROM, 20), uses if number == len(files) else {})
+        whole_and_back(page)
     page.size(1366, 768)
     page.open("#" + first(len(files)))
-    counts["found calls"], counts["calls in the map"] = search(tools, page, same, files)
+    counts["found calls"], counts["calls in the map"] = search(tools, page, files)
     same("nothing was measured of", [name for name, count in counts.items() if count == 0], [])
-    print(f"on the stage, {what}, {page.name}: " + ", ".join(f"{count} {name}" for name, count in counts.items()) + f", in {time.monotonic() - began:.0f} s", flush=True)
-    return whole
+    print(f"on the stage, {what}, {page.name}: {whole} of {2 * len(files)} steps whole, " + ", ".join(f"{count} {name}" for name, count in counts.items()) + f", in {time.monotonic() - began:.0f} s", flush=True)
+    return whole, large

@@ -1,13 +1,15 @@
-"""Uses the page of the lesson as a student does: the first view, the tour and the lessons by keys, steps back, marks, folds."""
+"""Uses the page of the lesson as a student does: the first view, the tour and the lessons by keys, steps back, marks, folds. A check has the
+programs, the page as it was loaded, at 1366 x 768, and the objects; it returns how many things it has counted, if it counts some."""
 import os
 import re
 
 from tests.lib.files import read_bytes, write
 from tests.lib.objects import unpack
 from tests.page.page_browser import Keys
-from tests.page.page_data import object_of, size_said
-from tests.page.page_model import Given, Session, addend
-from tests.page.page_stage import VIEW, first
+from tests.page.page_lessons import answer_said
+from tests.page.page_model import Given, Session, addend, asked
+from tests.page.page_stage import first, steps
+from tests.page.page_tools import LAYOUTS, object_of, same, size_said
 
 FIRST = """
 const text = (selector) => {
@@ -45,7 +47,7 @@ return [...document.querySelectorAll("button, summary, [tabindex]")].filter((e) 
 """
 
 
-def first_view(page, same):
+def first_view(_, page, __):
     page.open("")
     seen = page.run(FIRST)
     same("the title", (seen["title"], seen["titles"]), ("What a linker does", 1))
@@ -60,7 +62,7 @@ def first_view(page, same):
     same("the legend after the first step", page.run("return document.getElementById('legend').checkVisibility()"), False)
 
 
-def roles(page, same):
+def roles(_, page, __):
     """Names and roles, as the browser tells them to a reader of the screen."""
     page.open("#objects=1,2")
     tree = page.roles()
@@ -81,10 +83,9 @@ def roles(page, same):
     same("the focus after the first button", page.run("return document.activeElement.id"), "image")
 
 
-def stops(page, compiled, same):
+def stops(_, page, files):
     """Image, names and marks are one stop each; arrow keys move inside."""
-    page.load(compiled)
-    page.open("#objects=1,2,3,4,5,6,7,8,9,10,11,12,13,14,15,16")
+    page.open("#" + first(len(files)))
     same("stops of sixteen objects", page.run(STOPS) < 60, True)
     same("stops in the image", page.run("return document.querySelectorAll('#image [tabindex], #image button').length"), 0)
     same("a tenth object has no key", page.run("return [...document.querySelectorAll('.card')].map((card) => card.querySelectorAll('kbd').length)"), [1] * 9 + [0] * 7)
@@ -105,9 +106,8 @@ def stops(page, compiled, same):
     same("Enter opens a fold", page.run("return document.querySelectorAll('.word').length") > before, True)
 
 
-def keys(page, default, same):
+def keys(_, page, __):
     """Keys with Caps Lock, and switched off."""
-    page.load(default)
     event = "document.dispatchEvent(new KeyboardEvent('keydown', { key: arguments[0], shiftKey: arguments[1], ctrlKey: arguments[2], bubbles: true }));"
     page.type("1", "2")
     page.run(event, "W", False, False)
@@ -123,43 +123,27 @@ def keys(page, default, same):
     same("keys that are on again", page.run("return location.hash"), "#withdrawn=1")
 
 
-def history(page, default, same):
+def history(_, page, __):
     """The browser's Back and Forward are steps."""
-    page.load(default)
     page.type("1", "2", "5")
     page.back()
     page.wait("return location.hash === '#objects=1,2'")
     same("Back", page.run("return view.list"), [0, 1])
-    page.forward()
+    page.run("history.forward()")
     page.wait("return location.hash === '#objects=1,2,5'")
     same("Forward", page.run("return view.list"), [0, 1, 4])
 
 
-def press(page, name):
-    """Goes to a button by the tabulator, and presses it."""
-    for _ in range(60):
-        if page.run(FOCUS) == name:
-            page.type(Keys.ENTER)
-            return True
-        page.type(Keys.TAB)
-    return False
-
-
-def tour(page, default, same):
+def tour(_, page, __):
     """Five steps, by keys alone, and dismissed by Escape."""
-    page.load(default)
-    for _ in range(30):
-        page.type(Keys.TAB)
-        if page.run("return document.activeElement.textContent") == "Take the tour, 5 steps":
-            break
-    page.type(Keys.ENTER)
+    page.press("Take the tour, 5 steps")
     told = []
     for number in range(1, 6):
         page.wait("return new URLSearchParams(location.hash.slice(1)).get('tour') === arguments[0]", str(number))
         told.append(page.run("return document.querySelector('#guide .says').textContent"))
         same(f"the tour at {number}", page.run("return document.querySelectorAll('.toured').length"), 1)
         if number < 5:
-            same(f"the tour, next at {number}", press(page, "next"), True)
+            page.press("next")
     same("steps of the tour", (len(set(told)), min(map(len, told)) > 60), (5, True))
     page.back()
     page.wait("return new URLSearchParams(location.hash.slice(1)).get('tour') === '4'")
@@ -174,111 +158,60 @@ if (wait.kind === "value" || (wait.kind === "where" && wait.number !== null)) re
 return [wait.kind === "where" ? "n" : String(1 + choicesOf(wait).findIndex((choice) => choice.isRight))];
 """
 WRONG = "return choicesOf(nextStep()).findIndex((choice) => !choice.isRight) + 1;"
-
-
-def take_step(page, what, same):
-    """Answers a question by keys, if one is open, and makes the step. Returns what the page has said, and how many keys it took."""
-    done, asked = page.run("return [view.done, nextStep().ask ? prose(nextStep().ask) : '']")
-    strokes, said = 0, []
-    if asked:
-        keys = page.run(RIGHT)
-        same(f"{what}: the question is announced", asked in page.run("return document.getElementById('live').textContent"), True)
-        page.type(*keys)
-        strokes += 1
-        if page.run("return document.activeElement.id") == "number":
-            page.type(Keys.ENTER)
-            strokes += 1
-        said.append(page.run("return document.getElementById('live').textContent"))
-    page.type(Keys.ENTER)
-    page.wait("return view.done === arguments[0]", done + 1)
-    said.append(page.run("return document.getElementById('live').textContent"))
-    if asked:
-        same(f"{what}: the answer", page.run("return document.querySelector('#guide .is-right')?.textContent.slice(0, 5)"), "Right")
-        same(f"{what}: keys", strokes + 1 <= 3, True)
-        same(f"{what}: the answer is announced", "You chose" in said[0], True)
-    told = page.run("return GUIDES[view.guide].steps[view.done].says.map(prose)")
-    same(f"{what}: what is said", [text for text in told if text not in said[-1]], [])
-    return bool(asked)
-
-
-def announced(page, log):
-    """Adds what the accessibility tree has in its live place to a log, if it has changed."""
-    text = page.live()
-    if not log or log[-1] != text:
-        log.append(text)
-
-
-# what a lesson has to say from this step to the next one: what comes before the answer, and what comes after it
+# what a lesson has to say at a step: what comes before the answer, and whether a question is open
 SENTENCES = """
 const wait = nextStep();
-return [...GUIDES[view.guide].steps[view.done].says.map(prose), ...(wait && wait.ask ? [prose(wait.ask), ...choicesOf(wait).map(givenText)] : [])];
+return [[...GUIDES[view.guide].steps[view.done].says.map(prose), ...(wait?.ask ? [prose(wait.ask), ...choicesOf(wait).map(givenText)] : [])], Boolean(wait?.ask), view.done];
 """
 
 
-def logged(page, number, same):
-    """A lesson by keys: the log of the accessibility tree has each sentence of it in order, with choices, answers and verdicts."""
+def by_keys(page, number):
+    """A lesson by keys, with the right answers, each with at most three: the place that is announced, as the accessibility tree has it, has each
+    sentence in order, with choices, answers and verdicts. Returns how many questions and sentences it has."""
     page.open(f"#lesson={number}&done=0")
-    log, wanted = [], []
-    announced(page, log)
+    log, wanted, count = [page.live()], [], 0
     for _ in range(page.run("return GUIDES[view.guide].steps.length - 1")):
-        wanted += page.run(SENTENCES)
-        done, asked = page.run("return [view.done, nextStep().ask ? prose(nextStep().ask) : '']")
-        if asked:
+        sentences, is_asked, done = page.run(SENTENCES)
+        wanted += sentences
+        if is_asked:
             page.type(*page.run(RIGHT))
             if page.run("return document.activeElement.id") == "number":
                 page.type(Keys.ENTER)
-            announced(page, log)
-            wanted.append("You chose ")
+            log.append(page.live())
         page.type(Keys.ENTER)
         page.wait("return view.done === arguments[0]", done + 1)
-        announced(page, log)
-        wanted += ["Right: "] if asked else []
-    wanted += page.run(SENTENCES)
+        log.append(page.live())
+        wanted += ["You chose ", "Right: "] if is_asked else []
+        count += is_asked
+        if is_asked:
+            same(f"lesson {number}, step {done + 1}: the answer", page.run("return document.querySelector('#guide .is-right')?.textContent.slice(0, 5)"), "Right")
+    wanted += page.run(SENTENCES)[0]
     text, at, missing = " ".join(log), 0, []
     for sentence in wanted:
         found = text.find(" ".join(sentence.split()), at)
         missing += [sentence] if found < 0 else []
         at = max(at, found)
     same(f"lesson {number}: what the log of the accessibility tree does not have in order", missing, [])
-    return len(wanted)
+    return count, len(wanted)
 
 
-def log_of_lessons(page, paths, same):
-    count = 0
-    for path in paths:
-        page.load(path)
-        count += sum(logged(page, number, same) for number in range(1, page.run("return GUIDES.length")))
-    print(f"{count} sentences, choices and verdicts of lessons are in the log of the accessibility tree, in order", flush=True)
-
-
-def by_keys(page, path, same):
-    """All lessons of a page and its practice by keys alone, with the right answers. Returns how many questions they have."""
-    page.load(path)
-    asked = 0
-    titles = page.run("return GUIDES.map(({ title }) => title)")
+def lessons(_, page, __):
+    """The menu, and all lessons and the practice by keys alone."""
     page.run("document.getElementById('guides').focus()")
     page.type(Keys.ENTER)
-    same("the menu", page.run("return document.querySelectorAll('#guide button').length"), len(titles))
-    for number in range(1, len(titles)):
-        page.open(f"#lesson={number}&done=0")
-        for done in range(page.run("return GUIDES[view.guide].steps.length - 1")):
-            asked += take_step(page, f"{titles[number]}, step {done + 1}", same)
-    return asked
+    same("the menu", page.run("return document.querySelectorAll('#guide button').length === GUIDES.length"), True)
+    questions, sentences = zip(*(by_keys(page, number) for number in range(1, page.run("return GUIDES.length"))))
+    print(f"{sum(questions)} questions were answered by keys; {sum(sentences)} sentences, choices and verdicts were announced", flush=True)
+    return sum(questions)
 
 
-def lessons(page, default, program, tables, same):
-    """The lessons of three pages by keys alone; then a wrong answer."""
-    asked = by_keys(page, program, same), by_keys(page, tables, same), by_keys(page, default, same)
-    same("questions that were answered", (asked[0] >= 10, asked[1] >= 15, asked[2] >= 20), (True, True, True))
-    print(f"{sum(asked)} questions were answered by keys, each with at most three strokes", flush=True)
-    page.open("#objects=1&lesson=1&done=1")
-    page.type("w", "2", "p", "a")
-    same("keys under an open question", page.run("return [view.list, view.layout, view.done]"), [[0], -1, 1])
+def wrong_answer(_, page, __):
+    """The reason of a wrong answer, and what the next step says of it."""
     page.open("#objects=1&lesson=1&done=1")
     page.type(str(page.run(WRONG)))
-    same("the reason of a wrong answer", page.run("return [document.querySelector('#guide .reason').textContent.length > 20, document.getElementById('live').textContent.includes(document.querySelector('#guide .reason').textContent)]"), [True, True])
+    same("the reason of a wrong answer", page.run("const reason = document.querySelector('#guide .reason').textContent; return [reason.length > 20, byId('live').textContent.includes(reason)]"), [True, True])
     page.type("q")
-    same("q, from the question", page.run("return document.activeElement.id"), "image")
+    same("q, from the question", page.run(FOCUS), "image")
     page.type("q")
     same("q, back to the question", page.run("return document.getElementById('guide').contains(document.activeElement)"), True)
     page.click("next")
@@ -291,7 +224,6 @@ def lessons(page, default, program, tables, same):
 # the wrong answers of the open question, each with the reason that the page gives, and the list that is there
 WRONG_ANSWERS = """
 const wait = nextStep();
-if (!wait?.ask) return [];
 const wrong = choicesOf(wait).filter((one) => !one.isRight);
 const known = namesOf(stateNow()).find(({ name }) => name === wait.name);
 const numbers = { value: [wait.before, wait.number + 2], where: [known?.number ?? 2, (wait.number ?? 0) + 2, 0] }[wait.kind] ?? [];
@@ -302,61 +234,53 @@ return wrong.map((given) => [wait.kind, wait.act?.[0] ?? "", givenText(given), r
 """
 
 
-def word_wanted(line):
-    """What `v7-lesson` says of a word, as a reason says it."""
-    said = re.match(r"(?:text|data) [0-7]{6} [0-7]{6} (?:pc )?(waits for \S+|text [0-7]{6}|data [0-7]{6}|bss [0-7]{6}|\w+)", line)[1]
-    return f"It {said}" if said.startswith("waits") else "It is a number" if said == "a" and " pc " not in line else f"refers to {said}"
+def word_wanted(word, session):
+    """What a reason says of a word, by the model."""
+    if word.kind is None:
+        return f"It waits for {word.name}"
+    return f"refers to {session.place(word)}" if word.kind or word.pc else "It is a number"
 
 
-def reason_wanted(kind, act, text, lines, known, wait, adds, session):
-    """How the reason of a wrong answer begins, or what it has, by what `v7-lesson` and the model say of the state."""
-    line_of = lambda key: next((line for line in lines if line.startswith(key + " ")), "")
+def reason_wanted(kind, act, text, known, wait, adds, session):
+    """How the reason of a wrong answer begins, or what it has, by what the model says of the state."""
+    words, key = session.rows(), wait["word"] if kind == "value" else ""
     if kind == "changes" and text != "no word":
-        wanted = word_wanted(line_of(text))
+        part, offset = text.split()
+        wanted = word_wanted(words[f"{part}-{int(offset, 8)}"], session)
         return "The addition of " if act == "withdraw" and "waits" not in wanted else wanted
     if kind == "changes":
         return "will change"
     if kind == "value":
-        part, offset = wait["word"].split("-")
-        line = line_of(f"{part} {int(offset):06o}")
         if int(text, 8) == wait["before"]:
             return "That is what the word is now"
         if adds[1]:
             return f"{adds[0]} defines {adds[1]}: add the place of {adds[1]} to the word, modulo 200000."
-        if act == "link" and " pc " in line:
-            word = session.words[part, int(offset)]
-            return f"Take the address of {word.name + addend(word.added) if word.name else session.place(word)} in this link, and subtract that of the place after the word."
-        return word_wanted(line) if act == "link" else "subtract" if act == "withdraw" else "the word"
+        if act == "link" and words[key].pc:
+            return f"Take the address of {words[key].name + addend(words[key].added) if words[key].name else session.place(words[key])} in this link, and subtract that of the place after the word."
+        return word_wanted(words[key], session) if act == "link" else "subtract" if act == "withdraw" else "the word"
     if kind == "where" and known and act == "link" and text.isdigit() and int(text, 8) == known[1] and known[0] in ("text", "data", "bss"):
         return f"That is its offset in {known[0]}"
     return ""
 
 
-def reasons(tools, page, paths, same, least=80):
+def reasons(_, page, files):
     """Each wrong answer has a reason, which follows from the state; each question has a choice that is wrong."""
     count = 0
-    for path, files in paths:
-        page.load(path)
-        for guide in range(1, page.run("return GUIDES.length")):
-            for done in range(page.run("return GUIDES[arguments[0]].steps.length - 1", guide)):
-                page.run("goTo(arguments[0], arguments[1])", guide, done)
-                wrong = page.run(WRONG_ANSWERS)
-                same(f"lesson {guide}, question {done + 1}: a wrong answer", not page.run("return isAsked()") or len(wrong) > 0, True)
-                for kind, act, text, reason, here, known, wait, adds in wrong:
-                    lines = tools.step(len(here), [files[number] for number in here])
-                    wanted = reason_wanted(kind, act, text, lines, known, wait, adds, Session([Given(files[number]) for number in here]))
-                    same(f"lesson {guide}, question {done + 1}, {text}: {reason}", (len(reason) > 15, wanted in reason, "undefined" in reason and kind != "choice"), (True, True, False))
-                    count += 1
-    print(f"{count} wrong answers have a reason", flush=True)
-    same("wrong answers", count >= least, True)
+    for question in asked(page):
+        wrong = page.run(WRONG_ANSWERS)
+        same(f"{question}: a wrong answer", len(wrong) > 0, True)
+        for kind, act, text, reason, here, known, wait, adds in wrong:
+            wanted = reason_wanted(kind, act, text, known, wait, adds, Session([Given(files[number]) for number in here]))
+            same(f"{question}, {text}: {reason}", (len(reason) > 15, wanted in reason, "undefined" in reason and kind != "choice"), (True, True, False))
+        count += len(wrong)
+    return count
 
 
 NUMBERS = {"12": 10, "10.": 10, "0xa": 10, "0x0A": 10, "9": 9, "-2": 65534, "177776": 65534, "0o12": 10, "x": None, "1g": None}
 
 
-def numbers(page, default, same):
+def numbers(_, page, __):
     """Numbers in octal, decimal and hexadecimal."""
-    page.load(default)
     for text, number in NUMBERS.items():
         seen = page.run("const number = numberOf(arguments[0]); return Number.isNaN(number) ? null : number", text)
         same(f"the number {text}", seen, number)
@@ -367,9 +291,8 @@ def numbers(page, default, same):
     same("a lesson in decimal", page.run("return [prose(nextStep().ask), document.querySelector('#guide .ask').textContent.slice(0, arguments[0]), numberOf('16')]", len(asked)), [asked, asked, 16])
 
 
-def leads(page, default, same):
+def leads(_, page, __):
     """Marks lead to their words, names to theirs. The bar stays, and the image fills its column."""
-    page.load(default)
     page.size(1280, 300)
     page.open("#objects=1,2")
     page.run("document.getElementById('main').scrollTop = 10000; document.querySelector('#marks [data-key=text-6]').click()")
@@ -399,22 +322,8 @@ def leads(page, default, same):
     same("the image fills its column", fill > 0.6, True)
 
 
-def texts(page, default, same):
-    """Places before a segment, instructions, zoom, dark and light."""
-    page.load(default)
-    page.open("#objects=3,4")
-    same("a place before a segment", page.run("return document.querySelector('#text-2 .place').textContent"), " \u2212 2")
-    page.open("#objects=1")
-    page.run("DATA.objects[0].instructions = ['mov _count,r0', '', 'jsr pc,_twice', '', 'rts pc']; showAll();")
-    same("instructions in the place of numbers", page.run("return [...document.querySelectorAll('#image .meaning')].map((e) => e.textContent.trim())"),
-         ["_main: mov _count,r0", "waits for _count", "jsr pc,_twice", "waits for _twice", "rts pc"])
-    page.type("p")
-    same("instructions beside sums", page.run("return [...document.querySelectorAll('#image .meaning')].map((e) => e.textContent.trim())")[:2],
-         ["_main: mov _count,r0", "177774 + 000012 = 000006 _count"])
-    page.run("document.querySelector('.given').open = false; document.querySelector('.given').open = true;")
-    page.wait("return document.querySelector('.listing') !== null")
-    same("instructions in an object", page.run("return [...document.querySelectorAll('.card')[0].querySelectorAll('.listing tr')].map((e) => e.lastChild.textContent)"),
-         ["text", "mov _count,r0", "051 = symbol 2, pc / _count", "jsr pc,_twice", "031 = symbol 1, pc / _twice", "rts pc"])
+def texts(_, page, __):
+    """Zoom, dark and light."""
     css = page.run("return document.querySelector('style').textContent")
     same("no size follows the window's width", re.findall(r"[\d.]+(?:vw|vi|vmin|vmax)\b", css), [])
     same("sizes of text in pixels", re.findall(r"font(?:-size)?:[^;]*\dpx", css), [])
@@ -453,10 +362,10 @@ return { rows: rows.length, roles: rows.filter((row) => row.getAttribute("role")
 """
 
 
-def old_browser(page, default, same, more=""):
+def old_browser(_, page, __, more=""):
     """The oldest browsers, by taking away what they lack: words have roles and labels, and can be chosen."""
-    kept = page.before_loading(OLD + more)
-    page.load(default)
+    kept, path = page.before_loading(OLD + more), page.url.removeprefix("file://")
+    page.load(path)
     page.open("#objects=1,2")
     page.type("3", "w")
     same("steps in an old browser", page.run("return view.list.length"), 2)
@@ -464,23 +373,16 @@ def old_browser(page, default, same, more=""):
     wanted = {"rows": 7, "roles": 7, "chosen": 1, "groups": 1, "arrows": 1, "sentence": True}
     same("an old browser", page.run(OLD_SEEN), wanted)
     page.as_before(kept)
-    page.load(default)
+    page.load(path)
 
 
-def presenter(page, default, compiled, count, same):
-    """Large words for a projector: at least 28 pixels, two objects in view, no legend. At each step the sentence and what changed are seen."""
-    page.load(compiled)
-    for width, height in ((1024, 768), (1366, 768)):
-        page.size(width, height)
-        page.open("#" + first(count))
-        page.type("l")
-        for number in range(count, 0, -1):
-            for act in ("show({ ...view, gone: -1 })", "withdraw()"):
-                page.run(act)
-                page.settle()
-                seen = page.run(VIEW)
-                same(f"for a projector, {width} wide: what cannot be seen of step {number}, {act}", [name for name, is_seen in seen.items() if name != "count" and not is_seen], [])
-    page.load(default)
+def presenter(_, page, files):
+    """Large words for a projector. At each step the sentence and what changed are seen."""
+    return steps(page, len(files), [(1024, 768, 1), (1366, 768, 1)], "for a projector", "switchPresenter()")[0]
+
+
+def projector(_, page, __):
+    """For a projector letters have at least 28 pixels, and two objects are in view, without the legend."""
     page.size(1920, 1080)
     page.open("#objects=1,2")
     page.type("l")
@@ -488,12 +390,10 @@ def presenter(page, default, compiled, count, same):
     seen = page.run("const size = (name) => parseFloat(getComputedStyle(document.querySelector(name)).fontSize); const stage = document.getElementById('stage').getBoundingClientRect();"
                     "return [size('#image .word'), size('#note'), document.getElementById('legend').checkVisibility(), [...document.querySelectorAll('#image .word')].every((row) => row.getBoundingClientRect().bottom <= stage.bottom)]")
     same("words for a projector", (seen[0] >= 28, seen[1] >= 24, seen[2:]), (True, True, [False, True]))
-    page.size(1366, 768)
 
 
-def paper(page, default, same):
+def paper(_, page, __):
     """A lesson on paper, without answers and with them."""
-    page.load(default)
     page.run("window.print = () => {}")
     page.open("#lesson=2&done=0")
     page.run("window.print = () => { window.printed = document.body.classList.contains('handout'); }")
@@ -530,9 +430,8 @@ def pieces(bounds):
     return [f"{part}, {size_said(end - start)}, {start:06o} to {end:06o}" for part, start, end in bounds if end > start]
 
 
-def maps(tools, page, path, files, layouts, same):
+def maps(tools, page, files):
     """The memory maps have the segments of objects and links where the files have them; commons and bss are one in a file."""
-    page.load(path)
     page.open("#" + first(len(files)))
     shown = page.run(MAPS)
     for (title, titles, _), file in zip(shown, files):
@@ -541,41 +440,38 @@ def maps(tools, page, path, files, layouts, same):
         same(f"the map of {file}", (title, titles), (os.path.basename(file), wanted))
     sizes = [unpack(read_bytes(file)).header[1:4] for file in files]
     shares = [[[number, size[which]] for number, size in enumerate(sizes, 1) if size[which]] for which in range(3)]
-    for (title, titles, shared), (name, options) in zip(shown[len(files):], layouts.items()):
+    for (title, titles, shared), (name, options) in zip(shown[len(files):], LAYOUTS.items()):
         same(f"the shares of a link, {name}", shared, [one for one in shares if one])
-        header = tools.link(options, files)["header"]
-        base = {0o407: header[1], 0o410: (header[1] + 8191) // 8192 * 8192, 0o411: 0}[header[0]]
+        linked = tools.link(options, files)
+        header, base = linked["header"], linked["base"]
         rest = [one for one in titles if not one.startswith(("text", "data"))]
         wanted = pieces([("text", 0, header[1]), ("data", base, base + header[2])])
         same(f"the map of a link, {name}", (title, [one for one in titles if one not in rest]), (f"ld {name}" if options else "ld", wanted))
         same(f"the map of a link, {name}: bytes after data", sum(int(one.split()[1], 8) for one in rest), header[3])
-    same("maps", len(shown), len(files) + len(layouts))
+    same("maps", len(shown), len(files) + len(LAYOUTS))
 
 
+# the steps of the practice: what is asked, in the form of the lessons of a page, and the act
 PRACTICE = """
-return GUIDES[GUIDES.length - 1].steps.map(({ kind, answers, word, name, number, before, act }) => ({ kind, answers, word: word ?? "", name: name ?? "", number: number ?? null, before: before ?? null, act }));
+const askedBy = ({ kind, answers, word, name, number, before }) => ({ changes: [kind, ...answers], value: [kind, word, number, before], where: [kind, name, number] })[kind];
+return GUIDES[GUIDES.length - 1].steps.filter(({ act }) => act).map((one) => [askedBy(one) ?? null, one.act]);
 """
 
 
-def practice(tools, page, path, files, same):
+def practice(tools, page, files):
     """The answers of the practice are what the programs say."""
-    page.load(path)
-    lines = lambda paths: tools.step(len(paths), paths)
-    value = lambda paths, key: next(int(line.split()[2], 8) for line in lines(paths) if line.startswith(f"{key.split('-')[0]} {int(key.split('-')[1]):06o} "))
     here, count = [], 0
-    for one in [one for one in page.run(PRACTICE) if one["act"]]:
-        act, *rest = one["act"]
-        after = [*here, files[rest[0]]] if act == "add" else here[:-1] if act == "withdraw" else here
-        if one["kind"] == "changes":
-            marks = [line.split() for line in lines(after) if line.startswith(("mark text", "mark data"))]
-            same(f"practice, {len(after)} objects: what changes", sorted(one["answers"]), sorted(f"{mark[1]}-{int(mark[2], 8)}" for mark in marks))
-        elif one["kind"] == "value":
-            same(f"practice, {len(after)} objects: {one['word']}", (one["number"], one["before"]), (value(after, one["word"]), value(here, one["word"])))
-        elif one["kind"] == "where":
-            table = [line for line in tools.link([], after)["table"].splitlines() if line[9:] == one["name"] and line[7] in "TDBA"]
-            same(f"practice: where {one['name']} is", one["number"], int(table[0][:6], 8) if table else None)
-        here, count = after, count + bool(one["kind"])
-    same("questions of the practice", count > 3, True)
+    for question, (act, *rest) in page.run(PRACTICE):
+        after = [*here, files[rest[0]]] if act == "add" else here
+        marks = [line.split() for line in tools.step(len(after), after) if line.startswith(("mark text", "mark data"))]
+        if question:
+            wanted = answer_said(tools, question, after, act, rest, [f"{mark[1]}-{int(mark[2], 8)}" for mark in marks])
+            same(f"practice, {len(after)} objects", question, wanted)
+        if question and question[0] == "value":
+            part, offset = question[1].split("-")
+            same(f"practice, {len(after)} objects, before", f"{part} {int(offset):06o} {question[3]:06o}" in " ".join(tools.step(len(here), here)), True)
+        here, count = after, count + bool(question)
+    return count
 
 
 # gives a right or a wrong answer to the open question
@@ -586,9 +482,8 @@ return predictionOf(view.done + 1).isRight;
 """
 
 
-def result(page, default, same):
+def result(_, page, __):
     """At the end of a lesson the page says how many answers were right and wrong, and how many questions are open."""
-    page.load(default)
     page.open("#lesson=7&done=0")
     given = []
     for done in range(page.run("return GUIDES[7].steps.length - 1")):
@@ -598,9 +493,8 @@ def result(page, default, same):
     same("the result of a lesson", (given, page.run("return document.querySelector('#guide .result')?.textContent")), ([True, False, True], "Your answers: 2 right, 1 wrong, 1 open."))
 
 
-def distances(page, program, same):
+def distances(_, page, __):
     """A distance is one within a segment, or in a link; elsewhere the page says that a link makes it."""
-    page.load(program)
     page.size(1366, 768)
     page.open("#objects=1,2,3,5")
     words = page.run("return allReferences(stateNow()).filter((one) => one.to).map((one) => [one.id, wordOf(stateNow(), one.id)]).filter(([, word]) => word.pc).map(([id, word]) => [id, SEGMENTS[word.kind] === word.part])")
@@ -619,24 +513,11 @@ MARKED = "return [chosen, [...document.querySelectorAll('#cards [aria-selected=t
 SEEN_LINE = "const row = document.querySelector('#cards [aria-selected=true]')?.getBoundingClientRect(); return Boolean(row) && row.height > 0 && row.top >= 0 && row.bottom <= innerHeight;"
 
 
-def lines_of_cards(files):
-    """For each word of the merged image the place of its line in the cards, and how the line begins: its offset and value in the object."""
-    found, fronts = {}, {"text": 0, "data": 0}
-    for number, path in enumerate(files):
-        one = unpack(read_bytes(path))
-        for part, words, start in (("text", one.text, 0), ("data", one.data, 2 * len(one.text))):
-            for index, word in enumerate(words):
-                found[f"{part}-{fronts[part] + 2 * index}"] = f"line-{number}-{part}-{index}", f"{start + 2 * index:06o}{word:06o}"
-            fronts[part] += 2 * len(words)
-    return found
-
-
-def beside(page, path, files, same):
+def beside(_, page, files):
     """A word that is chosen has its line marked in the card of its object, which can be seen; a line leads to the word that it has become."""
-    page.load(path)
-    page.size(1366, 768)
     page.open("#" + first(len(files) - 1))
-    wanted = lines_of_cards(files[:-1])
+    objects = [Given(file) for file in files[:-1]]
+    wanted = {key: (f"line-{objects.index(word.of)}-{word.part}-{word.index}", f"{word.of.start(word.part) + 2 * word.index:06o}{word.own:06o}") for key, word in Session(objects).rows().items()}
     keys = list(wanted)[::max(1, len(wanted) // 20)]
     for key in keys:
         line, start = wanted[key]
@@ -644,8 +525,7 @@ def beside(page, path, files, same):
         page.settle()
         chosen, marked = page.run(MARKED)
         same(f"the line of {key}", (chosen, [text[:12] for text in marked], page.run(SEEN_LINE)), (key, [start], True))
-        page.run("choose('', false)")
-        page.run("const words = document.querySelectorAll('.given')[Number(arguments[0].split('-')[1])]; words.open = true;", line)
+        page.run("choose('', false); document.querySelectorAll('.given')[Number(arguments[0].split('-')[1])].open = true;", line)
         page.wait("return document.getElementById(arguments[0]) !== null", line)
         page.run("document.getElementById(arguments[0]).click()", line)
         same(f"the word of {line}", page.run(MARKED)[0], key)
@@ -657,14 +537,14 @@ def beside(page, path, files, same):
     same("the last line of an object, by keys", [text[:12] for text in page.run(MARKED)[1]], [[start for line, start in wanted.values() if line.startswith("line-0-")][-1]])
     page.run("document.querySelector('#cards .card:last-child [role=option]').click()")
     same("a line of an object that is not there", page.run("return chosen !== 'none' && document.querySelector('#cards .card:last-child [aria-selected=true]') === null"), True)
-    print(f"{len(keys)} words have their lines in the cards of {len(files)} objects", flush=True)
+    return len(keys)
 
 
 # the line of a place, once a name is chosen
 END = "choose(`name ${arguments[0]}`, true); const row = byId(arguments[1]); return row && row.textContent.replace(/\\s+/g, ' ').trim();"
 
 
-def ends(tools, page, same):
+def ends(tools, page, _):
     """A name at the end of a segment leads to the end, in the image and in a link, and so does a word that means the end: not to what follows."""
     given = write(f"{tools.room}/ends.o", object_of([(4, 0o2), (6, 0o4)], [("_after", 0o42, 4), ("_past", 0o43, 6), ("_room", 0o40, 2)], [1]))
     page.load(tools.page_of([given], "ends.html"))
@@ -676,29 +556,8 @@ def ends(tools, page, same):
         same(f"what words mean, {key or 'the image'}", page.run("return allReferences(stateNow()).map((one) => one.to)"), ["text-end", "data-end"])
 
 
-def use_all(tools, page, pages, layouts, same):
-    (default, _), (program, _), (tables, _), (compiled, many) = pages
-    page.load(default)
-    first_view(page, same)
-    roles(page, same)
-    stops(page, compiled, same)
-    keys(page, default, same)
-    history(page, default, same)
-    tour(page, default, same)
-    lessons(page, default, program, tables, same)
-    log_of_lessons(page, (program, tables, default), same)
-    numbers(page, default, same)
-    leads(page, default, same)
-    texts(page, default, same)
-    presenter(page, default, compiled, len(many), same)
-    paper(page, default, same)
-    for path, files in pages[:3]:
-        maps(tools, page, path, files, layouts, same)
-        practice(tools, page, path, files, same)
-    result(page, default, same)
-    for path, files in (pages[0], pages[3]):
-        beside(page, path, files, same)
-    old_browser(page, default, same)
-    distances(page, program, same)
-    ends(tools, page, same)
-    reasons(tools, page, pages, same)
+# the checks of this file, and the pages that each is for: the class example, a program in C, pointers and bss, sixteen objects
+CHECKS = (
+    (first_view, (0,)), (roles, (0,)), (stops, (3,)), (keys, (0,)), (history, (0,)), (tour, (0,)), (lessons, (0, 1, 2)), (wrong_answer, (0,)), (numbers, (0,)), (leads, (0,)),
+    (texts, (0,)), (presenter, (3,)), (projector, (0,)), (paper, (0,)), (maps, (0, 1, 2)), (practice, (0, 1, 2)), (result, (0,)), (beside, (0, 3)), (old_browser, (0,)),
+    (distances, (1,)), (ends, (0,)), (reasons, (0, 1, 2)))

@@ -1,0 +1,159 @@
+"""What the tests of the page share: the programs, the objects that pages are made of, and the comparing."""
+import os
+import random
+import re
+
+from tests.lib.compare import Differs
+from tests.lib.files import TOP, read_bytes, write
+from tests.lib.objects import pack, unpack
+from tests.lib.programs import asked, program, ran
+
+LAYOUTS = {"plain": [], "-n": ["-n"], "-i": ["-i"], "-r": ["-r"]}
+WORD = 0o200000
+PARTS = ("text", "data")
+SEGMENTS = ("a number", "text", "data", "bss")
+
+
+def paths(folder, names):
+    return [f"{TOP}/{folder}/{name}.o" for name in names.split()]
+
+
+# the objects of the class example, of one with words that refer to each segment of their own, of a program in C with an object that has
+# a fault, and of the lessons about pointers, bss and the output of -r
+CLASS, FIVE = paths("examples", "main twice k l double"), paths("examples", "start print main twice count")
+IN_C, TABLES = paths("examples/total", "total say console low limit"), paths("examples/menu", "menu stop room more pair")
+# a program in C of sixteen files: a calculator without any library, as Debian's Portable C Compiler (the source package pcc,
+# 1.2.0~DEVEL+20220331, configured with --target=pdp11-unknown-bsd) and examples/asm.py made it. A file comes before those that it calls
+SIXTEEN = paths("tests/page/data", "main command line token number parse apply stack name mem list sort error text print start")
+
+faults = []
+compared = 0
+
+
+def same(what, shown, wanted):
+    global compared
+    compared += 1
+    if shown != wanted:
+        faults.append(f"{what}\n  the page: {shown}\n  wanted:   {wanted}")
+
+
+def faults_of(measure, *words):
+    """The faults that a measure finds, which count as none."""
+    kept = len(faults)
+    measure(*words)
+    found = faults[kept:]
+    del faults[kept:]
+    return found
+
+
+def planted():
+    """Compares what differs."""
+    same("planted", "", "planted")
+    if faults:
+        raise Differs(faults.pop())
+
+
+def report(what):
+    """Prints how many things were compared, and the first faults; whether there are any."""
+    print(f"{compared} things of pages were compared, {what}")
+    for fault in faults[:20]:
+        print(fault)
+    return bool(faults)
+
+
+def lessons_of(files):
+    """The lessons beside objects."""
+    return os.path.join(os.path.dirname(files[0]), "lessons.txt")
+
+
+def words_of(line):
+    return " ".join(line.split())
+
+
+def object_of(words, symbols, data=()):
+    """An object of text words with their relocation words, of symbols, and of data without relocation."""
+    return pack(words, [(word, 0) for word in data], 0, [(name.encode(), kind, value) for name, kind, value in symbols])
+
+
+# what a size, an addend and what is known of a name are as texts
+def size_said(size):
+    return f"0{size:o} ({size}.) bytes"
+
+
+def addend_said(meant, minus="-"):
+    return "" if meant == 0 else f" {minus} {WORD - meant:o}" if meant >= WORD // 2 else f" + {meant:o}"
+
+
+def known_as(kind, number):
+    return kind if kind == "undefined" else f"a common of {size_said(number)}" if kind == "common" else f"{'the number' if kind == 'number' else kind} {number:06o}"
+
+
+class Tools:
+    """The programs that the page is compared with."""
+
+    def __init__(self, room):
+        self.lesson, self.v7, self.explain = map(program, ("v7-lesson", "v7", "v7-explain"))
+        self.page, self.room = f"{TOP}/page", room
+
+    def page_of(self, files, name="lesson.html", questions=""):
+        return write(f"{self.room}/{name}", asked(self.lesson, "-p", self.page, *(["-q", questions] if questions else []), *files))
+
+    def asked_of(self, questions, *files):
+        """The status and both outputs for a page with a file of questions."""
+        return ran(self.lesson, "-p", self.page, "-q", questions, *files).texts("utf-8")
+
+    def steps(self, files):
+        """The lines of all steps, each without its first."""
+        steps = re.split(r"^(?:add|withdraw) .*\n", asked(self.lesson, *files), flags=re.M)[1:]
+        return [[words_of(line) for line in step.splitlines()] for step in steps]
+
+    def step(self, number, files):
+        """The lines of a step, after the first."""
+        return self.steps(files)[number - 1] if files else ["nothing"]
+
+    def listing(self, file):
+        """A file as v7-explain lists it."""
+        return ran(self.explain, file).texts("utf-8")[1]
+
+    def map_of(self, files):
+        return ran(self.explain, "-m", *files).texts("utf-8")[1]
+
+    def calls(self, files):
+        """The places of the calls that the map of a link lists: it has those of their operands, one word after them."""
+        return [int(offset, 8) - 2 for offset in re.findall(r"text ([0-7]{6}) .*: jsr pc,", self.map_of(files))]
+
+    def uses(self, files):
+        """For each name how many words of objects that do not define it refer to it, by the map of a link."""
+        uses, name, definer = {}, "", ""
+        for line in self.map_of(files).partition("\nExternals\n")[2].splitlines():
+            found = re.match(r"[0-7 ]{6} [A-Za-z] (\S+)$", line)
+            name, definer = (found[1], "") if found else (name, definer)
+            defined = re.match(r"    defined in  (\S+)$", line)
+            definer = defined[1] if defined else definer
+            used = re.match(r"    (?:used in    )? +(\S+) \((\d+)\)$", line) if "common in" not in line else None
+            uses[name] = uses.get(name, 0) + (int(used[2]) if used and used[1] != definer else 0)
+        return uses
+
+    def joined(self, count, seed):
+        """So many objects that `ld -r` makes of the sixteen, which a seed puts into an order."""
+        order = random.Random(seed).sample(SIXTEEN, len(SIXTEEN))
+        groups = [order[len(order) * number // count:len(order) * (number + 1) // count] for number in range(count)]
+        return [write(f"{self.room}/joined{count}-{number}.o", self.bytes_of_link(["-r"], group)) for number, group in enumerate(groups)]
+
+    def nm(self, file):
+        return asked(self.v7, "nm", "-p", file)
+
+    def bytes_of_link(self, options, files):
+        """The file that a link writes."""
+        asked(self.v7, "ld", *options, "-o", f"{self.room}/linked", *files)
+        return read_bytes(f"{self.room}/linked")
+
+    def link(self, options, files):
+        """The words and the header of a link, where data begins, its table as `nm -p` has it, its report; or why it is refused."""
+        out = os.path.join(self.room, "linked")
+        status, report, error = ran(self.v7, "ld", *options, "-o", out, *files).texts("utf-8")
+        if status == 2:
+            return {"refused": error.strip().split(": ", 1)[1]}
+        made = unpack(read_bytes(out))
+        base = {0o407: made.header[1], 0o410: (made.header[1] + 8191) // 8192 * 8192, 0o411: 0}[made.header[0]]
+        return {"header": made.header, "base": base, "segments": {"text": made.text, "data": made.data}, "table": self.nm(out), "report": report or "nothing to report\n"}
