@@ -20,6 +20,7 @@ V7_CI is set, a tool that is missing is a fault.
 import glob
 import os
 import re
+import shlex
 import shutil
 import subprocess
 import sys
@@ -288,9 +289,10 @@ def tell_crate(name):
 
 
 def tell(what, tests, before="V7_BUILD=build/quick "):
-    """A command that runs tests, and its minutes."""
+    """A command that runs tests, and its minutes. A test goes by its title if not all of its name are run."""
     if tests:
-        names = " ".join(dict.fromkeys(it.name for it in tests))
+        others = {it.name for it in listed() if it not in tests}
+        names = " ".join(dict.fromkeys(shlex.quote(it.title()) if it.name in others else it.name for it in tests))
         print(f"{what}, {sum(it.seconds for it in tests) / 60:.1f} minutes:\n  {before}python3 -m tests {names}")
 
 
@@ -327,9 +329,10 @@ def which(*paths):
 
 
 def named(tests, word):
-    """The tests of a tier, a folder or a name. What takes hours is named by its tier, or has no other test of this name."""
-    found = [it for it in tests if word in (it.name, it.path.split("/")[-2])]
-    found = [it for it in tests if it.tier == word] or [it for it in found if it.tier != "all"] or found
+    """The tests of a tier, a folder or a name. What takes hours is named by its tier, or by its name if no other test has this."""
+    own = [it for it in tests if it.name == word]
+    found = [it for it in tests if word in (it.name, it.title(), it.path.split("/")[-2])]
+    found = [it for it in tests if it.tier == word] or [it for it in found if it.tier != "all" or own == [it]] or found
     if not found:
         sys.exit(f"there is no test {word}: python3 -m tests list")
     return found

@@ -11,7 +11,7 @@ tests/cases/planted/, with the path from the top. The rows of tests/programs/lar
 crate, one after another, as long as a case that the row names does not fail. The other programs are those without a bug, in
 build/test. libv7 counts as a program.
 
-tier: text, 1 seconds; words: -c; for: tests/cases/PLANTED.md tests/cases/planted
+tier: text, 1 seconds; words: -c; for: crates tests/cases
 """
 import glob
 import os

@@ -14,6 +14,7 @@ list with objects, or the fault, its object and its word. For a session it is al
 map.py compares maps.
 """
 import io
+import itertools
 import multiprocessing
 import os
 import random
@@ -597,12 +598,20 @@ def library_session(number):
             (ours, shown, by_library(session, options_of(arguments))))
 
 
+def compare_calls(case, number, change=lambda came: came):
+    """Compares a case of libv7, in which what came is changed for a trial."""
+    expected, came = case(number)
+    same(f"{case.__name__} {number}", change(came), expected)
+
+
 def by_calls(links, sessions):
-    """Compares libv7."""
+    """Compares libv7. Another place of a finding is noticed, and another external of a session."""
+    found = next(number for number in itertools.count() if isinstance(library_link(number)[1][2], list) and library_link(number)[1][2])
+    notices(compare_calls, library_link, found, lambda came: [*came[:2], [came[2][0]._replace(first=-1), *came[2][1:]]])
+    notices(compare_calls, library_session, 0, lambda came: (came[0], [*came[1], "planted"], came[2]))
     for case, count in ((library_link, links), (library_session, sessions)):
         for number in range(count):
-            expected, came = case(number)
-            same(f"{case.__name__} {number}", came, expected)
+            compare_calls(case, number)
     print(f"libv7: {links} links and {sessions} sessions as the model")
 
 

@@ -19,7 +19,7 @@ import tempfile
 
 from tests.lib.compare import notices, same
 from tests.lib.files import read_bytes, write
-from tests.lib.objects import pack
+from tests.lib.objects import pack, unpack
 from tests.lib.programs import program, ran
 
 FOUR_PAIRS = [(0o000005, 0o177774), (0o177777, 0o000000), (0o100000, 0o077776), (0o012345, 0o165432)]
@@ -440,6 +440,14 @@ class File:
             lines += self.labels(address, 1, 3) + [self.row(address, word, relocation, said)]
         end = self.data_start + 2 * len(self.data)
         return lines + self.labels(end, 0, 3) + self.labels(end, 32768, 4)
+
+
+def decoded(data):
+    """The file that these bytes are, which are whole."""
+    found = unpack(data)
+    relocation, count = list(found.relocation), len(found.text)
+    relocs = (None, None) if found.header[7] else (relocation[:count], relocation[count:])
+    return File(list(found.text), relocs[0], found.symbols, found.header[0], list(found.data), relocs[1], found.header[3])
 
 
 def shown(padded):

@@ -11,10 +11,12 @@ import asm
 from tests.lib.compare import notices, same
 from tests.lib.files import TOP, read, room, write
 from tests.lib.programs import program, ran
+from tests.oracles.notes import DOUBT, checked
 
-IF = ", if this is"
 IDIOMS = sorted(glob.glob(os.path.join(TOP, "tests/oracles/data/*")))
-RIGHT = [os.path.join(TOP, f"tests/oracles/right/{line.split()[0]}.o") for line in read(f"{TOP}/tests/oracles/right/objects.txt").splitlines()]
+RIGHT = [f"{TOP}/tests/oracles/right/{line.split()[0]}.o" for line in read(f"{TOP}/tests/oracles/right/objects.txt").splitlines()]
+# its text is data
+RIGHT.append(f"{TOP}/examples/k.o")
 
 
 def made(path):
@@ -29,8 +31,7 @@ def made(path):
 
 def check(path):
     same(f"ld of {path}", ran(program("v7"), "ld", "-r", "-o", "linked", path).texts(), (0, "", ""))
-    status, out, lines = ran(program("v7-explain"), "-c", path).texts()
-    same(f"v7-explain -c of {path}", (status, out, [line for line in lines.split("\n")[:-1] if IF not in line]), (0, "", []))
+    same(f"v7-explain -c of {path}", [line for line in checked([path])[path] if DOUBT not in line], [])
 
 
 def main():

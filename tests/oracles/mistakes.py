@@ -1,55 +1,39 @@
 """Plants mistakes of assemblers in right objects, and compares what v7-explain says of them with tests/oracles/suspicions.py.
 
-tier: check, 120 seconds; programs: v7-explain v7-object; for: crates/suspicions crates/findings
+tier: check, 120 seconds; programs: v7-explain; for: crates/suspicions crates/findings
 
-The right objects are those of examples/ and of the page, 300 that are made here, and the idioms of tests/oracles/data and right. `-c` may
-say nothing sure of any of them, and no line at all of one that a compiler wrote, with `-t` too.
+The right objects are those of examples/ and of the page, and 300 that are made here. `-c` may say nothing sure of any of them, and no line
+at all of one that a compiler wrote, with `-t` too; idioms.py has more of them.
 
 Each kind of mistake has a row. It says in how many objects the mistake was planted. For `-c`, and then for `-c -t`, it counts the objects
 in which the mistake is found, those with only lines that say "if", and those with no line. The last number is that of the objects in whose
-listing there is no line either. The kinds with a star are those that such a check was asked for. A clause says what else the author may
-have meant if the mistake is not found: then no check of one object is sure of it.
+listing there is no line either. A kind with ? may be meant, as a number in place of an address: no check of one object is sure of it. Of
+any other kind `-c -t` has to have a line in each object.
 
 Without `-t` only functions are sure that begin with `jsr r5,csv`, as half of the objects do. All other text may be data, so `-c` finds at
 most half of the mistakes in instructions.
 """
+import copy
 import glob
 import os
 import re
 import struct
 
-from tests.lib.compare import notices, same
+from tests.lib.compare import notices
 from tests.lib.files import TOP, read_bytes, room, write
-from tests.lib.objects import unpack
-from tests.lib.programs import program, ran
-from tests.oracles.disassembly import File
-from tests.oracles.idioms import IDIOMS, IF, RIGHT, made as made_idiom
-from tests.oracles.planting import BSS, DATA, EXTERNAL, MAY_BE_RIGHT, MISTAKES, dice
-from tests.oracles.suspicions import KINDS, surely_wrong
+from tests.oracles.disassembly import File, decoded
+from tests.oracles.notes import DOUBT, checked, explained
+from tests.oracles.planting import MISTAKES, dice
+from tests.oracles.suspicions import BSS, DATA, EXTERNAL, KINDS, surely_wrong
 
-EXPLAIN = program("v7-explain")
 # so many lines at most are said of a file
 MOST_LINES = 16
 # mistakes are planted in so many objects of each kind
 MOST_PLANTED = 100
 # the one whose fault a lesson asks about: its symbol counts from the beginning of data
-WRONG = [os.path.join(TOP, "examples/total/low.o")]
+WRONG = "examples/total/low.o"
 # its text is a word of data, so `-t` would be a false promise
-DATA_IN_TEXT = os.path.join(TOP, "examples/k.o")
-
-
-def file_in(data):
-    """The object that these bytes are, if they are one."""
-    found = unpack(data)
-    magic, flag, count = found.header[0], found.header[7], len(found.text)
-    if magic != 0o407 or flag:
-        return None
-    relocation = list(found.relocation)
-    return File(list(found.text), relocation[:count], found.symbols, magic, list(found.data), relocation[count:], found.header[3])
-
-
-def copy(file):
-    return File(list(file.words), list(file.relocation), list(file.symbols), file.magic, list(file.data), list(file.data_relocation), file.bss)
+DATA_IN_TEXT = "examples/k.o"
 
 
 # objects that are right
@@ -110,34 +94,18 @@ class Maker:
         return (DATA, 2 * dice.randrange(self.data)) if kind == 2 else (BSS, 2 * self.data + 2 * dice.randrange(self.bss // 2))
 
     def put_instruction(self, kind):
-        if kind == 0:
-            self.put(0o016700 + dice.randrange(6))
-            self.put_from_pc(*self.place())
-        elif kind == 1:
-            self.put(0o012700 + dice.randrange(6))
-            self.put_address(*self.place())
-        elif kind == 2:
-            self.put(0o004767)
+        """An instruction of one of nine forms. The last one is a branch to the first instruction."""
+        forms = [(self.put_from_pc,), (self.put_address,), (), (self.put_from_pc, self.put_from_pc), (self.put_address,), (), (self.put_address,), (self.put_from_pc,), ()]
+        word = [0o016700, 0o012700, 0o004767, 0o026767, 0o016001, 0, 0o104404, 0o017702, 0o001000 + (-len(self.words) - 1) % 256][kind]
+        if kind == 5:
+            word = dice.choice([0o010100, 0o005726, 0o060201, 0o000240])
+        self.put(word + (dice.randrange(6) if kind < 2 else 0))
+        for put in forms[kind]:
+            put(*self.place())
+        if kind == 2:
             self.put_from_pc(self.external(dice.choice([b"_a", b"_b", b"_c"])), 0)
-        elif kind == 3:
-            self.put(0o026767)
-            self.put_from_pc(*self.place())
-            self.put_from_pc(*self.place())
-        elif kind == 4:
-            self.put(0o016001)
-            self.put_address(*self.place())
-        elif kind == 5:
-            self.put(dice.choice([0o010100, 0o005726, 0o060201, 0o000240]))
-        elif kind == 6:
-            self.put(0o104404)
-            self.put_address(*self.place())
+        if kind == 6:
             self.put(0o12)
-        elif kind == 7:
-            self.put(0o017702)
-            self.put_from_pc(*self.place())
-        else:
-            # to the first instruction
-            self.put(0o001000 + (-len(self.words) - 1) % 256)
 
     def file(self):
         data = [dice.randrange(65536) for _ in range(self.data - 1)] + [2 * len(self.words)]
@@ -145,17 +113,9 @@ class Maker:
 
 
 def objects_of(*patterns):
-    for pattern in patterns:
-        for path in sorted(glob.glob(os.path.join(TOP, pattern))):
-            file = file_in(read_bytes(path))
-            if file and path not in (*WRONG, DATA_IN_TEXT):
-                yield file
-
-
-def idioms():
-    """Text that has data too."""
-    for path in [*RIGHT, *map(made_idiom, IDIOMS), DATA_IN_TEXT]:
-        yield file_in(read_bytes(path))
+    paths = [path for pattern in patterns for path in sorted(glob.glob(pattern, root_dir=TOP)) if path not in (WRONG, DATA_IN_TEXT)]
+    files = [decoded(read_bytes(os.path.join(TOP, path))) for path in paths]
+    return [file for file in files if file.magic == 0o407 and file.relocation is not None]
 
 
 # what is said
@@ -172,24 +132,17 @@ def stored(files):
 
 
 def judged(paths, *options):
-    """The lines of `-c` about each file, and whether one of all is sure, by the status."""
-    status, _, text = ran(EXPLAIN, "-c", *options, *paths).texts()
-    lines = {path: set() for path in paths}
-    for line in text.split("\n")[:-1]:
-        path, said = line.removeprefix("v7-explain: ").split(": ", 1)
-        lines[path].add(said)
-    same(f"the status of -c {options}", status, int(any(sure(said) for said in lines.values())))
-    return [lines[path] for path in paths]
+    """The lines of `-c` about each file."""
+    return [*map(set, checked(paths, *options).values())]
 
 
 def listed(paths):
     """What the listing of each file says is wrong or odd."""
-    parts = re.split(r"^/ f\d+\.o: 0[0-7]+ \(\d+\) bytes$", ran(EXPLAIN, *paths).texts()[1], flags=re.M)[1:]
-    return [{line for line in part.split("\n") if line.startswith(("/ wrong:", "/ odd:"))} for part in parts]
+    return [{note for note in notes if note.startswith(("wrong:", "odd:"))} for notes in explained(paths)]
 
 
 def sure(lines):
-    return {line for line in lines if IF not in line}
+    return {line for line in lines if DOUBT not in line}
 
 
 def remarks(lines):
@@ -209,7 +162,7 @@ def check_right(kinds):
     """Nothing sure is said of a right object, and nothing at all of one that a compiler wrote."""
     for kind, (files, is_compiled) in kinds.items():
         paths = stored(files)
-        for options in ((), ("-t",)) if kind != "idioms" else ((),):
+        for options in ((), ("-t",)):
             for number, lines in enumerate(judged(paths, *options)):
                 assert not (lines if is_compiled else sure(lines)), (kind, number, options, lines)
         print(f"{len(files)} right objects, {kind}: nothing sure" + (", and no line" if is_compiled else ""))
@@ -217,7 +170,7 @@ def check_right(kinds):
 
 def check_mistake(name, plant, files, before):
     """Plants one kind of mistake; the numbers of its row."""
-    wrong = [copy(file) for file in files]
+    wrong = copy.deepcopy(files)
     planted = [number for number, file in enumerate(wrong) if plant(file)]
     paths = stored([wrong[number] for number in planted])
     after = {options: judged(paths, *options) for options in ((), ("-t",))}
@@ -233,33 +186,26 @@ def check_mistake(name, plant, files, before):
         for at, is_found, lines in ((1, found, fresh[()]), (4, promised, fresh[("-t",)])):
             row[at if is_found else at + 1 if lines else at + 2] += 1
         row[7] += not (fresh[()] or fresh[("-t",)] or fresh["listing"])
+    assert name.endswith("?") or row[6] == 0, (name, "has no line in", row[6], "objects")
     return row
 
 
 def main():
-    page = ["tests/page/data/*.o"]
     kinds = {
-        "examples": (list(objects_of("examples/*.o", "examples/total/*.o")), False),
-        "of the page": (list(objects_of(*page)), True),
+        "examples": (objects_of("examples/*.o", "examples/total/*.o"), False),
+        "of the page": (objects_of("tests/page/data/*.o"), True),
         "made": ([Maker(number).file() for number in range(300)], False),
-        "idioms": (list(idioms()), False),
     }
     notices(compare, "a word that is no instruction", File([0o004567, 0o177774, 0o10], [0, 9, 0], [(b"csv", 0o40, 0), (b"_f", 0o42, 0)]), False, set())
     check_right(kinds)
-    files = [file for kind, (some, _) in kinds.items() if kind != "idioms" for file in some[:MOST_PLANTED]]
+    files = [file for some, _ in kinds.values() for file in some[:MOST_PLANTED]]
     paths = stored(files)
     before = {(): judged(paths), ("-t",): judged(paths, "-t"), "listing": listed(paths)}
     print(f"{len(MISTAKES)} kinds of mistakes, in {len(files)} objects")
     print("        |       -c        |      -c -t      |")
     print("planted | found    if  no | found    if  no | silent")
-    form = "%7d | %5d %5d %3d | %5d %5d %3d | %6d  %s"
-    named = [0] * 8
     for name, plant in MISTAKES.items():
-        row = check_mistake(name, plant, files, before)
-        print(form % (*row, name + (": " + MAY_BE_RIGHT[name] if name in MAY_BE_RIGHT else "")))
-        if name.endswith("*"):
-            named = [total + number for total, number in zip(named, row)]
-    print(form % (*named, "of those with a star"))
+        print("%7d | %5d %5d %3d | %5d %5d %3d | %6d  %s" % (*check_mistake(name, plant, files, before), name))
 
 
 with room():

@@ -9,6 +9,7 @@ at each byte. There are objects with 15 to 18 bad relocation words, files with o
 objects of instructions, those of examples/ and of agree.py, and these with bytes changed, cut or put in. Of 200 files that are cut, a
 listing has to have all words and symbols before the cut.
 """
+import collections
 import glob
 import os
 import random
@@ -19,7 +20,7 @@ from tests.lib.compare import notices, same
 from tests.lib.files import TOP, read_bytes, room, write
 from tests.lib.programs import program, ran
 from tests.oracles import agree
-from tests.oracles.disassembly import FOUND, SYS, File as Text, has_word
+from tests.oracles.disassembly import FOUND, SYS, File as Text, decoded, has_word
 from tests.oracles.disassembly import in_listing as shown
 
 PROGRAMS = {0o405: "an overlay", 0o407: "a program", 0o410: "a program, pure text", 0o411: "a program, separate text and data"}
@@ -38,6 +39,9 @@ SEGMENTS = {2: "text", 3: "data", 4: "bss"}
 TYPES = (0, 1, 2, 3, 4, 0o24, 0o37)
 # of bad relocation words, and of odd things, so many are shown one by one
 MOST = 16
+# of words of one kind that refer outside of its segment, so many have a line each; more have one
+MOST_ALIKE = 4
+OUTSIDE = re.compile(r"the word( at \d+ is of kind (\w+) and refers to \d+; .*)")
 # what is odd of instructions; and what is said if more is odd than is shown
 SUSPICIOUS = re.compile(r"the first word of the|the pc bit of|an instruction leads to|is cut by the end of|the branch at|the word at \d+ (?:counts|is of a call|adds|leads to|jumps)|is of the last instruction of text")
 # the words of the header, which the cases of listings show
@@ -87,10 +91,19 @@ class File:
         return {"text": (0, self.text), "data": (data, bss), "bss": (bss, bss + self.bss)}
 
 
-def owner_said(text, place):
+def labelled(file, address):
+    """An address of text, with the nearest symbol of text at it or before it."""
+    labels = [(value, name) for name, _, kind, value in file.symbols() if kind & 0o37 == 2 and value <= address]
+    if not labels:
+        return f"{address:06o}"
+    value, name = max(labels, key=lambda label: label[0])
+    return f"{address:06o} ({shown(name)}{f'+{address - value:o}' if value < address else ''})"
+
+
+def owner_said(file, text, place):
     """The instruction that has a word as an operand word, if it is one of text."""
     first = text.owner(place) if place < len(text.words) else None
-    return "" if first is None else f"; the instruction at {2 * first:06o} is {text.line(first)[1]}"
+    return "" if first is None else f"; the instruction at {labelled(file, 2 * first)} is {text.line(first)[1]}"
 
 
 def is_undefined(kind):
@@ -114,14 +127,8 @@ def cut_off(file):
             return
 
 
-def text_of(file):
-    """The text of an object, with its relocation words and its symbols."""
-    relocated = [(word, reloc) for at, word, reloc in file.words() if at < file.text]
-    return Text([word for word, _ in relocated], [reloc for _, reloc in relocated], [field[1:] for field in file.symbols()])
-
-
 def bad_words(file):
-    symbols, text = file.symbols(), text_of(file)
+    symbols, text = file.symbols(), decoded(file.data)
     for at, _, reloc in file.words():
         number = reloc >> 4
         if reloc & 0o16 > 0o10:
@@ -135,7 +142,7 @@ def bad_words(file):
         else:
             said = f"symbol {number}, and the table has {len(symbols)}, counted from 0"
             said = f"bad symbol number at word {at // 2}: {reloc:o} refers to {said}"
-        yield file.relocation_at + at, said + owner_said(text, at // 2)
+        yield file.relocation_at + at, said + owner_said(file, text, at // 2)
 
 
 def wrong(data):
@@ -233,12 +240,19 @@ def places(file):
 
 def direct(file):
     """The bytes of text at which the words of operands of modes 37, 67 and 77 are, by the lines of the sweep."""
-    text, place = text_of(file), 0
-    while place < len(text.words):
+    text, place = decoded(file.data), 0
+    while file.flag == 0 and place < len(text.words):
         length = text.line(place)[0]
         fields = [value for letter, value in FOUND[text.words[place]][1] if has_word(letter, value)] if length > 1 and text.words[place] not in SYS else []
         yield from (2 * at for at, value in enumerate(fields, place + 1) if value in (0o37, 0o67, 0o77))
         place += length
+
+
+def lies(file, segment, to):
+    """Where a segment is that an address is outside of, and what to add if the address counts from its start."""
+    begin, end = file.ranges()[segment]
+    hint = f" (perhaps counted from the start of {segment}: add {begin:06o})" if begin and to + begin <= end else ""
+    return f"{segment} lies from {begin:06o} to {end:06o}{hint}"
 
 
 def odd_words(file):
@@ -251,7 +265,7 @@ def odd_words(file):
             if not begin <= to <= end:
                 sure = reloc & 1 or at in sure_words or is_far(file, segment, to) and not moved
                 yield file.relocation_at + at, (f"the word at {address:06o} is of kind {segment} and refers to {to:06o}; "
-                                                f"{segment} lies from {begin:06o} to {end:06o}" + unless(sure))
+                                                f"{lies(file, segment, to)}" + unless(sure))
 
 
 def odd_symbol(file, number, symbol, first):
@@ -278,7 +292,7 @@ def odd_symbol(file, number, symbol, first):
         begin, end = file.ranges()[segment]
         if not begin <= value <= end:
             sure = segment != "text" and not is_moved(file) and (kind & 0o40 or is_far(file, segment, value))
-            yield 10, f"of {segment} has value {value:06o}, and {segment} lies from {begin:06o} to {end:06o}" + unless(sure)
+            yield 10, f"of {segment} has value {value:06o}, and {lies(file, segment, value)}" + unless(sure)
     if is_undefined(kind) and not value and file.flag == 0 and not any(reloc & 0o16 == 0o10 and reloc >> 4 == number for _, _, reloc in file.words()):
         yield 0, "is undefined, and no word refers to it" + MEANT
 
@@ -293,6 +307,19 @@ def odd_of(file):
     return odd
 
 
+def by_cause(found):
+    """What is odd, with one line for all words of a kind that refer outside of its segment, if there are more than a few."""
+    matches = [OUTSIDE.fullmatch(text) for _, text in found]
+    counts, told = collections.Counter((match[2], match[0].endswith(MEANT)) for match in matches if match), set()
+    for (at, text), match in zip(found, matches):
+        cause = match and (match[2], text.endswith(MEANT))
+        if counts[cause] <= MOST_ALIKE:
+            yield at, text
+        elif cause not in told:
+            told.add(cause)
+            yield at, f"{counts[cause]} words of kind {cause[0]} lie outside, the first{match[1]}"
+
+
 def at_byte(found):
     return [f"byte 0{at:o} ({at}): {text}" for at, text in found]
 
@@ -304,7 +331,7 @@ def notes_of(data):
     if file is None:
         said = [text for text in (form(data)[0],) if text and has_no_magic(data)]
         return [f"wrong: {note}" for note in at_byte(found)] + said, at_byte(found) + said
-    what, odd = kind(file, found), at_byte(odd_of(file))
+    what, odd = kind(file, found), odd_said(data)
     refused = at_byte(found) or ([what] if what != "an object" else [note for note in odd if not note.endswith(COMMON)][:MOST])
     notes = [what] if what else []
     return notes + [f"wrong: {note}" for note in at_byte(found)] + [f"odd: {note}" for note in odd[:MOST]], refused
@@ -316,13 +343,19 @@ def odd_notes(data):
     return at_byte(odd_of(file)) if file else []
 
 
+def odd_said(data):
+    """The same with one line for one cause."""
+    file = wrong(data)[1]
+    return at_byte(by_cause(odd_of(file))) if file else []
+
+
 def without_suspicious(notes):
     """Notes without those on instructions and on the header, and without how many more things are odd."""
     return [note for note in notes if not SUSPICIOUS.search(note) and not MORE.match(note) and not HEADER.match(note)]
 
 
 def odd_count(notes):
-    """How many things are odd by the notes of a listing."""
+    """How many lines the odd things have by the notes of a listing, with those that are not shown."""
     return sum(note.startswith("odd") for note in notes) + sum(int(more[1]) for more in map(MORE.match, notes) if more)
 
 
@@ -404,7 +437,7 @@ def compare_cuts():
         if number == 0:
             without = "\n".join(line for line in listing.splitlines() if not line.startswith("000000  "))
             notices(compare_remains, path, data, without)
-        for option in ("-d", "-p", "-s", "-x"):
+        for option in ("-d", "-p", "-s"):
             compare(f"{option} {path}", data, answered(1, option, path)[0].splitlines()[-1:], [remains(data)[1]])
         write("cut.lst", listing.encode())
         compare(f"v7-object of {path}", data, [ran(OBJECT, "cut.lst", "made.o").status, os.path.exists("made.o")], [1, False])
@@ -511,21 +544,25 @@ def answered(status, *words):
 
 
 def explained(paths):
-    """The notes of each file, in order."""
+    """The notes of each file, in order. The status is 1 if something is wrong."""
+    status, out, _ = ran(program("v7-explain"), *paths).texts()
     notes = []
-    for line in re.findall(r"^/ (.*)$", answered(1, *paths)[0], re.M):
+    for line in re.findall(r"^/ (.*)$", out, re.M):
         if re.match(r"f\d+\.o: ", line):
             notes.append([])
         notes[-1].append(line)
+    same("the status of listings", status, int(any(note.startswith("wrong: ") for those in notes for note in those)))
     return notes
 
 
-def checked(paths):
-    """What `-c` says of each file."""
+def checked(paths, *options):
+    """What `-c` says of each file. The status is 1 if one line of all is sure."""
+    status, _, said = ran(program("v7-explain"), "-c", *options, *paths).texts()
     lines = {path: [] for path in paths}
-    for line in answered(1, "-c", *paths)[1].splitlines():
+    for line in said.splitlines():
         path, _, text = line.removeprefix("v7-explain: ").partition(": ")
         lines[path].append(text)
+    same(f"the status of -c {options}", status, int(any(DOUBT not in text for texts in lines.values() for text in texts)))
     return lines
 
 
@@ -575,7 +612,8 @@ def main():
         # one that is sure may not be shown
         if all(DOUBT in note for note in refused[path]) and len(refused[path]) <= MOST:
             doubted.append(path)
-        compare(f"-l {path}", data, [line], [inventory_of(path, data, odd_count(notes))])
+        alike = len(odd_notes(data)) - len(odd_said(data))
+        compare(f"-l {path}", data, [line], [inventory_of(path, data, odd_count(notes) + alike)])
     answered(0, "-c", *doubted)
     compare_cuts()
     print(f"{count} notes of {len(datas)} files compared, {len(datas)} lines of an inventory, and what is there of {CUTS} files that end early")

@@ -15,9 +15,9 @@ OTHERS = [range(0o106400, 0o106500), range(0o106700, 0o107000), range(0o075000, 
 READ_ONLY = ("tst", "tstb", "cmp", "cmpb", "bit", "bitb", "jmp", "jsr", "mfpi", "mfpd", "tstf", "ldfps", "movie", "movif")
 # the remarks that are judged here
 KINDS = {
-    "relocated": r"the first word of the instruction at (\d+) is relocated",
-    "none begins": r"an instruction leads to (\d+), where none begins",
-    "cut": r"the instruction at (\d+) is cut by the end of the text",
+    "relocated": r"the first word of the instruction at (\d+)(?: \(\S+\))? is relocated",
+    "none begins": r"an instruction leads to (\d+)(?: \(\S+\))?, where none begins",
+    "cut": r"the instruction at (\d+)(?: \(\S+\))? is cut by the end of the text",
     "pc bit": r"the pc bit of the word at (\d+) is not set",
     "branch": r"the branch at (\d+) leads to \d+, and text lies from",
     "within": r"the branch at (\d+) leads to \d+, within",
@@ -63,6 +63,24 @@ def length(file, place):
     if word in SYS:
         return 1 + SYS[word][1]
     return 1 + sum(at is not None for at, _, _, _ in operands(file, place))
+
+
+def lines(file):
+    """The places at which lines begin, and their lengths, but for words that begin no instruction."""
+    place = 0
+    while place < len(file.words):
+        words = file.whole_line(place)[0]
+        if not file.is_relocated(place) and file.words[place] in FOUND and place + words <= len(file.words):
+            yield place, words
+        place += words
+
+
+def operand_words(file):
+    """The operand words of these: the place of each, its mode and register, and its number in the instruction."""
+    for place, words in lines(file):
+        if file.words[place] not in SYS and words > 1:
+            found = [row for row in operands(file, place) if row[0] is not None]
+            yield from ((at, mode, register, number) for number, (at, _, mode, register) in enumerate(found))
 
 
 def writes_pc(file, place):

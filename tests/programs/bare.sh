@@ -27,6 +27,7 @@ passes() {
 passes archive python3 -m compileall -q .
 for folder in clone archive; do
     passes $folder make -n quick test
+    passes $folder sh -c 'python3 -m tools.prove --sources v7 | grep -q "^crates/v7/src/main.rt$"'
     passes $folder make -s which CHANGED=README.md
     passes $folder tools/needs
     passes $folder make -s check-text

@@ -5,7 +5,7 @@ tools and libv7 give is that of tests/oracles/model.py, instructions are those o
 tests/oracles/notes.py; of rows, maps and lessons the words and the names are counted.
 
 usage: python3 -m tests.programs.largest [ROW ..]      all rows of the table, or these: 'v7-explain -m, objects'
-tier: check, 120 seconds; programs: v7 v7-explain v7-object v7-from-gnu v7-lesson libv7.so; for: crates/suspicions crates/link_maps crates/map_texts crates/library_calls
+tier: check, 120 seconds; programs: v7 v7-explain v7-object v7-from-gnu v7-lesson libv7.so; for: crates/suspicions crates/link_maps crates/library_calls
 """
 import dataclasses
 import multiprocessing
@@ -205,7 +205,7 @@ def recognized(kind):
 
 def remarks(data):
     """What `-c` says of a file, and how many more things are odd than it shows; and whether one of all is sure."""
-    said, odd = notes.notes_of(data)[1], [note for note in notes.odd_notes(data) if not note.endswith("rounded up to even")]
+    said, odd = notes.notes_of(data)[1], [note for note in notes.odd_said(data) if not note.endswith("rounded up to even")]
     more = len(odd) - len(said) if said == odd[:notes.MOST] else 0
     return said + [f"and {more} more that are odd"] * (more > 0), any(notes.DOUBT not in note for note in said + odd)
 

@@ -90,7 +90,7 @@ def calls():
     yield Call("v7 session", ["v7", "session", "-d"], {**OBJECTS, **COMMONS}, script=SCRIPT)
     yield Call("v7 session -r -u", ["v7", "session", "-r", "-u", "_z"], {**OBJECTS, **COMMONS}, script=SCRIPT)
     listed = {**OBJECTS, **examples("total/say.o")}
-    for letter in "", "-c", "-d", "-p", "-s", "-x", "-l":
+    for letter in "", "-c", "-d", "-p", "-s", "-l":
         yield Call(f"v7-explain {letter}".rstrip(), ["v7-explain", *letter.split(), "main.o", "say.o"], listed)
     yield Call("v7-explain -o", ["v7-explain", "-o", "out", "say.o"], listed)
     yield Call("v7-explain -l -R", ["v7-explain", "-l", "-R", "in"], {b"in/a.o": example("main.o"), b"in/b/c.o": example("total/say.o")})

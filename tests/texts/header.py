@@ -28,7 +28,7 @@ STRUCTS = {"Answer": "v7_answer", "Counts": "v7_counts", "FileHeader": "v7_heade
 
 def sources():
     """The files of the crates that declare what C sees, by their paths below crates."""
-    paths = [path for crate in ("v7_c", "library_calls", "link_maps", "finding_objects") for path in glob.glob(f"{TOP}/crates/{crate}/src/*.rt")]
+    paths = [path for crate in ("v7_c", "library_calls", "link_maps") for path in glob.glob(f"{TOP}/crates/{crate}/src/*.rt")]
     return {os.path.relpath(path, f"{TOP}/crates"): read(path) for path in paths}
 
 

@@ -1,7 +1,7 @@
 """Compares the limits that the documents name with the constants of the code that enforce them, and the version of v7.h with that of the
 programs and packages. Where a constant, or the number in a document, is another one, the text of the document is not found.
 
-tier: text, 1 seconds; for: docs/LINK.md README.md
+tier: text, 1 seconds; for: crates docs/LINK.md README.md
 """
 import re
 

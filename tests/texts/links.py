@@ -2,7 +2,7 @@
 test. No link leads nowhere, and docs/README.md has a link to each document.
 
 usage: python3 -m tests.texts.links [FILE ..]     all texts of the repository, or these
-tier: text, 4 seconds; for: docs README.md CONTRIBUTING.md CHANGES.md man examples
+tier: text, 4 seconds; for: docs README.md CONTRIBUTING.md CHANGES.md man examples crates include packaging tests tools Makefile
 """
 import functools
 import glob

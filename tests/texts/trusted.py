@@ -11,7 +11,7 @@ comments and empty lines. Each function and type that a table of PROOFS names ha
 
 usage: python3 -m tests.texts.trusted        compares
        python3 -m tests.texts.trusted -w     writes the numbers of PROOFS and TRUST
-tier: text, 6 seconds; for: docs/PROOFS.md docs/TRUST.md
+tier: text, 6 seconds; for: crates crates.txt docs/PROOFS.md docs/TRUST.md
 """
 import functools
 import glob

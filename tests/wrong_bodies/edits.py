@@ -5,7 +5,7 @@ earlier ones left. The gate has the prover refuse the files *.edit in must-fail/
 of its file wrong-bodies, with a blank line between two: each begins with the lines 'name: NAME' and 'does: SENTENCE', which is what it
 would do to a user. `make check-wrong-bodies` has the prover refuse all.
 
-tier: text, 1 seconds
+tier: text, 1 seconds; for: crates
 """
 import glob
 import os
