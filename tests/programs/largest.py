@@ -235,13 +235,12 @@ def shown_in_rows(kind):
     """Text and data of each file in rows have all words, those of rows that are alike too, and all labels."""
     labels = sum(of & 0o37 in (2, 3, 4) for file in KINDS[kind] for _, of, _ in file.symbols)
     words = sum(len(file.words) + len(file.data) for file in KINDS[kind])
-    for option, digits, end, columns in ("-s", 6, 63, 1), ("-x", 4, 53, 2):
-        status, text, errors = answer("v7-explain", option, *written(encoded(kind)))
-        same(f"{option}", (status, errors), (int(kind.startswith("bad")), ""))
-        rows = re.findall(rf"^[0-9a-f]{{{digits}}}  .*$", text, re.M)
-        alike = re.findall(r"^/ .*: the row before, (?:once|(\d+) times)$", text, re.M)
-        same(f"words of {option}", sum(len(row[digits:end].split()) // columns for row in rows) + sum(8 * int(times or 1) for times in alike), words)
-        same(f"labels of {option}", len(re.findall(r"^n\d+:$", text, re.M)), labels)
+    status, text, errors = answer("v7-explain", "-s", *written(encoded(kind)))
+    same("-s", (status, errors), (int(kind.startswith("bad")), ""))
+    rows = re.findall(r"^[0-7]{6}  .*$", text, re.M)
+    alike = re.findall(r"^/ .*: the row before, (?:once|(\d+) times)$", text, re.M)
+    same("words", sum(len(row[6:63].split()) for row in rows) + sum(8 * int(times or 1) for times in alike), words)
+    same("labels", len(re.findall(r"^n\d+:$", text, re.M)), labels)
 
 
 def inventoried(kind):
