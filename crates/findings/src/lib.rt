@@ -35,6 +35,6 @@ pub use kind::KindText;
 pub use notes::Notes;
 pub use odd::odd_of;
 pub use other_files::{OtherForm, header_of, is_of_gnu, likeness, other_form};
-pub use places::{FilePlaces, Labelled, Title};
+pub use places::{FilePlaces, TextAddress, Title};
 pub use remains::{decode_there, put_missing, relocs_there};
 pub use wrong::{is_damaged, put_instruction, wrong_bytes, wrong_in, wrong_words};

@@ -109,8 +109,7 @@ pub(crate) fn has_address(header: &Header, segment: Segment, address: u16) -> bo
     let range = range_of(header, segment);
     match segment {
         Segment::TextSeg => address <= header.text_size,
-        Segment::DataSeg => range.has(address),
-        Segment::BssSeg => range.has(address),
+        Segment::DataSeg | Segment::BssSeg => range.has(address),
         Segment::Undefined | Segment::Absolute | Segment::Other => true,
     }
 }
@@ -139,7 +138,7 @@ impl Display for Outside {
 
 /// An address of text, with the nearest label at it or before it: `000022 (_stat+22)`. (own choice)
 #[derive(Clone, Copy)]
-pub struct Labelled<'a> {
+pub struct TextAddress<'a> {
     pub symbols: &'a [Symbol],
     pub address: u16,
 }
@@ -162,7 +161,7 @@ fn label_before(symbols: &[Symbol], address: u16) -> Option<&Symbol> {
     best
 }
 
-impl Display for Labelled<'_> {
+impl Display for TextAddress<'_> {
     fn fmt<W: fmt::Write>(&self, f: &mut Formatter<W>) -> fmt::Result {
         let address = self.address;
         write!(f, "{address:06o}")?;

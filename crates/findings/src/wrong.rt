@@ -8,7 +8,7 @@ ghost use Rattle.findings.specs.internal.BadWords.{all_bad};
 
 use crate::finding::{Finding, FindingKind, Findings};
 use crate::other_files::header_of;
-use crate::places::{FilePlaces, Labelled, SymbolName};
+use crate::places::{FilePlaces, SymbolName, TextAddress};
 use aout_core::{File, Header, Kind, ObjectFault, ReadFault, Reloc, Symbol};
 use disassemblies::{NamedFile, line_start, line_starts, put_line_text};
 use instructions::Decoder;
@@ -207,7 +207,7 @@ fn put_bad_word(text: &mut Text, symbols: &[Symbol], bad: BadWord) {
 /// Appends the instruction that begins at a word, if it is one of text, as `; the instruction at 000002 (_f+2) is mov 0,r0`. (own choice)
 pub fn put_instruction(text: &mut Text, named: &NamedFile<'_>, place: usize) {
     if place < named.file().text_words().len() {
-        let labelled = Labelled {
+        let labelled = TextAddress {
             symbols: named.file().symbols(),
             address: (2 * place) as u16,
         };

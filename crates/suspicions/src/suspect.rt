@@ -6,7 +6,7 @@ ghost use Rattle.suspicions.specs.Branches.{word_place};
 use crate::evidence::Reached;
 use crate::trust::Trust;
 use disassemblies::Sweep;
-use findings::{FindingKind, Findings, Labelled, put_instruction};
+use findings::{FindingKind, Findings, TextAddress, put_instruction};
 use std::fmt::Display;
 
 /// A line of a file's text: the place at which it begins, how far it is sure that it is an instruction, and the lines that a branch may
@@ -72,7 +72,7 @@ impl<'a> Suspect<'a> {
     {
         let (symbols, is_sure) = (self.sweep().file().symbols(), self.trust.is_sure);
         let (address, doubt) = (self.address(), doubt_text(is_sure));
-        let at = Labelled { symbols, address };
+        let at = TextAddress { symbols, address };
         let mut text = findings.text();
         text.say(format_args!("{before} {at}{after}{doubt}"));
         findings.find_as(is_sure, place, kind, text);

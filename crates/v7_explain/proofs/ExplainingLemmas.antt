@@ -3,10 +3,10 @@ use Rattle.std.proofs.Common.{◌≡◌, ◌≢◌, ℕ, suc, ◌<◌, ◌+◌, 
 use Rattle.std.proofs.Common.{string_bytes, refl, sym, ap, ◌∙◌, subst, inl, inr, arith}
 use Rattle.std.specs.{Prelude.Result, Prelude.Ok, Prelude.Err, Prelude.String, declared.alloc.Global.Global}
 use Rattle.aout_core.specs.Refusals.{refused}
-use Rattle.surroundings.specs.{Answer.Answer, Answers.Ends, Answers.Stops, Events.History, declared.answer.Fault.Fault}
+use Rattle.surroundings.specs.{Answer.Answer, Answers.Ends, Answers.Stops, Events.History, Programs.either, declared.answer.Fault.Fault}
 use Rattle.surroundings.specs.Sources.{EndsReading}
 use Rattle.explanations.specs.declared.file_kind.FileKind.{FileKind}
-use Rattle.v7_explain.specs.{Files.IsRow, Files.IsUnnamed, Joined.GivesOr, Joined.either, Joined.joined, Joined.nothing_said}
+use Rattle.v7_explain.specs.{Files.IsRow, Files.IsUnnamed, Joined.GivesOr, Joined.joined, Joined.nothing_said}
 use Rattle.v7_explain.specs.{Walks.Folders, Walks.Found, Walks.kind_in, Walks.path_found}
 use Rattle.v7_explain.specs.Runs.{Explains, ExplainsFound, ExplainsNamed, IsExplaining, IsKind, IsSaid, ReadsFor}
 use Rattle.v7_explain.specs.{declared.explaining.Mode.TheVariants.Listing, declared.explaining.Mode.TheVariants.Show}

@@ -16,9 +16,8 @@ use Rattle.link_maps.proofs.{LinkLemmas.shows_link, TakingLemmas.none_split, Tak
 use Rattle.link_out.specs.Inputs.{Cause, Refusal, at_path, linked, not_added, of_input}
 use Rattle.link_out.specs.{Steps.and_then, declared.linked.LinkFault.LinkFault, declared.linked.Linked.Linked, function.Link.Outcome}
 use Rattle.link_session.specs.{Labelled.Labelled, Labelled.objects, Sessions.nothing_kept, Undo.Kept}
-use Rattle.surroundings.specs.{Answer.Answer, Answers.EndsOr, Events.History, declared.answer.Fault.Fault}
+use Rattle.surroundings.specs.{Answer.Answer, Answers.EndsOr, Events.History, Programs.either, declared.answer.Fault.Fault}
 use Rattle.tool_options.specs.Choices.{Choices}
-use Rattle.v7_explain.specs.Joined.{either}
 use Rattle.v7_explain.specs.Maps.{AreTaken, HaveObjects, IsMap, IsMapCall, IsMapping, IsTaking, MapsCall, link_words, nothing_taken}
 use Rattle.v7_explain.specs.Maps.{status_asked, status_linked}
 use Rattle.v7_explain.specs.internal.Takes.{IsMapAnswer, KeepsSplit, TakesAll, status_made, status_mapped}

@@ -1,5 +1,5 @@
 -- Answers of v7-explain, one after another. (own choice)
-use Rattle.std.specs.Prelude.{◌≡◌, Bool, true, false, max, [], ◌++◌, Result, Ok, Err}
+use Rattle.std.specs.Prelude.{◌≡◌, max, [], ◌++◌, Result, Ok, Err}
 use Rattle.aout_core.specs.Refusals.{refused}
 use Rattle.surroundings.specs.{Answer.Answer, Answers.only_errors, declared.answer.Fault.Fault}
 use Rattle.surroundings.specs.declared.answer.Fault.TheVariants as faults
@@ -10,11 +10,6 @@ nothing_said = only_errors [] 0
 -- one answer after another; the status is the larger one
 abbrev pub joined : Answer → Answer → Answer
 joined said more = record { output = said.output ++ more.output; errors = said.errors ++ more.errors; status = max said.status more.status }
-
--- the first, if the test holds, and else the second
-abbrev pub either : Bool → Type 0 → Type 0 → Type 0
-either true first second = first
-either false first second = second
 
 -- an answer of which this holds, or memory runs out for it
 abbrev pub GivesOr : (Answer → Type 0) → Result Answer Fault → Type 0

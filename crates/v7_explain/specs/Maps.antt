@@ -12,10 +12,10 @@ use Rattle.link_out.specs.Inputs.{Cause, Refusal, linked, object_in}
 use Rattle.link_out.specs.{function.Link.Outcome, function.Reports.status_of}
 use Rattle.link_session.specs.Labelled.{Labelled}
 use Rattle.v7_explain.specs.Asked.{has_absent}
-use Rattle.surroundings.specs.{Answer.Answer, Answers.Ends, Answers.EndsOr, Events.History}
+use Rattle.surroundings.specs.{Answer.Answer, Answers.Ends, Answers.EndsOr, Events.History, Programs.either}
 use Rattle.surroundings.specs.{Sources.ReadsAt, Sources.ReadsNone, declared.answer.Fault.Fault}
 use Rattle.tool_options.specs.Choices.{Choices}
-use Rattle.v7_explain.specs.{Joined.either, Joined.joined, Joined.nothing_said}
+use Rattle.v7_explain.specs.{Joined.joined, Joined.nothing_said}
 use Rattle.surroundings.specs.declared.answer.Fault.TheVariants as faults
 
 -- ---- objects
