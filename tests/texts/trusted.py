@@ -46,6 +46,8 @@ IDS = [("command_words", "words"), ("command_words", "link_words"), ("instructio
 OTHERS = ["v7", "conformance", "v7_lesson", "library_uses", "device_tests"]
 LIBRARIES = [crate for crate in crates_in(".") if crate not in OTHERS]
 IMPORT = re.compile(r"^ *(?:pub )?(?:ghost )?use Rattle\.(\w+)\.(specs|proofs)(?:\.([\w.]+?))?(?:\.\{([^}]*)\}|(?: as (\w+))?);?$")
+# in a list of names those of one module: `Contents.{Fits, bss_end}`
+INNER = re.compile(r"([\w.]+)\.\{([^{}]*)\}(?=[,}])")
 # in a cell of PROOFS a name: a function or a type, after the module or the type that it is of
 NAME = re.compile(r"`(?:\w+::)*(\w+)`")
 faults = []
@@ -56,7 +58,7 @@ faults = []
 def imports(text):
     """Each name that is brought in, with the crate, the folder and the module that it is from, and its name there."""
     for line in text.split("\n"):
-        found = IMPORT.match(line)
+        found = IMPORT.match(INNER.sub(lambda it: ", ".join(f"{it[1]}.{name.strip()}" for name in it[2].split(",")), line))
         if found and found[1] in LIBRARIES:
             crate, folder, module, names, alias = found.groups()
             for name in (names or alias or module.split(".")[-1]).split(","):

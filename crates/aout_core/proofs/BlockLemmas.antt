@@ -1,7 +1,6 @@
 -- Bytes that wait in a block.
 use Rattle.std.proofs.Common.{◌≡◌, ℕ, ◌+◌, ◌-◌, ◌≤◌, List, length, take, drop, slice_range, sym, ◌∙◌, ap, arith, drop-drop, length-drop}
-use Rattle.std.proofs.Common.{length-take-le}
-use Rattle.std.proofs.lemmas.List.{drop-take}
+use Rattle.std.proofs.{Common.length-take-le, lemmas.List.drop-take}
 
 -- what is left of a part of a list, once its front was taken
 pub slice_range-front : (xs : List ℕ) (start end n : ℕ) → n ≤ end - start →

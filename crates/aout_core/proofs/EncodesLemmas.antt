@@ -4,8 +4,7 @@ use Rattle.std.proofs.Common.{take, drop, replicate, length, Some, refl, sym, �
 use Rattle.std.proofs.Common.{length-take, length-drop, drop-drop, drop_at, eqb-true, le-ltb, ◌⊎◌, inl, inr}
 use Rattle.std.proofs.lemmas.List.{take-append-drop, take_all, take-append-le, drop-append-le}
 use Rattle.std.proofs.{Math.Seq.take-add, lemmas.Option.slice_get_within}
-use Rattle.std.specs.Prelude.{slice_get, slice_index, Result, Ok, nat_lt}
-use Rattle.std.specs.List.{flat_map, AllByRecursion}
+use Rattle.std.specs.{Prelude.{slice_get, slice_index, Result, Ok, nat_lt}, List.{flat_map, AllByRecursion}}
 use Rattle.aout_core.specs.Encoding.{header_words, header_encoding, reloc_encoding, symbol_encoding, relocation_at, symbols_at, file_length}
 use Rattle.aout_core.specs.Encoding.{encoding}
 use Rattle.aout_core.specs.Decoding.{part, header_of, header_in, relocs_in, symbol_in, symbols_in, contents_in, decode_with, decode}
@@ -17,8 +16,7 @@ use Rattle.aout_core.proofs.AlikeLemmas.{AreAlike, slice_get_front, slice_get_af
 use Rattle.aout_core.proofs.AlikeLemmas.{alike_self, alike_same}
 use Rattle.aout_core.proofs.EncodingLemmas.{decode-encoding, nul_free_head, word_back, with_relocation-add, length-all_word_bytes}
 use Rattle.aout_core.proofs.EncodingLemmas.{length-reloc_encoding, length-header_encoding, length-padded, length-symbol_encoding}
-use Rattle.aout_core.proofs.EncodingLemmas.{length-symbols_encoding}
-use Rattle.aout_core.proofs.{DecodingLemmas.Passed, DecodingLemmas.decoded_passed, DecodingLemmas.decoded_fits, DecodingLemmas.length-words_in}
+use Rattle.aout_core.proofs.{EncodingLemmas.length-symbols_encoding, DecodingLemmas.{Passed, decoded_passed, decoded_fits, length-words_in}}
 use Rattle.aout_core.proofs.NameLemmas.{length-before_nul-le, before_nul-twice}
 
 bytes_take : (n : ℕ) (bytes : List ℕ) → AreBytes bytes → AreBytes (take n bytes)

@@ -5,10 +5,9 @@ use Rattle.std.proofs.Common.{take-append-drop, suc-add, zero-add, mul-suc}
 use Rattle.std.proofs.{lemmas.List.drop_all, lemmas.List.take-append-le, lemmas.List.drop-append-le, KnownBytes.Consumes-trans}
 use Rattle.std.specs.{Io.KnownBytes.Consumes, Io.KnownBytes.prepend_known, Prelude.Err}
 use Rattle.aout_core.specs.declared.file.ReadFault.TheVariants.{ShortHeader, BadMagic, OddSize, Memory, Truncated, Device}
-use Rattle.aout_core.specs.internal.ReadParts.{EndsEarly, IsBodyRead}
-use Rattle.aout_core.specs.internal.Blocks.{Awaited, awaited, EndsBefore, Refills, Takes}
-use Rattle.aout_core.specs.internal.Rows.{row_in, TakesItem, TakesRow}
-use Rattle.aout_core.specs.{declared.file.ReadFault.ReadFault, declared.header.Header.Header, Encoding.file_length}
+use Rattle.aout_core.specs.{internal.ReadParts.{EndsEarly, IsBodyRead}, internal.Blocks.{Awaited, awaited, EndsBefore, Refills, Takes}}
+use Rattle.aout_core.specs.{internal.Rows.{row_in, TakesItem, TakesRow}, declared.file.ReadFault.ReadFault, declared.header.Header.Header}
+use Rattle.aout_core.specs.Encoding.{file_length}
 
 -- bytes taken from those that waited
 pub taken_waiting : (a : Option (List ℕ)) (waiting out rest : List ℕ) → waiting ≡ out ++ rest →

@@ -1,14 +1,11 @@
 -- Items in a row, several of which are taken from a block or put into one.
 use Rattle.std.proofs.Common.{◌≡◌, ℕ, zero, suc, ◌+◌, ◌*◌, ◌∷◌, ◌<◌, ◌≤◌, List, [], ◌++◌, length, take, drop, Option, sym, ◌∙◌, ap, subst}
 use Rattle.std.proofs.Common.{arith, append_assoc, append-nil, length-append, length-take-le, length-drop, take-append-drop, suc-add}
-use Rattle.std.proofs.Common.{zero-add, add-zero, mul-suc}
-use Rattle.std.proofs.lemmas.List.{take-append-le, drop-append-le}
-use Rattle.std.proofs.{lemmas.Grind.flat_map-append, KnownBytes.Consumes-nil, Math.Nat.mul-le-mul_left}
+use Rattle.std.proofs.{Common.{zero-add, add-zero, mul-suc}, lemmas.List.{take-append-le, drop-append-le}, lemmas.Grind.flat_map-append}
+use Rattle.std.proofs.{KnownBytes.Consumes-nil, Math.Nat.mul-le-mul_left}
 use Rattle.std.specs.{List.flat_map, Io.KnownBytes.prepend_known}
-use Rattle.aout_core.specs.internal.Blocks.{AppendsBut, Awaited, awaited}
-use Rattle.aout_core.specs.{Wires.AppendsPrefix, internal.Rows.row_in, internal.Rows.TakesRow}
-use Rattle.aout_core.proofs.IncomingLemmas.{taken_waiting, takes_more}
-use Rattle.aout_core.proofs.OutgoingLemmas.{appends_but_more, broke_before, broke_more}
+use Rattle.aout_core.specs.{internal.Blocks.{AppendsBut, Awaited, awaited}, Wires.AppendsPrefix, internal.Rows.{row_in, TakesRow}}
+use Rattle.aout_core.proofs.{IncomingLemmas.{taken_waiting, takes_more}, OutgoingLemmas.{appends_but_more, broke_before, broke_more}}
 
 -- two rows, one after the other
 row_in-append : {A : Type 0} (item_in : List ℕ → A) (width m n : ℕ) (front back : List ℕ) → length front ≡ width * m →

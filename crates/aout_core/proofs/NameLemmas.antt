@@ -1,8 +1,7 @@
 -- The bytes before the first NUL, by the place of that NUL.
 use Rattle.std.proofs.Common.{◌≡◌, ◌==◌, ◌+◌, ◌-◌, ◌≤◌, min, ℕ, Bool, true, false, List, [], ◌∷◌, ◌++◌, length, take, drop, replicate, cond}
 use Rattle.std.proofs.Common.{refl, sym, ap, ◌∙◌, arith, if◌then◌else◌, zero, suc, nat_lt, ltb, Some, None}
-use Rattle.std.proofs.lemmas.List.{take_all, drop-replicate, take_min, take-replicate}
-use Rattle.std.proofs.lemmas.List.Sums.{prefix_len-le-length}
+use Rattle.std.proofs.{lemmas.List.{take_all, drop-replicate, take_min, take-replicate}, lemmas.List.Sums.prefix_len-le-length}
 use Rattle.std.proofs.{lemmas.Bool.ltb-false, Math.Seq.take-append-add, lemmas.List.Recursion.is_position_or_len}
 use Rattle.std.specs.List.{position, position_or_len}
 use lib.Lanes.{sel_l, zip2}

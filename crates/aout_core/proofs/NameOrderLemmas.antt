@@ -2,10 +2,9 @@
 use Rattle.std.proofs.Common.{◌≡◌, ◌+◌, ◌*◌, ◌-◌, ◌<◌, ◌≤◌, ℕ, zero, suc, Bool, true, false, ◌==◌, if◌then◌else◌, List, [], ◌∷◌, ◌++◌}
 use Rattle.std.proofs.Common.{length, drop, replicate, get_or, refl, sym, ap, subst, ◌∙◌, arith, w64}
 use Rattle.std.proofs.{Math.Nat.mul-le-mul_right, lemmas.Bool.eqb-false, lemmas.Cmp.ranked}
-use Rattle.std.specs.Ordering.{MatchOrdering, nat_cmp, ordering_then, is_eq}
-use Rattle.std.specs.declared.cmp.Ordering.TheVariants.{Less, Equal, Greater}
-use Rattle.std.specs.Cmp.Lexicographic.{pointwise, slice_cmp, texts_ties}
-use Rattle.std.specs.{Prelude.nat_eq, Int.from_be_bytes, declared.cmp.Ordering.Ordering, Cmp.unsigned_ties}
+use Rattle.std.specs.{Ordering.{MatchOrdering, nat_cmp, ordering_then, is_eq}, declared.cmp.Ordering.TheVariants.{Less, Equal, Greater}}
+use Rattle.std.specs.{Cmp.Lexicographic.{pointwise, slice_cmp, texts_ties}, Prelude.nat_eq, Int.from_be_bytes}
+use Rattle.std.specs.{declared.cmp.Ordering.Ordering, Cmp.unsigned_ties}
 use Rattle.aout_core.specs.Names.{before_nul, padded}
 use Rattle.aout_core.proofs.NameLemmas.{padded-short, before_nul-twice, length-before_nul-le}
 

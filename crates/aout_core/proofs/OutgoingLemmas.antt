@@ -1,6 +1,5 @@
 -- What went out, and what waits.
-use Rattle.std.proofs.Common.{◌≡◌, ℕ, List, ◌++◌, Option, sym, ◌∙◌, ap, subst, append_assoc}
-use Rattle.std.proofs.KnownBytes.{Appends-trans}
+use Rattle.std.proofs.{Common.{◌≡◌, ℕ, List, ◌++◌, Option, sym, ◌∙◌, ap, subst, append_assoc}, KnownBytes.Appends-trans}
 use Rattle.std.specs.{Prelude.Result, Prelude.Ok, Prelude.Err, Prelude.IsErr, Io.KnownBytes.Appends}
 use Rattle.aout_core.specs.{Wires.AppendsPrefix, Wires.Puts, internal.Blocks.AppendsBut, internal.Blocks.PutsBut}
 use Rattle.aout_core.proofs.PutsLemmas.{front_before}

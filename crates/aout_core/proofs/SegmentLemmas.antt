@@ -1,6 +1,5 @@
 -- The segment with a number.
-use Rattle.std.proofs.Common.{ℕ, zero, suc, Bool, true, false, eqb, sym, subst, arith}
-use Rattle.std.proofs.lemmas.Bool.{ne_eqb}
+use Rattle.std.proofs.{Common.{ℕ, zero, suc, Bool, true, false, eqb, sym, subst, arith}, lemmas.Bool.ne_eqb}
 use Rattle.aout_core.specs.declared.symbol.Segment.TheVariants.{Undefined, Absolute, TextSeg, DataSeg, BssSeg, Other}
 use Rattle.aout_core.specs.{declared.symbol.Segment.Segment, WellFormed.segment_numbered}
 

@@ -1,8 +1,7 @@
 -- The first bad word of two lists, one after the other.
 use Rattle.std.proofs.Common.{◌≡◌, ℕ, ◌+◌, List, [], ◌∷◌, ◌++◌, length, Option, Some, None, refl, ◌∙◌, ap, arith}
-use Rattle.aout_core.specs.WellFormed.{first_of, word_fault, first_bad_word, first_object_fault}
-use Rattle.aout_core.specs.{declared.reloc.Reloc.Reloc, declared.symbol.Symbol.Symbol, declared.object.ObjectFault.ObjectFault}
-use Rattle.aout_core.specs.{Contents.Contents}
+use Rattle.aout_core.specs.{WellFormed.{first_of, word_fault, first_bad_word, first_object_fault}, declared.reloc.Reloc.Reloc}
+use Rattle.aout_core.specs.{declared.symbol.Symbol.Symbol, declared.object.ObjectFault.ObjectFault, Contents.Contents}
 
 first_of-assoc : (a b c : Option ObjectFault) → first_of a (first_of b c) ≡ first_of (first_of a b) c
 first_of-assoc None b c = refl

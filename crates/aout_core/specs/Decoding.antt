@@ -6,9 +6,8 @@ use Rattle.std.specs.Prelude.{ℕ, zero, suc, ◌+◌, ◌/◌, not, if◌then�
 use Rattle.std.specs.Prelude.{Result, Ok, Err}
 use Rattle.aout_core.specs.declared.file.ReadFault.TheVariants.{ShortHeader, BadMagic, OddSize, Truncated}
 use Rattle.aout_core.specs.Contents.{Contents, is_magic, has_whole_sizes, with_relocation}
-use Rattle.aout_core.specs.Encoding.{relocation_at, symbols_at, file_length}
-use Rattle.aout_core.specs.{declared.header.Header.Header, declared.reloc.Reloc.Reloc, declared.symbol.Symbol.Symbol}
-use Rattle.aout_core.specs.{declared.file.ReadFault.ReadFault, Words.words_in, Names.before_nul}
+use Rattle.aout_core.specs.{Encoding.{relocation_at, symbols_at, file_length}, declared.header.Header.Header, declared.reloc.Reloc.Reloc}
+use Rattle.aout_core.specs.{declared.symbol.Symbol.Symbol, declared.file.ReadFault.ReadFault, Words.words_in, Names.before_nul}
 
 -- size bytes from a place on
 abbrev pub part : ℕ → ℕ → List ℕ → List ℕ

@@ -2,9 +2,8 @@
 --
 -- The file that the bytes begin with is read as `read_file` reads it, and then checked.
 use Rattle.std.specs.Prelude.{◌≡◌, ℕ, List, Option, Some, Result, Ok, Err}
-use Rattle.aout_core.specs.{declared.object_reader.NoObject.NoObject, declared.object_reader.NoObject.TheVariants.NotRead}
-use Rattle.aout_core.specs.{declared.object_reader.NoObject.TheVariants.NotFit, Contents.Contents, Reading.IsReadOf, Reading.LeavesAfter}
-use Rattle.aout_core.specs.{WellFormed.first_object_fault, WellFormed.IsWellFormed}
+use Rattle.aout_core.specs.{declared.object_reader.NoObject.NoObject, declared.object_reader.NoObject.TheVariants.{NotRead, NotFit}}
+use Rattle.aout_core.specs.{Contents.Contents, Reading.{IsReadOf, LeavesAfter}, WellFormed.{first_object_fault, IsWellFormed}}
 
 abbrev pub IsObjectRead : Result Contents NoObject → List ℕ → Option (List ℕ) → Type 0
 IsObjectRead (Ok c) bytes left = IsReadOf (Ok c) bytes × LeavesAfter (Ok c) bytes left × IsWellFormed c

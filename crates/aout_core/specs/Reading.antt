@@ -4,9 +4,8 @@
 -- from the bytes: whether memory runs out for the lists, and whether the device fails.
 use Rattle.std.specs.Prelude.{◌≡◌, ℕ, ◌<◌, ◌≤◌, List, [], drop, length, Option, Some, Result, Ok, Err, IsTrue}
 use Rattle.aout_core.specs.declared.file.ReadFault.TheVariants.{ShortHeader, Memory, Truncated, Device}
-use Rattle.aout_core.specs.Contents.{Contents, is_magic, has_whole_sizes}
-use Rattle.aout_core.specs.{declared.header.Header.Header, declared.file.ReadFault.ReadFault, Encoding.file_length, Decoding.header_in}
-use Rattle.aout_core.specs.{Decoding.decode}
+use Rattle.aout_core.specs.{Contents.{Contents, is_magic, has_whole_sizes}, declared.header.Header.Header}
+use Rattle.aout_core.specs.{declared.file.ReadFault.ReadFault, Encoding.file_length, Decoding.{header_in, decode}}
 
 -- nothing is wrong with the magic and the sizes
 pub record IsFileHeader (h : Header) : Type 0 where

@@ -2,8 +2,7 @@
 --
 -- A wire is a reader or a writer with a latch that goes on when the device fails, and stays on. What a writer holds is a list of
 -- bytes if it is known (`Some`), and writing appends to it: all of the bytes, or on a fault a prefix of them.
-use Rattle.std.specs.Prelude.{◌≡◌, ℕ, List, [], ◌++◌, ◌↔◌, Bool, false, Option, Result, IsErr, IsTrue, MatchResult}
-use Rattle.std.specs.Io.KnownBytes.{Appends}
+use Rattle.std.specs.{Prelude.{◌≡◌, ℕ, List, [], ◌++◌, ◌↔◌, Bool, false, Option, Result, IsErr, IsTrue, MatchResult}, Io.KnownBytes.Appends}
 
 -- a device, and whether it has failed
 pub record Latched (D : Type 0) : Type 0 where

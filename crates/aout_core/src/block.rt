@@ -47,8 +47,7 @@ fn bring_front(bytes: &mut [u8; BLOCK_SIZE], start: usize, end: usize) -> usize
 impl Block {
     ghost use Rattle.std.specs.Prelude.{◌≡◌, ◌↔◌, ◌≤◌, ◌<◌, ◌-◌, ◌++◌, [], true, min, length, take, drop, IfOk, IfErr, IsErr, IsTrue};
     ghost use Rattle.std.specs.Io.KnownBytes.{Consumes, IsAtEnd, Keeps};
-    ghost use Rattle.aout_core.specs.Wires.{Writes};
-    ghost use Rattle.aout_core.specs.declared.block.TheConstants.{BLOCK_SIZE};
+    ghost use Rattle.aout_core.specs.{Wires.Writes, declared.block.TheConstants.BLOCK_SIZE};
 
     /// A block in which nothing waits. (own choice)
     pub fn new() -> Block

@@ -1,7 +1,6 @@
 //! A file in memory.
 ghost use Rattle.std.specs.Prelude.{◌≡◌, ◌↔◌, ◌*◌, IsTrue};
-ghost use Rattle.aout_core.specs.Contents.{is_magic, has_whole_sizes};
-ghost use Rattle.aout_core.specs.declared.file.ReadFault.TheVariants.{Memory, Device};
+ghost use Rattle.aout_core.specs.{Contents.{is_magic, has_whole_sizes}, declared.file.ReadFault.TheVariants.{Memory, Device}};
 ghost use Rattle.aout_core.specs.Refusals.{device_fault, refused};
 
 use crate::header::Header;
@@ -36,8 +35,7 @@ impl Model for File {
 
     ghost Value = { Contents };
 
-    ghost use Rattle.aout_core.specs.Parts.{contents_of};
-    ghost use Rattle.aout_core.specs.Contents.{Fits, AreWords};
+    ghost use Rattle.aout_core.specs.{Parts.contents_of, Contents.{Fits, AreWords}};
 
     ghost view = { λ a. contents_of a.parts };
 
@@ -70,8 +68,7 @@ fn words_fit(len: usize, size: u16) -> bool
 
 impl Parts {
     ghost use Rattle.std.specs.Prelude.{◌≡◌, ◌↔◌, ◌*◌, IsTrue, length};
-    ghost use Rattle.aout_core.specs.Parts.{contents_of};
-    ghost use Rattle.aout_core.specs.Contents.{Fits, with_relocation};
+    ghost use Rattle.aout_core.specs.{Parts.contents_of, Contents.{Fits, with_relocation}};
 
     /// Whether the parts make a file: the magic is one of the four, the sizes are whole, and each list is as long as
     /// the header says; without relocation the lists of relocation words are empty. (a.out(5); whole sizes: own
@@ -109,8 +106,7 @@ impl Parts {
 
 impl File {
     ghost use Rattle.std.specs.Prelude.{◌≡◌, ◌*◌, ◌^◌, ◌<◌, length};
-    ghost use Rattle.aout_core.specs.Parts.{contents_of};
-    ghost use Rattle.aout_core.specs.Contents.{Fits};
+    ghost use Rattle.aout_core.specs.{Parts.contents_of, Contents.Fits};
 
     /// The file of these parts, which have to fit: `Parts::fits` checks that. (a.out(5))
     pub fn from_parts(parts: Parts) -> File

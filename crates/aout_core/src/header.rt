@@ -1,8 +1,6 @@
 //! The header of a file.
 ghost use Rattle.std.specs.Prelude.{◌≡◌, ◌+◌, ◌<◌, ◌≤◌};
-ghost use Rattle.aout_core.specs.Addresses.{data_start_in};
-ghost use Rattle.aout_core.specs.Contents.{with_relocation};
-ghost use Rattle.aout_core.specs.Encoding.{file_length, header_encoding};
+ghost use Rattle.aout_core.specs.{Addresses.data_start_in, Contents.with_relocation, Encoding.{file_length, header_encoding}};
 ghost use Rattle.aout_core.specs.Decoding.{header_in};
 
 use crate::address::data_start;

@@ -26,8 +26,7 @@ impl Model for Incoming {
 
 impl Incoming {
     ghost use Rattle.std.specs.Prelude.{◌≡◌, ◌↔◌, ◌≤◌, [], false, drop, length, IfOk, IfErr, IsTrue, Err};
-    ghost use Rattle.aout_core.specs.declared.block.TheConstants.{BLOCK_SIZE};
-    ghost use Rattle.aout_core.specs.internal.Blocks.{awaited, EndsBefore, Refills, Takes};
+    ghost use Rattle.aout_core.specs.{declared.block.TheConstants.BLOCK_SIZE, internal.Blocks.{awaited, EndsBefore, Refills, Takes}};
     ghost use Rattle.aout_core.specs.internal.Items.{EndsAwaiting};
 
     /// Nothing was read yet.

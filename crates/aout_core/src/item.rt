@@ -2,14 +2,9 @@
 ghost use Rattle.std.specs.Prelude.{◌≡◌, ◌+◌, ◌-◌, ◌*◌, ◌≤◌, ◌++◌, ◌↔◌, ℕ, List, Option, false, IfOk, IfErr, OnOk, IsErr, IsTrue, Err, length, vec_len, vec_capacity};
 ghost use Rattle.std.specs.List.{flat_map};
 ghost use Rattle.std.proofs.Common.{rules};
-ghost use Rattle.aout_core.specs.declared.block.TheConstants.{BLOCK_SIZE};
-ghost use Rattle.aout_core.specs.Words.{word_bytes};
-ghost use Rattle.aout_core.specs.Decoding.{symbol_in};
-ghost use Rattle.aout_core.specs.Encoding.{symbol_encoding};
-ghost use Rattle.aout_core.specs.internal.Blocks.{awaited, PutsBut};
-ghost use Rattle.aout_core.specs.internal.Items.{EndsAwaiting, PutsBoth, TakesAll};
-ghost use Rattle.aout_core.specs.internal.Rows.{row_in, word_in, reloc_in, TakesItem, TakesRow};
-ghost use Rattle.aout_core.specs.Refusals.{device_fault};
+ghost use Rattle.aout_core.specs.{declared.block.TheConstants.BLOCK_SIZE, Words.word_bytes, Decoding.symbol_in, Encoding.symbol_encoding};
+ghost use Rattle.aout_core.specs.{internal.Blocks.{awaited, PutsBut}, internal.Items.{EndsAwaiting, PutsBoth, TakesAll}};
+ghost use Rattle.aout_core.specs.{internal.Rows.{row_in, word_in, reloc_in, TakesItem, TakesRow}, Refusals.device_fault};
 
 use crate::block::BLOCK_SIZE;
 use crate::file::ReadFault;

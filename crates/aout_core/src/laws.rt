@@ -1,9 +1,7 @@
 //! Laws of the format, over its definitions alone: each is the contract of a function with an empty body, but for
 //! `sound_law`, whose body looks at each part of a file.
-ghost use Rattle.std.specs.Prelude.{◌<◌};
-ghost use Rattle.std.specs.List.{AllByRecursion};
-ghost use Rattle.aout_core.specs.Words.{AreBytes};
-ghost use Rattle.aout_core.specs.Contents.{IsWord, AreWords, IsSymbol, IsSound};
+ghost use Rattle.std.specs.{Prelude.◌<◌, List.AllByRecursion};
+ghost use Rattle.aout_core.specs.{Words.AreBytes, Contents.{IsWord, AreWords, IsSymbol, IsSound}};
 ghost use Rattle.aout_core.specs.Laws.{EncodingLaw, ReadingLaw, OneFile, EncodedIsRead};
 
 use crate::file::File;

@@ -1,8 +1,6 @@
 //! The name of a symbol.
 ghost use Rattle.std.specs.Prelude.{◌≡◌, ℕ, ◌-◌, ◌<◌, ◌≤◌, [], ◌∷◌, ◌++◌, get_or, take, replicate, length, Some, nat_eq, refl};
-ghost use Rattle.std.specs.Int.{w64, from_be_bytes};
-ghost use Rattle.std.specs.Ordering.{nat_cmp};
-ghost use Rattle.std.specs.Cmp.{partial_equiv_from_equiv};
+ghost use Rattle.std.specs.{Int.{w64, from_be_bytes}, Ordering.nat_cmp, Cmp.partial_equiv_from_equiv};
 ghost use Rattle.std.specs.Cmp.Lexicographic.{pointwise, slice_cmp, nat_list_eq_equiv, nat_list_cmp_total, texts_po, texts_ties, same_text};
 ghost use Rattle.std.proofs.Common.{sym, ap};
 ghost use Rattle.aout_core.specs.Names.{before_nul, padded};
@@ -25,8 +23,7 @@ impl Model for Name {
     ghost Value = { List ℕ };
 
     ghost use Rattle.std.specs.Prelude.{◌≡◌};
-    ghost use Rattle.aout_core.specs.Names.{before_nul, padded};
-    ghost use Rattle.aout_core.specs.internal.NameBytes.{from_padded};
+    ghost use Rattle.aout_core.specs.{Names.{before_nul, padded}, internal.NameBytes.from_padded};
 
     ghost view = { λ a. before_nul a.padded_bytes };
 

@@ -1,7 +1,6 @@
 //! Reading an object.
 ghost use Rattle.std.specs.Prelude.{◌≡◌, ◌↔◌, Err, IfSome, IsTrue};
-ghost use Rattle.aout_core.specs.Objects.{IsObjectRead};
-ghost use Rattle.aout_core.specs.Refusals.{device_fault};
+ghost use Rattle.aout_core.specs.{Objects.IsObjectRead, Refusals.device_fault};
 
 use crate::file::ReadFault;
 use crate::object::{Object, ObjectFault};

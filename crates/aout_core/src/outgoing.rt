@@ -27,9 +27,7 @@ impl Model for Outgoing {
 
 impl Outgoing {
     ghost use Rattle.std.specs.Prelude.{◌≡◌, ◌↔◌, ◌≤◌, ◌++◌, [], false, length, IsErr, IsTrue, OnOk};
-    ghost use Rattle.aout_core.specs.declared.block.TheConstants.{BLOCK_SIZE};
-    ghost use Rattle.aout_core.specs.Wires.{Writes};
-    ghost use Rattle.aout_core.specs.internal.Blocks.{PutsBut};
+    ghost use Rattle.aout_core.specs.{declared.block.TheConstants.BLOCK_SIZE, Wires.Writes, internal.Blocks.PutsBut};
 
     /// Nothing waits.
     pub(crate) fn new() -> Outgoing

@@ -1,12 +1,9 @@
 //! Reading a file.
 ghost use Rattle.std.specs.Prelude.{◌≡◌, ◌↔◌, ◌+◌, ◌<◌, ◌≤◌, false, length, IfOk, IfErr, IsOk, OnErr, IfSome, IsTrue};
-ghost use Rattle.aout_core.specs.Contents.{has_whole_sizes};
-ghost use Rattle.aout_core.specs.Parts.{contents_of};
-ghost use Rattle.aout_core.specs.Encoding.{file_length};
+ghost use Rattle.aout_core.specs.{Contents.has_whole_sizes, Parts.contents_of, Encoding.file_length};
 ghost use Rattle.aout_core.specs.Decoding.{contents_in, decode, header_in};
 ghost use Rattle.aout_core.specs.internal.ReadParts.{HasNoItems, HasCapacity, IsBodyRead, IsHeaderRead, TakesBody};
-ghost use Rattle.aout_core.specs.Reading.{IsFileHeader, IsReadOf, LeavesAfter};
-ghost use Rattle.aout_core.specs.Refusals.{device_fault};
+ghost use Rattle.aout_core.specs.{Reading.{IsFileHeader, IsReadOf, LeavesAfter}, Refusals.device_fault};
 
 use crate::file::{File, Parts, ReadFault, has_whole_sizes, is_magic};
 use crate::header::Header;

@@ -1,7 +1,6 @@
 //! Relocation words.
 ghost use Rattle.std.specs.Prelude.{◌≡◌};
-ghost use Rattle.aout_core.specs.Addresses.{target};
-ghost use Rattle.aout_core.specs.WellFormed.{kind_of, is_pc_relative, symbol_number};
+ghost use Rattle.aout_core.specs.{Addresses.target, WellFormed.{kind_of, is_pc_relative, symbol_number}};
 
 use crate::address::pc_target;
 

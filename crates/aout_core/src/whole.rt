@@ -1,7 +1,6 @@
 //! Files that are read whole. No contract can say what a file gives, so `read_all` has none: read its body.
 ghost use Rattle.std.specs.Prelude.{◌≡◌, ◌⊎◌, IfErr, IfOk, IfSome};
-ghost use Rattle.aout_core.specs.declared.whole.FileFault.TheVariants.{Failed, Memory};
-ghost use Rattle.aout_core.specs.Refusals.{refused};
+ghost use Rattle.aout_core.specs.{declared.whole.FileFault.TheVariants.{Failed, Memory}, Refusals.refused};
 
 use crate::refused::Refused;
 use std::alloc::{AllocGlobal, Global};

@@ -1,6 +1,5 @@
 //! A device with a latch that stays on once the device has failed.
-ghost use Rattle.std.specs.Prelude.{◌≡◌, ◌↔◌, ◌≤◌, ◌<◌, ◌++◌, [], length, take, false, IfOk, IsErr, IsTrue};
-ghost use Rattle.std.specs.Io.{ReadsAtMost};
+ghost use Rattle.std.specs.{Prelude.{◌≡◌, ◌↔◌, ◌≤◌, ◌<◌, ◌++◌, [], length, take, false, IfOk, IsErr, IsTrue}, Io.ReadsAtMost};
 ghost use Rattle.std.specs.Io.KnownBytes.{Consumes, IsAtEnd, Keeps, ReadConsumes};
 ghost use Rattle.aout_core.specs.Wires.{Writes};
 
@@ -16,8 +15,7 @@ pub struct DeviceFault(());
 
 /// A writer that may hold bytes back, and tells contracts which. (own choice)
 pub trait BufferedWrite: Write {
-    ghost use Rattle.std.specs.Prelude.{◌≡◌, ℕ, List, [], OnOk};
-    ghost use Rattle.std.specs.Io.KnownBytes.{Keeps};
+    ghost use Rattle.std.specs.{Prelude.{◌≡◌, ℕ, List, [], OnOk}, Io.KnownBytes.Keeps};
 
     ghost waiting: { Self → List ℕ };
 

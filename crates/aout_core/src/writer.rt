@@ -1,9 +1,6 @@
 //! Writing a file.
 ghost use Rattle.std.specs.Prelude.{◌≡◌, ◌++◌, ◌↔◌, false, IsErr, IsTrue};
-ghost use Rattle.aout_core.specs.Encoding.{encoding};
-ghost use Rattle.aout_core.specs.Wires.{Writes};
-ghost use Rattle.aout_core.specs.internal.Blocks.{PutsBut};
-ghost use Rattle.aout_core.specs.internal.Fronts.{to_relocation, to_table};
+ghost use Rattle.aout_core.specs.{Encoding.encoding, Wires.Writes, internal.Blocks.PutsBut, internal.Fronts.{to_relocation, to_table}};
 
 use crate::file::File;
 use crate::item::{put_both, put_items};

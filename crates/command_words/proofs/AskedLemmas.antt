@@ -1,8 +1,7 @@
 -- What a line of a script asks for.
 use Rattle.std.proofs.Common.{Result, Ok, Err, ◌≡◌, ◌≢◌, ◌==◌, ◌+◌, ℕ, Bool, true, false, not, if◌then◌else◌, List, ◌++◌, length, take}
 use Rattle.std.proofs.Common.{drop, refl, sym, ap, ◌∙◌, arith, take-append-drop, take_at, length-append}
-use Rattle.std.proofs.lemmas.Bool.{eqb-false, lt-ltb, and_from, and_left, false_from_ne_true}
-use Rattle.std.proofs.lemmas.Slice.Eq.{bytes_eq-Decides}
+use Rattle.std.proofs.{lemmas.Bool.{eqb-false, lt-ltb, and_from, and_left, false_from_ne_true}, lemmas.Slice.Eq.bytes_eq-Decides}
 use Rattle.std.proofs.lemmas.Str.{IsUtf8-from_is_utf8, is_utf8-from_IsUtf8}
 use Rattle.std.specs.{Prelude.IfErr, Prelude.bytes_eq, Prelude.codes, Prelude.nat_lt, Str.IsUtf8, Str.is_utf8}
 use Rattle.command_words.specs.Scripts.{Asked, to_add, to_withdraw, for_externals, for_undefined, to_link, for_nothing, has_path, asked}

@@ -6,10 +6,9 @@ use Rattle.aout_core.specs.Refusals.{refused}
 use Rattle.std.specs.{Prelude.IsSome, Io.KnownBytes.Consumes, Io.KnownBytes.IsAtEnd}
 use Rattle.command_words.specs.Scripts.{asked, long_line, and_given, ends_with_fault, given_after}
 use Rattle.command_words.specs.ScriptAnswers.{Answer, asked_by, HasLine, HasNone, NamesPath, after_line, WhereKnown, IsNextOf}
-use Rattle.command_words.specs.internal.LineParts.{IsStopOf, IsTakenOf}
-use Rattle.command_words.specs.{declared.lines.Line.Line, declared.line_reader.Stop.Stop}
-use Rattle.texts.specs.Lines.{lines_in, on_first}
+use Rattle.command_words.specs.{internal.LineParts.{IsStopOf, IsTakenOf}, declared.lines.Line.Line, declared.line_reader.Stop.Stop}
 use Rattle.command_words.specs.declared.line_reader.Stop.TheVariants as stops
+use Rattle.texts.specs.Lines.{lines_in, on_first}
 
 pub has_none_push : (line : List ℕ) (b : ℕ) → HasNone line → b ≢ 10 → HasNone (line ++ b ∷ [])
 has_none_push [] b h n = (n, tt)

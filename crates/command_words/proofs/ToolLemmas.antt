@@ -3,19 +3,17 @@ use Rattle.std.proofs.Common.{rules, ◌≡◌, ◌<◌, ◌+◌, ℕ, true, fal
 use Rattle.std.proofs.Common.{option_map, Result, Ok, Err, refl, sym, ap, ap₂, ◌∙◌, subst, inl, inr}
 use Rattle.std.proofs.{lemmas.Bool.false_from_ne_true, lemmas.List.at_drop_more, lemmas.Slice.Eq.bytes_eq-Decides}
 use Rattle.aout_core.specs.Refusals.{refused}
-use Rattle.std.specs.Prelude.{IfErr, IfOk, IsErrAnd, String, bytes_eq, codes, string_bytes}
-use Rattle.std.specs.{Borrow.Bor, declared.alloc.Global.Global}
+use Rattle.std.specs.{Prelude.{IfErr, IfOk, IsErrAnd, String, bytes_eq, codes, string_bytes}, Borrow.Bor, declared.alloc.Global.Global}
 use Rattle.clap.specs.Simple.{App, HasMatchesOf, app_of, is_simple, subcommand_of, subcommand_rows_of, with_rule, with_subcommand}
 use Rattle.clap.specs.{Built.AddsArg, Built.AddsSubcommand, Faults.fault_of, Faults.is_simple_and_free, Kinds.HasKind, Kinds.Kinds}
 use Rattle.clap.specs.{Matches.subcommand_name_of, Values.kind_of, Walk.Row, Walk.Rule, Walk.rule_of, declared.builder.arg.Arg.Arg}
 use Rattle.clap.specs.{declared.builder.command.Command.Command, declared.error.Error.Error, declared.parser.matches.ArgMatches.ArgMatches}
 use Rattle.clap.specs.{declared.parser.matches.ArgMatches.TheViews.out-ArgMatches}
 use Rattle.clap.proofs.{OnLiterals.clap_on_literals}
-use Rattle.command_words.specs.Calls.{Asks, AsksForNone, IsAsked, fault_of_words, name_of}
-use Rattle.command_words.specs.Tools.{bare, files_rule, v7_app}
+use Rattle.command_words.specs.{Calls.{Asks, AsksForNone, IsAsked, fault_of_words, name_of}, Tools.{bare, files_rule, v7_app}}
 use Rattle.command_words.specs.{declared.fault.WordsFault.WordsFault, declared.fault.WordsFault.TheVariants.Memory}
 use Rattle.command_words.specs.{declared.words.Call.Call, declared.words.TheConstants.FILE, internal.ToolCalls.HasNoCall}
-use Rattle.command_words.specs.{LinkWords.values_of, internal.ToolApps.tool_app, internal.ToolApps.tools_added}
+use Rattle.command_words.specs.{LinkWords.values_of, internal.ToolApps.{tool_app, tools_added}}
 use Rattle.command_words.proofs.WordsLemmas.{dashes-asked, dashes-bytes, is_dash}
 
 v7_is_simple : is_simple v7_app ≡ true

@@ -1,13 +1,10 @@
 -- What the words of a command ask for, computed from the definitions of `clap`.
 use Rattle.std.specs.Prelude.{◌≡◌, ℕ, Bool, true, false, List, [], ◌∷◌, Option, Some, codes, option_map, refl}
 use Rattle.clap.specs.declared.error.kind.ErrorKind.TheVariants.{ArgumentConflict, InvalidSubcommand, InvalidValue, MissingSubcommand}
-use Rattle.clap.specs.declared.error.kind.ErrorKind.TheVariants.{UnknownArgument}
-use Rattle.clap.specs.{Faults.fault_of, Simple.subcommand_of, Walk.Row}
+use Rattle.clap.specs.{declared.error.kind.ErrorKind.TheVariants.UnknownArgument, Faults.fault_of, Simple.subcommand_of, Walk.Row}
 use Rattle.clap.proofs.OnLiterals.{clap_on_literals}
 use Rattle.command_words.specs.declared.words.TheConstants.{FILE, OUT, REVERSE, BY_VALUE}
-use Rattle.command_words.specs.declared.link_words.TheConstants.{ENTRY, FORCED, STRIP}
-use Rattle.command_words.specs.LinkWords.{is_given, values_of}
-use Rattle.command_words.specs.Tools.{v7_app}
+use Rattle.command_words.specs.{declared.link_words.TheConstants.{ENTRY, FORCED, STRIP}, LinkWords.{is_given, values_of}, Tools.v7_app}
 
 -- the tool, whether these flags are given, and the values of these options
 abbrev Seen : Type 0

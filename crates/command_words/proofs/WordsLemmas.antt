@@ -1,16 +1,13 @@
 -- What the options of a link take over from the words, by the rows that were read of them.
 use Rattle.std.proofs.Common.{◌≡◌, ℕ, suc, Bool, true, false, cond, List, [], ◌∷◌, length, map, filter, Option, Some, None, option_map}
 use Rattle.std.proofs.Common.{Result, Ok, Err, refl, sym, ap, ◌∙◌}
-use Rattle.std.specs.Prelude.{String, string_bytes, bytes_eq, codes, unwrap_or, IfOk}
-use Rattle.std.specs.{declared.alloc.Global.Global, Borrow.Bor}
-use Rattle.clap.specs.{declared.parser.matches.Found.Found, Matches.first_value, Matches.matched_of, Matches.raw_values, Walk.Row}
-use Rattle.clap.specs.{Walk.first_of, Walk.rows_of}
+use Rattle.std.specs.{Prelude.{String, string_bytes, bytes_eq, codes, unwrap_or, IfOk}, declared.alloc.Global.Global, Borrow.Bor}
+use Rattle.clap.specs.{declared.parser.matches.Found.Found, Matches.{first_value, matched_of, raw_values}, Walk.{Row, first_of, rows_of}}
 use Rattle.clap.proofs.WalkLemmas.{first_value-rows, raw_values-rows}
 use Rattle.command_words.specs.declared.words.Call.TheVariants.{Ld, Nm, Size, Strip, Session}
-use Rattle.command_words.specs.Calls.{Asks, dashes_in, files_of, or_program}
-use Rattle.command_words.specs.LinkWords.{forced_asked, name_in, values_of, with_names}
+use Rattle.command_words.specs.{Calls.{Asks, dashes_in, files_of, or_program}, LinkWords.{forced_asked, name_in, values_of, with_names}}
 use Rattle.command_words.specs.{declared.fault.WordsFault.WordsFault, declared.words.Call.Call, declared.link_words.TheConstants.FORCED}
-use Rattle.command_words.specs.{declared.words.TheConstants.OUT}
+use Rattle.command_words.specs.declared.words.TheConstants.{OUT}
 
 pub name_given : (f : Found) (id text name : List ℕ) → first_value f id ≡ Some text → name ≡ name_in text →
     Some name ≡ option_map name_in (first_of id (rows_of f))

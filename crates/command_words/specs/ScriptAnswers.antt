@@ -3,15 +3,14 @@
 -- Each call returns the next line that the bytes give, or why there is none, and that is returned for good. What was read and not
 -- used waits, less than a block of it, and the device is asked only if that does not determine the next line.
 use Rattle.std.specs.Prelude.{◌≡◌, ◌≢◌, ◌↔◌, ◌⊎◌, ◌+◌, ◌≤◌, ℕ, cond, eqb, List, [], ◌∷◌, ◌++◌, drop, length, Option, Some, None, Result, Ok}
-use Rattle.std.specs.Prelude.{Err, IfSome, IsSome, IsTrue, string_bytes}
-use Rattle.std.specs.Io.KnownBytes.{prepend_known}
+use Rattle.std.specs.{Prelude.{Err, IfSome, IsSome, IsTrue, string_bytes}, Io.KnownBytes.prepend_known}
 use Rattle.aout_core.specs.Wires.{Latched}
 use Rattle.command_words.specs.Scripts.{Asked, to_add, to_withdraw, for_externals, for_undefined, to_link, for_nothing, ScriptFault}
 use Rattle.command_words.specs.Scripts.{long_line, many_lines, and_given, given_after}
 use Rattle.command_words.specs.{declared.lines.Line.Line, declared.line_reader.Stop.Stop}
-use Rattle.texts.specs.Lines.{lines_in}
 use Rattle.command_words.specs.declared.lines.Line.TheVariants as lines
 use Rattle.command_words.specs.declared.line_reader.Stop.TheVariants as stops
+use Rattle.texts.specs.Lines.{lines_in}
 
 -- what a line that was given asks for
 abbrev pub asked_by : Line → Asked

@@ -3,10 +3,8 @@
 -- The definitions of the kit's `clap` define how arguments are read, by a rule for each option: its letter, and whether it is a flag
 -- (`Count`), has a value (`Set`), or may have several (`Append`). Here are the rules of each tool.
 use Rattle.std.specs.Prelude.{ℕ, true, List, [], ◌∷◌, Some, codes, fold}
-use Rattle.clap.specs.Simple.{App, new_app, new_rule, on_top, with_rule, with_subcommand}
-use Rattle.clap.specs.{Lexer.usize_max, Walk.Rule, declared.builder.action.ArgAction.ArgAction}
-use Rattle.clap.specs.{declared.builder.action.ArgAction.TheVariants.Append, declared.builder.action.ArgAction.TheVariants.Count}
-use Rattle.clap.specs.{declared.builder.action.ArgAction.TheVariants.Set}
+use Rattle.clap.specs.{Simple.{App, new_app, new_rule, on_top, with_rule, with_subcommand}, Lexer.usize_max, Walk.Rule}
+use Rattle.clap.specs.{declared.builder.action.ArgAction.ArgAction, declared.builder.action.ArgAction.TheVariants.{Append, Count, Set}}
 use Rattle.aout_core.specs.Words.{letter_of}
 use Rattle.command_words.specs.declared.link_words.TheConstants.{RELOCATABLE, STRIP, EXTERNALS, NOT_L, PURE, SPLIT, COMMONS, FORCED, ENTRY}
 use Rattle.command_words.specs.declared.words.TheConstants.{OUT, FILE, EXTERNAL, BY_VALUE, EACH_LINE, TABLE_ORDER, REVERSE, UNDEFINED}

@@ -24,8 +24,7 @@ impl<W> Model for BlockWriter<W> {
 }
 
 impl<W: Write> BlockWriter<W> {
-    ghost use Rattle.std.specs.Prelude.{◌≡◌, ◌≤◌, [], length, take, drop, IfOk, IfErr};
-    ghost use Rattle.std.specs.Io.KnownBytes.{Keeps, append_known};
+    ghost use Rattle.std.specs.{Prelude.{◌≡◌, ◌≤◌, [], length, take, drop, IfOk, IfErr}, Io.KnownBytes.{Keeps, append_known}};
 
     /// A writer to the device in which nothing waits. (own choice)
     pub fn new(device: W) -> BlockWriter<W>
@@ -53,8 +52,7 @@ impl<W: Write> BlockWriter<W> {
 }
 
 impl<W: Write> Write for BlockWriter<W> {
-    ghost use Rattle.std.specs.Prelude.{◌≡◌, ◌<◌, ◌-◌, ◌++◌, [], min, length, take, IfErr, Ok, OnOk};
-    ghost use Rattle.std.specs.Io.{WritesAtMost};
+    ghost use Rattle.std.specs.{Prelude.{◌≡◌, ◌<◌, ◌-◌, ◌++◌, [], min, length, take, IfErr, Ok, OnOk}, Io.WritesAtMost};
     ghost use Rattle.std.specs.Io.KnownBytes.{Keeps, WriteAppends, append_known};
     ghost use Rattle.aout_core.specs.declared.block.TheConstants.{BLOCK_SIZE};
 

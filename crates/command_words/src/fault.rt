@@ -2,8 +2,7 @@
 ghost use Rattle.std.specs.Prelude.{◌≡◌};
 ghost use Rattle.aout_core.specs.Refusals.{refused};
 ghost use Rattle.clap.specs.Values.{kind_of};
-ghost use Rattle.command_words.specs.Calls.{fault_of_words};
-ghost use Rattle.command_words.specs.declared.fault.WordsFault.TheVariants.{Memory};
+ghost use Rattle.command_words.specs.{Calls.fault_of_words, declared.fault.WordsFault.TheVariants.Memory};
 
 use aout_core::Refused;
 use clap::error::ErrorKind;

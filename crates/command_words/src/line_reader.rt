@@ -130,10 +130,8 @@ pub struct LineReader<R> {
 
 impl<R> Model for LineReader<R> {
     ghost use Rattle.std.specs.Prelude.{◌≡◌, ◌≤◌, ◌↔◌, IfSome, IsTrue, vec_capacity};
-    ghost use Rattle.command_words.specs.declared.line_reader.Stop.TheVariants.{ReadFailed};
-    ghost use Rattle.command_words.specs.declared.line_reader.TheConstants.{LINES_LIMIT};
-    ghost use Rattle.command_words.specs.declared.lines.TheConstants.{LINE_LIMIT};
-    ghost use Rattle.command_words.specs.ScriptAnswers.{Progress};
+    ghost use Rattle.command_words.specs.{declared.line_reader.Stop.TheVariants.ReadFailed, declared.line_reader.TheConstants.LINES_LIMIT};
+    ghost use Rattle.command_words.specs.{declared.lines.TheConstants.LINE_LIMIT, ScriptAnswers.Progress};
 
     ghost Value = { Progress R };
 

@@ -1,7 +1,6 @@
 //! The lines of a script.
 ghost use Rattle.std.specs.Prelude.{◌≡◌, IfErr, IfOk, length, drop, true, false, MatchOption};
-ghost use Rattle.command_words.specs.Scripts.{asked, has_path};
-ghost use Rattle.command_words.specs.ScriptAnswers.{asked_by, NamesPath};
+ghost use Rattle.command_words.specs.{Scripts.{asked, has_path}, ScriptAnswers.{asked_by, NamesPath}};
 
 use std::alloc::{AllocError, Global};
 

@@ -1,11 +1,8 @@
 //! The options that ld and session share.
 ghost use Rattle.std.specs.Prelude.{◌≡◌, false, IfOk, map, option_map};
-ghost use Rattle.clap.specs.Walk.{first_of, rows_of, rule_of};
-ghost use Rattle.clap.specs.Matches.{found_of};
-ghost use Rattle.clap.specs.Simple.{app_of};
+ghost use Rattle.clap.specs.{Walk.{first_of, rows_of, rule_of}, Matches.found_of, Simple.app_of};
 ghost use Rattle.clap.specs.declared.builder.action.ArgAction.TheVariants.{Count};
-ghost use Rattle.command_words.specs.Tools.{letter_rule, link_rules, with_rules};
-ghost use Rattle.command_words.specs.internal.FlagRules.{flag_rule};
+ghost use Rattle.command_words.specs.{Tools.{letter_rule, link_rules, with_rules}, internal.FlagRules.flag_rule};
 ghost use Rattle.command_words.specs.LinkWords.{flags_asked, forced_asked, is_given, name_in, options_asked};
 
 use crate::fault::WordsFault;

@@ -1,14 +1,10 @@
 //! The arguments of a command.
 ghost use Rattle.std.specs.Prelude.{◌≡◌, ◌<◌, false, [], IfErr, IfOk, bytes_eq, codes, filter, length, map, string_bytes, unwrap_or, vec_len};
-ghost use Rattle.clap.specs.Matches.{found_of};
-ghost use Rattle.clap.specs.Simple.{app_of};
-ghost use Rattle.clap.specs.Walk.{first_of, rows_of, rule_of};
+ghost use Rattle.clap.specs.{Matches.found_of, Simple.app_of, Walk.{first_of, rows_of, rule_of}};
 ghost use Rattle.aout_core.specs.Refusals.{refused};
 ghost use Rattle.command_words.specs.declared.fault.WordsFault.TheVariants.{Memory};
 ghost use Rattle.command_words.specs.Calls.{Asks, AsksForNone, IsAsked, IsWhole, dashes_in, files_of, name_of, or_program, program};
-ghost use Rattle.command_words.specs.internal.ToolApps.{tool_app, tools_added};
-ghost use Rattle.command_words.specs.internal.ToolCalls.{HasNoCall};
-ghost use Rattle.command_words.specs.LinkWords.{values_of};
+ghost use Rattle.command_words.specs.{internal.ToolApps.{tool_app, tools_added}, internal.ToolCalls.HasNoCall, LinkWords.values_of};
 ghost use Rattle.command_words.specs.Tools.{bare, files_rule, ld_app, nm_app, v7_alone, v7_app};
 
 use crate::fault::WordsFault;

@@ -1,6 +1,5 @@
 -- The law of builds at a sample, and without one of its premises: `ld -r -o m a b` and `ld -o q m`, against `ld -o q a b`.
-use Rattle.std.specs.Prelude.{String, Vec, bytes_eq, codes, cond}
-use Rattle.std.specs.{declared.alloc.Global.Global, List.AllByRecursion}
+use Rattle.std.specs.{Prelude.{String, Vec, bytes_eq, codes, cond}, declared.alloc.Global.Global, List.AllByRecursion}
 use Rattle.std.proofs.Common.{◌≡◌, ◌≤◌, ℕ, List, [], ◌∷◌, map, Some, None, Ok, refl, arith, inl, inr, subst}
 use Rattle.clap.proofs.OnLiterals.{clap_on_literals}
 use Rattle.aout_core.specs.{Contents.Contents, Words.AreBytes, Encoding.encoding}
@@ -12,8 +11,7 @@ use Rattle.laws.specs.Builds.{AreLdRuns, Command, EndAlike, Holds, IsLdRun, MayR
 use Rattle.laws.specs.{Builds.leaves_of, Disks.Disk, Disks.Run, Disks.disk_after}
 use Rattle.conformance.specs.Samples.{_f, c_o, d_o, d2_o, plain, relocatable}
 use Rattle.conformance.proofs.LdRuns.{Links, a, b, m, q, m_path, q_path, both_asks, both_paths, both_words, contents, labelled, links}
-use Rattle.conformance.proofs.LdRuns.{made_of, rows_read, run_of, vector}
-use Rattle.conformance.proofs.{LawExamples.below, NeededPremises.counts, NeededPremises.link_of}
+use Rattle.conformance.proofs.{LdRuns.{made_of, rows_read, run_of, vector}, LawExamples.below, NeededPremises.{counts, link_of}}
 
 abbrev step : Command
 step = record { forced = []; options = relocatable; out = m; inputs = a ∷ b ∷ [] }

@@ -4,14 +4,12 @@ use Rattle.std.proofs.Common.{Option, Some, None, refl, sym, ◌∙◌, ap, subs
 use Rattle.std.proofs.{lemmas.Bool.and_parts, lemmas.Bool.ltb-false, lemmas.Bool.ltb-true, lemmas.Slice.Eq.bytes_eq-Decides}
 use Rattle.std.specs.Prelude.{eqb, nat_lt, is_none, slice_get, Ok, bytes_eq}
 use Rattle.aout_core.specs.declared.symbol.Segment.TheVariants.{TextSeg, DataSeg, BssSeg}
-use Rattle.aout_core.specs.Contents.{Contents, is_magic, has_whole_sizes, with_relocation}
-use Rattle.aout_core.specs.{declared.symbol.Symbol.Symbol, declared.symbol.Segment.Segment, declared.reloc.Reloc.Reloc}
-use Rattle.aout_core.specs.{WellFormed.IsWellFormed, Addresses.data_start_in}
+use Rattle.aout_core.specs.{Contents.{Contents, is_magic, has_whole_sizes, with_relocation}, declared.symbol.Symbol.Symbol}
+use Rattle.aout_core.specs.{declared.symbol.Segment.Segment, declared.reloc.Reloc.Reloc, WellFormed.IsWellFormed, Addresses.data_start_in}
 use Rattle.link_session.specs.{declared.state.State.TheVariants.Defined, declared.state.State.TheVariants.Wanted, Sessions.IsObject}
 use Rattle.link_session.specs.{Cells.segment_words, Cells.segment_relocs, Starts.total, Mentions.Mention}
 use Rattle.tool_options.specs.Choices.{Choices}
-use Rattle.link_out.specs.ReservedNames.{etext, edata, end_name, reserved_names}
-use Rattle.link_out.specs.{Layouts.magic_of, Results.Outcome, function.Link.link}
+use Rattle.link_out.specs.{ReservedNames.{etext, edata, end_name, reserved_names}, Layouts.magic_of, Results.Outcome, function.Link.link}
 use Rattle.link_laws.specs.{relation.NameStates.IsWanted, relation.Relocated.IsRelocated, relation.Relocated.IsEntry}
 use Rattle.link_laws.specs.{relation.LinkedWords.AreRelocated, relation.LinkedWords.IsKept, relation.LinkedWords.AreKept}
 use Rattle.link_laws.specs.{relation.Reported.ArePicked, relation.Reported.IsOther, relation.LinkedFrom.IsLinkedFrom}

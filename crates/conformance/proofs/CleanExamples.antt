@@ -7,31 +7,26 @@ use Rattle.std.specs.{Prelude.slice_get, Prelude.Ok, List.AllByRecursion, List.l
 use Rattle.aout_core.specs.{declared.symbol.Symbol.Symbol, declared.symbol.Segment.TheVariants.TextSeg, declared.reloc.Reloc.Reloc}
 use Rattle.aout_core.specs.{Contents.Contents, Contents.IsWord, WellFormed.is_external}
 use Rattle.link_session.specs.{Starts.total, Sessions.IsObject}
-use Rattle.tool_options.specs.{declared.options.Layout.TheVariants.Plain, declared.options.Keep.TheVariants.All}
-use Rattle.tool_options.specs.{declared.options.Keep.TheVariants.Nothing, Choices.Choices}
+use Rattle.tool_options.specs.{declared.options.Layout.TheVariants.Plain, declared.options.Keep.TheVariants.{All, Nothing}, Choices.Choices}
 use Rattle.link_out.specs.{Results.Outcome, function.Link.link}
 use Rattle.link_laws.specs.relation.LinkedFrom.{IsLinkedFrom}
 use Rattle.link_laws.proofs.LinkedTheorem.{linked_exactly}
-use Rattle.instructions.specs.{declared.mode.Addressing.Addressing, declared.operand.Operand.Operand, declared.line.Line.TheVariants.Decoded}
-use Rattle.instructions.specs.declared.mode.Addressing.TheVariants.{Absolute, Relative}
+use Rattle.instructions.specs.{declared.mode.Addressing.Addressing, declared.operand.Operand.Operand}
+use Rattle.instructions.specs.{declared.line.Line.TheVariants.Decoded, declared.mode.Addressing.TheVariants.{Absolute, Relative}}
 use Rattle.instructions.specs.{declared.unix.Decoder.TheVariants.Unix, declared.unix.UnixLine.UnixLine}
-use Rattle.instructions.specs.declared.unix.UnixLine.TheVariants.{Machine, Call}
-use Rattle.instructions.specs.{declared.call.SystemCall.SystemCall, declared.call.SystemCall.TheVariants.Fork}
-use Rattle.instructions.specs.{Rows.begins as in_row, Rows.row_of, UnixLines.call_of}
+use Rattle.instructions.specs.{declared.unix.UnixLine.TheVariants.{Machine, Call}, declared.call.SystemCall.SystemCall}
+use Rattle.instructions.specs.{declared.call.SystemCall.TheVariants.Fork, Rows.{begins as in_row, row_of}, UnixLines.call_of}
 use Rattle.instructions.specs.Instructions.{jumps, word_count_of}
 use Rattle.disassemblies.specs.Lines.{unix_line_in}
-use Rattle.suspicions.specs.declared.evidence.Evidence.TheVariants.{Promise}
-use Rattle.suspicions.specs.Reached.{reached, is_reached, is_text}
-use Rattle.suspicions.specs.{ReachedLaw.IsReached, ReachedLaw.Evident, ReachedLaw.Led, SureLaw.NoneIsSure}
-use Rattle.suspicions.specs.Suspicions.{suspicions}
+use Rattle.suspicions.specs.{declared.evidence.Evidence.TheVariants.Promise, Reached.{reached, is_reached, is_text}}
+use Rattle.suspicions.specs.{ReachedLaw.{IsReached, Evident, Led}, SureLaw.NoneIsSure, Suspicions.suspicions}
 use Rattle.suspicions.proofs.ReachLemmas.{reached_law}
 use Rattle.laws.specs.{OperandPlaces.addressing_of}
 use Rattle.laws.specs.CleanPrograms.{IsRun, TextSymbol, RefersToOwnText, RefersToText, JumpsTo, JumpsToText, KeepsParent, IsClean, Begins}
 use Rattle.laws.specs.CleanPrograms.{IsOfObject, CleanObjectsMakeCleanPrograms}
 use Rattle.laws.proofs.CleanProgramLemmas.{clean_objects}
 use Rattle.conformance.specs.Samples.{sym as entry, object, _f, _g, _main, plain, choices}
-use Rattle.conformance.proofs.{LawExamples.all_so, LawExamples.outcome_of, ClauseLemmas.as_object, ClauseLemmas.less_so}
-use Rattle.conformance.proofs.{ClauseLemmas.at_most_so, NeededPremises.all_kept}
+use Rattle.conformance.proofs.{LawExamples.{all_so, outcome_of}, ClauseLemmas.{as_object, less_so, at_most_so}, NeededPremises.all_kept}
 
 -- what holds of each reached place of an object, by the list of them
 

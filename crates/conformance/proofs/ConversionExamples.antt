@@ -1,12 +1,9 @@
 -- Objects in GNU's form, what they become, and objects near these that they do not become.
-use Rattle.std.proofs.Common.{◌≡◌, ℕ, zero, suc, ◌/◌, false, List, [], ◌∷◌, Some, None, slice_get, refl, sym as back, ap, ◌∙◌}
-use Rattle.std.proofs.Common.{arith}
+use Rattle.std.proofs.Common.{◌≡◌, ℕ, zero, suc, ◌/◌, false, List, [], ◌∷◌, Some, None, slice_get, refl, sym as back, ap, ◌∙◌, arith}
 use Rattle.std.specs.{Prelude.Ok, Prelude.Err, List.AllZip}
 use Rattle.aout_core.specs.{declared.reloc.Reloc.Reloc, declared.symbol.Symbol.Symbol, Contents.Contents, WellFormed.symbol_number}
-use Rattle.gnu_objects.specs.declared.refusal.Refusal.TheVariants.{LocalWord}
-use Rattle.gnu_objects.specs.Converted.{converted, converted_symbol}
-use Rattle.gnu_objects.specs.Laws.{gnu_file, RefersAlike, IsSameReference, IsConversion, ConversionLaw}
-use Rattle.gnu_objects.specs.{declared.options.Options.Options}
+use Rattle.gnu_objects.specs.{declared.refusal.Refusal.TheVariants.LocalWord, Converted.{converted, converted_symbol}}
+use Rattle.gnu_objects.specs.{Laws.{gnu_file, RefersAlike, IsSameReference, IsConversion, ConversionLaw}, declared.options.Options.Options}
 use Rattle.gnu_objects.specs.{declared.options.Locals.TheVariants.KeepNone, declared.symbols.GnuSymbol.GnuSymbol}
 use Rattle.conformance.specs.Samples.{sym, object, _f, _g}
 

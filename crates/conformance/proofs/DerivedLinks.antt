@@ -4,14 +4,11 @@ use Rattle.std.proofs.lemmas.Slice.Eq.{bytes_eq-Decides}
 use Rattle.std.specs.Prelude.{Ok, slice_get, bytes_eq}
 use Rattle.aout_core.specs.{declared.symbol.Symbol.Symbol, declared.symbol.Segment.Segment, declared.symbol.Segment.TheVariants.TextSeg}
 use Rattle.aout_core.specs.{declared.symbol.Segment.TheVariants.DataSeg, declared.reloc.Reloc.Reloc, Contents.Contents}
-use Rattle.link_session.specs.{declared.state.State.State, declared.state.State.TheVariants.Defined}
-use Rattle.link_session.specs.{declared.state.State.TheVariants.Wanted, Mentions.Mention}
+use Rattle.link_session.specs.{declared.state.State.State, declared.state.State.TheVariants.{Defined, Wanted}, Mentions.Mention}
 use Rattle.tool_options.specs.NameLists.{is_among}
-use Rattle.link_out.specs.ReservedNames.{etext, edata, end_name}
-use Rattle.link_out.specs.{Results.Outcome, function.Link.link}
-use Rattle.link_laws.specs.{relation.NameStates.IsFirst, relation.NameStates.IsWanted, relation.Relocated.IsRelocated}
-use Rattle.link_laws.specs.{relation.LinkedWords.AreRelocated, relation.Reported.IsReported, relation.LinkedFrom.IsLinkedFrom}
-use Rattle.link_laws.specs.{relation.LinkedFrom.LinkedExactly, WordsAndNames.MultiplesDiffer}
+use Rattle.link_out.specs.{ReservedNames.{etext, edata, end_name}, Results.Outcome, function.Link.link}
+use Rattle.link_laws.specs.{relation.NameStates.{IsFirst, IsWanted}, relation.Relocated.IsRelocated, relation.LinkedWords.AreRelocated}
+use Rattle.link_laws.specs.{relation.Reported.IsReported, relation.LinkedFrom.{IsLinkedFrom, LinkedExactly}, WordsAndNames.MultiplesDiffer}
 use Rattle.conformance.specs.Samples.{sym as entry_of, header, _f, L1, c_o, d_o, d2_o, plain}
 use Rattle.conformance.proofs.ClauseLemmas.{one_of_two, only_word, no_word, as_object, at_most_so}
 

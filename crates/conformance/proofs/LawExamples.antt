@@ -1,6 +1,5 @@
 -- The laws at samples: their premises can be met.
-use Rattle.std.specs.Prelude.{◌≡◌, ℕ, ◌<◌, Bool, true, List, [], ◌∷◌, Ok, Err, refl, nat_lt, Result}
-use Rattle.std.specs.List.{AllByRecursion, list_all}
+use Rattle.std.specs.{Prelude.{◌≡◌, ℕ, ◌<◌, Bool, true, List, [], ◌∷◌, Ok, Err, refl, nat_lt, Result}, List.{AllByRecursion, list_all}}
 use Rattle.std.proofs.lemmas.Bool.{and_parts, ltb-true}
 use Rattle.link_out.specs.{declared.linked.LinkFault.LinkFault, function.Link.Outcome, function.Link.link, laws.PartialLinks.IsPartialLink}
 use Rattle.link_out.proofs.partial_links.PartialTheorem.{partial_replaces_among}

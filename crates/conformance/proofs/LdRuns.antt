@@ -2,12 +2,11 @@
 use Rattle.std.specs.Prelude.{IfSome, codes, String, Vec, encode_utf8_all, eqb, nat_lt, if◌then◌else◌, string_bytes}
 use Rattle.std.specs.{declared.alloc.Global.Global, List.list_all}
 use Rattle.std.proofs.Common.{◌≡◌, ℕ, ◌<◌, ◌≤◌, ◌^◌, Bool, true, false, List, [], ◌∷◌, ◌++◌, map, length, Option, Some, None, Ok, refl, ap}
-use Rattle.std.proofs.Common.{arith, inr, option_map, sym, subst, ◌∙◌, Result, Err}
+use Rattle.std.proofs.{Common.{arith, inr, option_map, sym, subst, ◌∙◌, Result, Err}, lemmas.Str.encode_ascii}
 use Rattle.clap.proofs.OnLiterals.{clap_on_literals}
-use Rattle.std.proofs.lemmas.Str.{encode_ascii}
 use denote.RawPtr.{null_ptr}
 use Rattle.clap.specs.{Simple.subcommand_of, Walk.Row}
-use Rattle.command_words.specs.Tools.{v7_app}
+use Rattle.command_words.specs.{Tools.v7_app, declared.words.Call.TheVariants.Ld}
 use Rattle.aout_core.specs.{Contents.Contents, Contents.IsSound, Decoding.decode, Encoding.encoding, Wires.Latched}
 use Rattle.aout_core.proofs.EncodesLemmas.{decoded_sound}
 use Rattle.link_session.specs.Labelled.{Labelled, objects}
@@ -15,11 +14,8 @@ use Rattle.link_out.specs.{declared.linked.Linked.Linked, Outcomes.report_names,
 use Rattle.link_out.specs.{function.Link.link, function.Reports.report_text, function.Reports.status_of, Steps.and_then, Steps.refused_as}
 use Rattle.link_out.specs.Inputs.{Cause, Refusal, at_path, kept_with, linked, not_linked, object_in, with_inputs}
 use Rattle.tool_options.specs.Choices.{Choices}
-use Rattle.command_words.specs.declared.words.Call.TheVariants.{Ld}
-use Rattle.v7tools.specs.{CommandRuns.AsksFor, CommandRuns.Ends, LinkAnswers.TakesAll, LinkAnswers.known_inputs, LinkRuns.IsLinkRun}
-use Rattle.v7tools.specs.LinkRuns.{inputs_opened}
-use Rattle.surroundings.specs.Events.{Event, Opened, opens, paths_of, stored}
-use Rattle.surroundings.specs.declared.office.Stored.TheVariants.{Kept}
+use Rattle.v7tools.specs.{CommandRuns.{AsksFor, Ends}, LinkAnswers.{TakesAll, known_inputs}, LinkRuns.{IsLinkRun, inputs_opened}}
+use Rattle.surroundings.specs.{Events.{Event, Opened, opens, paths_of, stored}, declared.office.Stored.TheVariants.Kept}
 use Rattle.laws.specs.{Calls.AsksToLink, Calls.DoesPerform, Disks.Disk, Disks.IsOn, Disks.Run, SessionsByCommands.RunsLd}
 use Rattle.conformance.specs.Samples.{plain}
 use Rattle.conformance.proofs.LawExamples.{below}

@@ -1,26 +1,19 @@
 -- The law of lists at samples, and without its premises.
-use Rattle.std.proofs.Common.{◌≡◌, ◌≢◌, ◌⊎◌, ℕ, ◌+◌, true, false, List, [], ◌∷◌, ◌++◌, map, length, IsPermutation, refl, sym}
-use Rattle.std.proofs.Common.{◌∙◌, ap, inr, eq-eqb}
-use Rattle.std.proofs.lemmas.List.Sorted.{length_permutation}
+use Rattle.std.proofs.Common.{◌≡◌, ◌≢◌, ◌⊎◌, ℕ, ◌+◌, true, false, List, [], ◌∷◌, ◌++◌, map, length, IsPermutation, refl, sym, ◌∙◌, ap, inr}
+use Rattle.std.proofs.{Common.eq-eqb, lemmas.List.Sorted.length_permutation}
 use Rattle.std.specs.Prelude.{eqb, Ok, codes, drop}
 use Rattle.aout_core.specs.{declared.symbol.Symbol.Symbol, Contents.Contents}
-use Rattle.link_session.specs.Mentions.{externals}
-use Rattle.link_session.specs.{Sessions.IsObject}
-use Rattle.tool_options.specs.declared.options.Keep.TheVariants.{Nothing}
-use Rattle.tool_options.specs.Choices.{Choices}
-use Rattle.tool_options.specs.{NameLists.is_among, declared.nm_options.NmOptions.NmOptions}
+use Rattle.link_session.specs.{Mentions.externals, Sessions.IsObject}
+use Rattle.tool_options.specs.{declared.options.Keep.TheVariants.Nothing, Choices.Choices, NameLists.is_among}
+use Rattle.tool_options.specs.declared.nm_options.NmOptions.{NmOptions}
 use Rattle.link_out.specs.{Results.Outcome, function.Link.link}
 use Rattle.link_laws.specs.relation.LinkedFrom.{IsLinkedFrom}
 use Rattle.link_laws.proofs.LinkedTheorem.{linked_exactly}
 use Rattle.texts.specs.Numbers.{six_digits}
-use Rattle.symtools.specs.{NmLists.arranged, NmLists.shown}
-use Rattle.symtools.specs.{NmLists.nm_text}
-use Rattle.laws.specs.Listings.{undefined_locals, listed_locals, lines, IsListedOnce}
-use Rattle.laws.specs.Listings.{UndefinedAreListed, RowLines, ExternalsAreListed}
-use Rattle.conformance.specs.Samples.{sym as entry, object, _f, _g, L1, c_o, g_o, plain, plain_s}
-use Rattle.conformance.specs.Samples.{relocatable}
-use Rattle.conformance.proofs.ClauseLemmas.{as_object}
-use Rattle.conformance.proofs.NeededPremises.{all_kept, link_of, c_good}
+use Rattle.symtools.specs.NmLists.{arranged, shown, nm_text}
+use Rattle.laws.specs.Listings.{undefined_locals, listed_locals, lines, IsListedOnce, UndefinedAreListed, RowLines, ExternalsAreListed}
+use Rattle.conformance.specs.Samples.{sym as entry, object, _f, _g, L1, c_o, g_o, plain, plain_s, relocatable}
+use Rattle.conformance.proofs.{ClauseLemmas.as_object, NeededPremises.{all_kept, link_of, c_good}}
 
 -- nm without options, and with -u
 abbrev nm : NmOptions

@@ -1,11 +1,10 @@
 -- The laws of loaded programs at samples, and without one of their premises.
-use Rattle.std.proofs.Common.{◌≡◌, ◌≢◌, ℕ, ◌+◌, ◌*◌, ◌/◌, ◌%◌, ◌<◌, false, List, [], ◌∷◌, ◌++◌, drop, Some, None, refl, sym, ◌∙◌, ap}
-use Rattle.std.proofs.Common.{arith}
+use Rattle.std.proofs.Common.{◌≡◌, ◌≢◌, ℕ, ◌+◌, ◌*◌, ◌/◌, ◌%◌, ◌<◌, false, List, [], ◌∷◌, ◌++◌, drop, Some, None, refl, sym, ◌∙◌, ap, arith}
 use Rattle.std.specs.{Prelude.Ok, Prelude.slice_get, Prelude.slice_index, List.AllByRecursion}
-use Rattle.aout_core.specs.declared.symbol.Segment.TheVariants.{TextSeg, DataSeg}
-use Rattle.aout_core.specs.WellFormed.{kind_of, is_pc_relative}
+use Rattle.aout_core.specs.{declared.symbol.Segment.TheVariants.{TextSeg, DataSeg}, WellFormed.{kind_of, is_pc_relative}}
 use Rattle.aout_core.specs.{declared.symbol.Symbol.Symbol, declared.symbol.Segment.Segment, declared.reloc.Reloc.Reloc}
-use Rattle.aout_core.specs.{Contents.Contents, Contents.IsWord}
+use Rattle.aout_core.specs.Contents.{Contents, IsWord}
+use Rattle.aout_core.specs.declared.reloc.Kind.TheVariants as kinds
 use Rattle.link_session.specs.{Sessions.IsObject, Cells.segment_words, Cells.segment_relocs}
 use Rattle.tool_options.specs.{declared.options.Keep.TheVariants.Nothing, Choices.Choices}
 use Rattle.link_out.specs.{Results.Outcome, function.Link.link}
@@ -16,10 +15,7 @@ use Rattle.laws.specs.Core.{of_instructions, of_data, core}
 use Rattle.laws.specs.{CoreLaws.WordsAreLoaded, CoreLaws.IsLoaded, Instructions.InstructionsAreThere, Instructions.KeepsLineAt}
 use Rattle.laws.specs.{Operands.operand, Operands.Defines, OperandPlaces.IsNamedByte, OperandPlaces.Points, OperandPlaces.PointersToNames}
 use Rattle.conformance.specs.Samples.{sym as entry, object, _f, _x, d_o, d2_o, x4_o, main_o, twice_o, count_o, plain, plain_s, relocatable}
-use Rattle.conformance.proofs.ClauseLemmas.{as_object, only_wanted}
-use Rattle.conformance.proofs.NeededPremises.{all_kept, d_good, link_of}
-use Rattle.conformance.proofs.NearLaws.{different}
-use Rattle.aout_core.specs.declared.reloc.Kind.TheVariants as kinds
+use Rattle.conformance.proofs.{ClauseLemmas.{as_object, only_wanted}, NeededPremises.{all_kept, d_good, link_of}, NearLaws.different}
 
 abbrev pub forward : List Contents
 forward = main_o ∷ twice_o ∷ count_o ∷ []

@@ -1,14 +1,10 @@
 -- The law of maps at the objects of docs/teaching/BLACKBOARD.md, and without its premises.
-use Rattle.std.proofs.Common.{◌≡◌, ℕ, ◌<◌, List, [], ◌∷◌, ◌++◌, length, map, None, refl, sym, subst, arith}
-use Rattle.std.proofs.lemmas.Option.{same_Some}
-use Rattle.aout_core.specs.declared.part.Part.{Part}
-use Rattle.aout_core.specs.declared.part.Part.TheVariants.{Text, Data}
-use Rattle.aout_core.specs.declared.symbol.Segment.TheVariants.{TextSeg}
-use Rattle.aout_core.specs.{declared.symbol.Symbol.Symbol, Contents.Contents}
+use Rattle.std.proofs.{Common.{◌≡◌, ℕ, ◌<◌, List, [], ◌∷◌, ◌++◌, length, map, None, refl, sym, subst, arith}, lemmas.Option.same_Some}
+use Rattle.aout_core.specs.{declared.part.Part.Part, declared.part.Part.TheVariants.{Text, Data}}
+use Rattle.aout_core.specs.{declared.symbol.Segment.TheVariants.TextSeg, declared.symbol.Symbol.Symbol, Contents.Contents}
 use Rattle.link_session.specs.{Labelled.Labelled, Limits.limit_passed}
-use Rattle.link_maps.specs.{declared.places.Places.Places}
-use Rattle.link_maps.specs.declared.leads.Aim.TheVariants.{Numbered}
-use Rattle.link_maps.specs.{Members.capped, Members.start_in, Uses.uses_in_order}
+use Rattle.link_maps.specs.{declared.places.Places.Places, declared.leads.Aim.TheVariants.Numbered, Members.{capped, start_in}}
+use Rattle.link_maps.specs.Uses.{uses_in_order}
 use Rattle.laws.specs.CoreLaws.{IsPlace}
 use Rattle.laws.specs.Maps.{AddressesAreOfTheFile, HasWord, IsOfName, NoWordIsMissing, LeadsTo, WordsLeadToTheirName, places_mapped}
 use Rattle.conformance.specs.Samples.{sym as entry, object, _twice, L1, main_o, twice_o, count_o, plain}

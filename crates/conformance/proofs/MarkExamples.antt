@@ -1,11 +1,10 @@
 -- The marks of one addition, and lists of marks near them that are not its marks.
 use Rattle.std.proofs.Common.{◌≡◌, ◌≢◌, ℕ, ◌<◌, List, [], ◌∷◌, ◌++◌, false, true, refl, sym, ap, ◌∙◌, arith, eqb, eq-eqb}
 use Rattle.aout_core.specs.Contents.{Contents}
-use Rattle.link_session.specs.{declared.cell.Cell.Cell, declared.cell.Target.TheVariants.Absolute, declared.cell.Target.TheVariants.DataSeg}
-use Rattle.link_session.specs.{declared.cell.Target.TheVariants.External, declared.state.State.TheVariants.Wanted, declared.mark.Mark.Mark}
-use Rattle.link_session.specs.{declared.mark.Mark.TheVariants.CellWas, declared.mark.Mark.TheVariants.StateWas}
-use Rattle.link_session.specs.{declared.mark.Place.TheVariants.InText, Image.image, Marks.IsDifference, Marks.states_changed}
-use Rattle.link_session.specs.{Mentions.mentions, Mentions.mentions_in, Undo.undo, Undo.AreMarksOf, Undo.IsJournal}
+use Rattle.link_session.specs.{declared.cell.Cell.Cell, declared.cell.Target.TheVariants.{Absolute, DataSeg, External}}
+use Rattle.link_session.specs.{declared.state.State.TheVariants.Wanted, declared.mark.Mark.Mark}
+use Rattle.link_session.specs.{declared.mark.Mark.TheVariants.{CellWas, StateWas}, declared.mark.Place.TheVariants.InText, Image.image}
+use Rattle.link_session.specs.{Marks.{IsDifference, states_changed}, Mentions.{mentions, mentions_in}, Undo.{undo, AreMarksOf, IsJournal}}
 use Rattle.conformance.specs.Samples.{sym as entry_of, object, _f, _x, c_o, e_o, k_o}
 
 -- `_x` is wanted at 4 bytes, and two words wait for it; the object wants it at 10 bytes, and then defines it

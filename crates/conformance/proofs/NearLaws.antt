@@ -4,11 +4,9 @@ use Rattle.std.proofs.Common.{eq-eqb}
 use Rattle.std.specs.{Prelude.eqb, Prelude.Ok, Prelude.Err, Prelude.replicate, Prelude.slice_get, List.AllByRecursion}
 use Rattle.aout_core.specs.{declared.symbol.Symbol.Symbol, declared.symbol.Segment.Segment, declared.symbol.Segment.TheVariants.TextSeg}
 use Rattle.aout_core.specs.{declared.reloc.Reloc.Reloc, Contents.Contents, WellFormed.symbol_number}
-use Rattle.link_session.specs.Cells.{segment_words, segment_relocs}
-use Rattle.link_session.specs.{declared.state.State.State, declared.state.State.TheVariants.Defined}
-use Rattle.link_session.specs.{declared.state.State.TheVariants.Wanted, Sessions.IsObject, Mentions.place_of}
-use Rattle.tool_options.specs.{NameLists.is_among}
-use Rattle.tool_options.specs.{Choices.Choices}
+use Rattle.link_session.specs.{Cells.{segment_words, segment_relocs}, declared.state.State.State}
+use Rattle.link_session.specs.{declared.state.State.TheVariants.{Defined, Wanted}, Sessions.IsObject, Mentions.place_of}
+use Rattle.tool_options.specs.{NameLists.is_among, Choices.Choices}
 use Rattle.link_out.specs.declared.linked.LinkFault.TheVariants.{DoesNotFit, TooManySymbols, SymbolNumber, Memory}
 use Rattle.link_out.specs.{declared.linked.LinkFault.LinkFault, Results.Outcome, function.Link.link}
 use Rattle.link_laws.specs.WordsAndNames.{IsSaid, HasTwoDefinitions, MultiplesDiffer}

@@ -1,15 +1,12 @@
 -- No clause of the relation of linking can be left out: for each, a wrong file or report that all the others let through.
 use Rattle.std.proofs.Common.{◌≡◌, ◌≢◌, ℕ, zero, suc, ◌+◌, ◌≤◌, Bool, true, false, cond, ◌||◌, List, [], ◌∷◌, length, Some, None, refl, sym}
-use Rattle.std.proofs.Common.{◌∙◌, ap, subst, arith, inl, inr, eqb-true}
-use Rattle.std.proofs.lemmas.Bool.{and_parts}
+use Rattle.std.proofs.{Common.{◌∙◌, ap, subst, arith, inl, inr, eqb-true}, lemmas.Bool.and_parts}
 use Rattle.std.specs.{List.AllByRecursion, List.list_all, Prelude.eqb, Prelude.Ok, Prelude.Err, Prelude.slice_get, Prelude.replicate, Prelude.sum_by}
-use Rattle.aout_core.specs.declared.symbol.Segment.TheVariants.{TextSeg, DataSeg, BssSeg}
-use Rattle.aout_core.specs.{declared.header.Header.Header, declared.symbol.Symbol.Symbol, declared.reloc.Reloc.Reloc, Contents.Contents}
-use Rattle.aout_core.specs.{Addresses.data_start_in}
-use Rattle.link_session.specs.declared.state.State.TheVariants.{Wanted}
+use Rattle.aout_core.specs.{declared.symbol.Segment.TheVariants.{TextSeg, DataSeg, BssSeg}, declared.header.Header.Header}
+use Rattle.aout_core.specs.{declared.symbol.Symbol.Symbol, declared.reloc.Reloc.Reloc, Contents.Contents, Addresses.data_start_in}
+use Rattle.link_session.specs.{declared.state.State.TheVariants.Wanted, Sessions.IsObject}
 use Rattle.link_out.specs.declared.linked.LinkFault.TheVariants.{DoesNotFit, TooManySymbols}
 use Rattle.link_out.specs.{Results.ReportNames, Results.Outcome, function.Link.link}
-use Rattle.link_session.specs.Sessions.{IsObject}
 use Rattle.tool_options.specs.Choices.{Choices}
 use Rattle.link_laws.specs.relation.Relocated.{base_in, IsRelocated}
 use Rattle.conformance.specs.Samples.{sym as entry_of, header, object, relocs, _f, _x, _z, L1, plain, relocatable}
@@ -17,8 +14,7 @@ use Rattle.conformance.specs.Clauses.{Clause, text_size, data_size, bss, text_wo
 use Rattle.conformance.specs.Clauses.{few, names, are_rows, table, text, «data», text_relocs, data_relocs, text_kept, data_kept, entry}
 use Rattle.conformance.specs.Clauses.{multiples, reserved, undefined, none, Says, IsNeeded}
 use Rattle.conformance.proofs.ClauseLemmas.{is_empty, empty_so, passes, passed, no_words, none_kept, only_object, as_object, wordless}
-use Rattle.conformance.proofs.ClauseLemmas.{unkept, only_word, nothing_reserved, wants_alone, only_wanted}
-use Rattle.conformance.proofs.ClauseLemmas.{none_reserved, other_outcome}
+use Rattle.conformance.proofs.ClauseLemmas.{unkept, only_word, nothing_reserved, wants_alone, only_wanted, none_reserved, other_outcome}
 
 abbrev silent : ReportNames
 silent = record { multiples = []; reserved = []; entry_bad = None; undefined = [] }

@@ -6,14 +6,11 @@ use Rattle.aout_core.specs.WellFormed.{is_external, masked_type, IsWellFormed}
 use Rattle.aout_core.specs.{declared.symbol.Symbol.Symbol, declared.symbol.Segment.Segment, declared.symbol.Segment.TheVariants.TextSeg}
 use Rattle.aout_core.specs.{declared.reloc.Reloc.Reloc, Contents.Contents, Strip.stripped}
 use Rattle.link_session.specs.{Sessions.IsObject, Mentions.externals, Cells.segment_words, Cells.segment_relocs}
-use Rattle.tool_options.specs.{NameLists.is_among, declared.options.Keep.TheVariants.All, declared.options.Keep.TheVariants.NotL}
-use Rattle.tool_options.specs.{declared.options.Keep.TheVariants.Nothing, Choices.Choices, Choices.option_fault}
-use Rattle.link_out.specs.{laws.PartialLinks.KeepsNoMore, laws.PartialLinks.IsPartialLink, laws.PartialLinks.without_multiples}
-use Rattle.link_out.specs.laws.Stripping.{StripLaw}
-use Rattle.link_laws.specs.PartialLinksAmongOthers.{PartialAlwaysReplaces}
+use Rattle.tool_options.specs.{NameLists.is_among, declared.options.Keep.TheVariants.{All, NotL, Nothing}, Choices.{Choices, option_fault}}
+use Rattle.link_out.specs.{laws.PartialLinks.{KeepsNoMore, IsPartialLink, without_multiples}, laws.Stripping.StripLaw}
 use Rattle.link_out.specs.{declared.linked.LinkFault.LinkFault, Results.Outcome, function.Link.link}
-use Rattle.link_laws.specs.{relation.Relocated.entry_of, relation.Relocated.IsRelocated, relation.Relocated.IsEntry, relation.LinkedFrom.IsLinkedFrom}
-use Rattle.link_laws.specs.{WordsAndNames.IsDefined, CommonsAndEntries.IsCommon, CommonsAndEntries.HasSpace}
+use Rattle.link_laws.specs.{PartialLinksAmongOthers.PartialAlwaysReplaces, relation.Relocated.{entry_of, IsRelocated, IsEntry}}
+use Rattle.link_laws.specs.{relation.LinkedFrom.IsLinkedFrom, WordsAndNames.IsDefined, CommonsAndEntries.{IsCommon, HasSpace}}
 use Rattle.conformance.specs.Samples.{sym as entry, sized, _f, _x, _z, c_o, d_o, d2_o, x4_o, plain, plain_s, relocatable, relocatable_d}
 use Rattle.conformance.specs.Samples.{with_keep, with_entry}
 use Rattle.conformance.proofs.{LawExamples.outcome_of, ClauseLemmas.as_object, ClauseLemmas.only_wanted}

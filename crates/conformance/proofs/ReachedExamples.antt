@@ -3,28 +3,25 @@ use Rattle.std.proofs.Common.{◌≡◌, ◌≢◌, ℕ, ◌+◌, ◌*◌, ◌/�
 use Rattle.std.specs.{Prelude.Ok, Prelude.slice_get, List.AllByRecursion}
 use Rattle.aout_core.specs.{declared.symbol.Symbol.Symbol, declared.symbol.Segment.TheVariants.TextSeg, declared.reloc.Reloc.Reloc}
 use Rattle.aout_core.specs.{Contents.Contents, Words.plus, WellFormed.kind_of, WellFormed.symbol_number}
+use Rattle.aout_core.specs.declared.reloc.Kind.TheVariants as kinds
 use Rattle.link_session.specs.{Starts.total, Sessions.IsObject}
 use Rattle.tool_options.specs.{declared.options.Keep.TheVariants.Nothing, Choices.Choices}
 use Rattle.link_out.specs.{Results.Outcome, function.Link.link}
 use Rattle.link_laws.specs.{relation.Relocated.entry_of}
-use Rattle.instructions.specs.{declared.operation.Operation.TheVariants.Mov, declared.operation.Operation.TheVariants.Jsr}
-use Rattle.instructions.specs.{declared.mode.Mode.TheVariants.Direct, declared.mode.Mode.TheVariants.Index}
+use Rattle.instructions.specs.{declared.operation.Operation.TheVariants.{Mov, Jsr}, declared.mode.Mode.TheVariants.{Direct, Index}}
 use Rattle.instructions.specs.{declared.mode.Addressing.Addressing, declared.mode.Addressing.TheVariants.Relative}
-use Rattle.instructions.specs.{declared.operand.Operand.Operand, declared.operand.Operand.TheVariants.General}
-use Rattle.instructions.specs.{declared.operand.Operand.TheVariants.Register, declared.instruction.Instruction.Instruction, Rows.begins}
-use Rattle.instructions.specs.{Rows.row_of, Instructions.instruction_of, Alike.is_cut, UnixLines.call_of}
-use Rattle.suspicions.specs.{declared.evidence.Evidence.Evidence}
-use Rattle.suspicions.specs.{declared.evidence.Evidence.TheVariants.Promise}
-use Rattle.suspicions.specs.{Trust.is_sure, Suspicions.suspicions, SureLaw.NoneIsSure}
-use Rattle.laws.specs.{OperandWords.machine_value, OperandPlaces.addressing_of, OperandPlaces.IsOperand}
-use Rattle.laws.specs.{ReachedInstructions.KeepsInstruction}
+use Rattle.instructions.specs.{declared.operand.Operand.Operand, declared.operand.Operand.TheVariants.{General, Register}}
+use Rattle.instructions.specs.{declared.instruction.Instruction.Instruction, Rows.{begins, row_of}, Instructions.instruction_of}
+use Rattle.instructions.specs.{Alike.is_cut, UnixLines.call_of}
+use Rattle.instructions.specs.declared.field.Field.TheVariants as fields
+use Rattle.instructions.specs.declared.mode.Register.TheVariants as registers
+use Rattle.suspicions.specs.{declared.evidence.Evidence.Evidence, declared.evidence.Evidence.TheVariants.Promise, Trust.is_sure}
+use Rattle.suspicions.specs.{Suspicions.suspicions, SureLaw.NoneIsSure}
+use Rattle.laws.specs.{OperandWords.machine_value, OperandPlaces.{addressing_of, IsOperand}, ReachedInstructions.KeepsInstruction}
 use Rattle.laws.proofs.ReachedInstructionLemmas.{reached_instructions_kept}
 use Rattle.conformance.specs.Samples.{sym as entry, object, _f, _count, b_o, main_o, twice_o, count_o, plain}
 use Rattle.conformance.proofs.MachineExamples.{forward, all_good, main_linked, count_good}
 use Rattle.conformance.proofs.{ClauseLemmas.as_object, NearLaws.different, NeededPremises.all_kept, NeededPremises.link_of}
-use Rattle.aout_core.specs.declared.reloc.Kind.TheVariants as kinds
-use Rattle.instructions.specs.declared.field.Field.TheVariants as fields
-use Rattle.instructions.specs.declared.mode.Register.TheVariants as registers
 
 -- nothing is suspicious in `main.o`, if all of its text is instructions, as from its symbol on
 

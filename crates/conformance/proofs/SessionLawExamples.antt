@@ -6,28 +6,21 @@ use Rattle.std.proofs.{lemmas.Slice.Eq.bytes_eq-Decides}
 use Rattle.clap.proofs.OnLiterals.{clap_on_literals}
 use Rattle.aout_core.specs.{Contents.Contents, Encoding.encoding}
 use Rattle.texts.specs.Lines.{text_of}
-use Rattle.command_words.specs.declared.words.Call.TheVariants.{Session}
-use Rattle.command_words.specs.{Scripts.to_add, Scripts.to_withdraw, Scripts.to_link}
+use Rattle.command_words.specs.{declared.words.Call.TheVariants.Session, Scripts.{to_add, to_withdraw, to_link}}
 use Rattle.link_session.specs.{Labelled.Labelled}
 use Rattle.tool_options.specs.Choices.{Choices}
 use Rattle.link_out.specs.{declared.linked.Linked.Linked, Outcomes.outcome_of as result_of, function.Reports.line, Inputs.with_input}
-use Rattle.surroundings.specs.Events.{Event, Opened, opened, opens, stored}
-use Rattle.surroundings.specs.declared.office.Stored.TheVariants.{Kept}
-use Rattle.v7tools.specs.Answers.{Stepped, add_step, done}
-use Rattle.v7tools.specs.LineRuns.{IsLineOf, LineRun, status_after}
-use Rattle.v7tools.specs.LinkRuns.{IsLinkRun}
-use Rattle.v7tools.specs.SessionRuns.{AreLines, Chains, answers_of, events_of, lines_asked, worst}
-use Rattle.v7tools.specs.CommandRuns.{AsksFor, Ends}
+use Rattle.surroundings.specs.{Events.{Event, Opened, opened, opens, stored}, declared.office.Stored.TheVariants.Kept}
+use Rattle.v7tools.specs.{Answers.{Stepped, add_step, done}, LineRuns.{IsLineOf, LineRun, status_after}, LinkRuns.IsLinkRun}
+use Rattle.v7tools.specs.{SessionRuns.{AreLines, Chains, answers_of, events_of, lines_asked, worst}, CommandRuns.{AsksFor, Ends}}
 use Rattle.v7tools.specs.declared.fault.CliFault.{CliFault}
 use Rattle.laws.specs.Calls.{DoesPerform, RunsSession, SessionCallLaw}
-use Rattle.laws.specs.SessionsByCommands.{AreGivenTheSame, CannotRead, CannotWrite, DoesAsLd, EndsWell, FailsBy}
-use Rattle.laws.specs.SessionsByCommands.{IsGivenTheSame, IsKnown, IsThere, IsUndisturbed, LeavesNoTrace}
-use Rattle.laws.specs.SessionsByCommands.{LinkLineLaw, LinksLeft, RunsLd, UndoLaw, files_left}
+use Rattle.laws.specs.SessionsByCommands.{AreGivenTheSame, CannotRead, CannotWrite, DoesAsLd, EndsWell, FailsBy, IsGivenTheSame, IsKnown}
+use Rattle.laws.specs.SessionsByCommands.{IsThere, IsUndisturbed, LeavesNoTrace, LinkLineLaw, LinksLeft, RunsLd, UndoLaw, files_left}
 use Rattle.laws.specs.Disks.{Disk, Run}
 use Rattle.conformance.specs.Samples.{b_o, e_o, object, plain}
-use Rattle.conformance.proofs.LdRuns.{Links, a, b, q, q_path, both_asks, both_paths, both_words, contents, holding, links, made_of, rows_read}
-use Rattle.conformance.proofs.LdRuns.{run_of}
-use Rattle.conformance.proofs.NeededPremises.{counts, link_of}
+use Rattle.conformance.proofs.LdRuns.{Links, a, b, q, q_path, both_asks, both_paths, both_words, contents, holding, links, made_of}
+use Rattle.conformance.proofs.{LdRuns.{rows_read, run_of}, NeededPremises.{counts, link_of}}
 
 abbrev p : List ℕ
 p = codes "p"

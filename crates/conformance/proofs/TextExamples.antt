@@ -2,10 +2,8 @@
 use Rattle.std.proofs.Common.{◌≡◌, ℕ, ◌+◌, List, [], ◌∷◌, refl}
 use Rattle.std.specs.{Prelude.codes, Prelude.Result, Prelude.Ok, Prelude.Err, Fmt.digits}
 use Rattle.aout_core.specs.{declared.symbol.Symbol.Symbol, Contents.Contents, Contents.IsSound}
-use Rattle.listings.specs.declared.fault.Reason.TheVariants.{NotOctal}
-use Rattle.listings.specs.Listing.{gap, no_remarks, listing}
-use Rattle.listings.specs.{Laws.ListingLaw, Reading.Mistakes, Reading.read}
-use Rattle.listings.specs.declared.draft.Addresses.TheVariants.{Compared}
+use Rattle.listings.specs.{declared.fault.Reason.TheVariants.NotOctal, Listing.{gap, no_remarks, listing}, Laws.ListingLaw}
+use Rattle.listings.specs.{Reading.{Mistakes, read}, declared.draft.Addresses.TheVariants.Compared}
 use Rattle.texts.specs.{Numbers.six_digits, Numbers.octal, Lines.text_of}
 use Rattle.conformance.specs.Samples.{sym as entry_of, object}
 use Rattle.conformance.proofs.LdRuns.{sound_file}

@@ -1,15 +1,13 @@
 -- The clauses of the relation of linking one by one, and what it means that a clause is needed. (ld(1))
-use Rattle.std.specs.Prelude.{◌≡◌, ◌≢◌, ◌↔◌, ℕ, ◌+◌, ◌*◌, ◌≤◌, true, false, cond, List, [], ◌++◌, map, length, Ok}
-use Rattle.std.specs.List.{AllByRecursion}
+use Rattle.std.specs.{Prelude.{◌≡◌, ◌≢◌, ◌↔◌, ℕ, ◌+◌, ◌*◌, ◌≤◌, true, false, cond, List, [], ◌++◌, map, length, Ok}, List.AllByRecursion}
 use Rattle.aout_core.specs.declared.symbol.Segment.TheVariants.{TextSeg, DataSeg, BssSeg}
 use Rattle.aout_core.specs.{declared.symbol.Symbol.Symbol, Contents.Contents, Addresses.data_start_in}
 use Rattle.link_session.specs.{Starts.total, Sessions.IsObject, Mentions.Mention, Mentions.mentions, Mentions.externals}
 use Rattle.tool_options.specs.{NameLists.is_among, Choices.Choices}
 use Rattle.link_out.specs.{Layouts.magic_of, KeptSymbols.rows_kept, ReservedNames.reserved_names, Results.Outcome, function.Link.link}
-use Rattle.link_laws.specs.relation.LinkedTable.{AreRows, moved_locals_in}
-use Rattle.link_laws.specs.relation.LinkedWords.{AreRelocated, AreKept}
-use Rattle.link_laws.specs.{relation.NameStates.IsWanted, relation.Relocated.base_in, relation.Relocated.IsEntry}
-use Rattle.link_laws.specs.{relation.Reported.ArePicked, relation.Reported.IsOther, relation.LinkedFrom.IsLinkedFrom}
+use Rattle.link_laws.specs.{relation.LinkedTable.{AreRows, moved_locals_in}, relation.LinkedWords.{AreRelocated, AreKept}}
+use Rattle.link_laws.specs.{relation.NameStates.IsWanted, relation.Relocated.{base_in, IsEntry}, relation.Reported.{ArePicked, IsOther}}
+use Rattle.link_laws.specs.relation.LinkedFrom.{IsLinkedFrom}
 
 -- each by the name that it has there
 pub data Clause : Type 0 where

@@ -2,12 +2,10 @@
 use Rattle.std.proofs.Common.{◌≡◌, ℕ, ◌+◌, ◌<◌, Bool, true, false, eqb, nat_lt, if◌then◌else◌, [], ◌∷◌, ◌++◌, refl, ap, arith}
 use Rattle.std.proofs.{lemmas.Bool.Decides.Decides-eqb, lemmas.Bool.Decides.nat_tests, lemmas.Bool.false_from_ne_true}
 use Rattle.std.specs.Prelude.{◌*◌, ◌%◌, ◌-◌, ◌&&◌, codes}
-use Rattle.aout_core.specs.{declared.symbol.Symbol.Symbol, declared.symbol.Segment.Segment, WellFormed.masked_type}
-use Rattle.aout_core.specs.WellFormed.{segment_number}
+use Rattle.aout_core.specs.{declared.symbol.Symbol.Symbol, declared.symbol.Segment.Segment, WellFormed.{masked_type, segment_number}}
 use Rattle.texts.specs.{Numbers.octal, Lines.text_of}
 use Rattle.instructions.specs.References.{assembly_name}
-use Rattle.disassemblies.specs.Labels.{label_at, is_within, label_within}
-use Rattle.disassemblies.specs.{internal.Blocks.block, internal.Blocks.bucket_of, Naming.is_at}
+use Rattle.disassemblies.specs.{Labels.{label_at, is_within, label_within}, internal.Blocks.{block, bucket_of}, Naming.is_at}
 
 and_first : (a c : Bool) → (a && c) ≡ true → a ≡ true
 and_first true c h = refl

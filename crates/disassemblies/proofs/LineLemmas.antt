@@ -1,15 +1,12 @@
 -- A line has one to five words, and ends within its text.
 use Rattle.std.proofs.Common.{◌≡◌, ℕ, ◌+◌, ◌<◌, ◌≤◌, Bool, true, false, nat_lt, if◌then◌else◌, List, drop, Option, Some, None, length, refl}
-use Rattle.std.proofs.Common.{arith}
-use Rattle.std.proofs.{lemmas.Bool.Decides.nat_tests, lemmas.List.length-drop}
+use Rattle.std.proofs.{Common.arith, lemmas.Bool.Decides.nat_tests, lemmas.List.length-drop}
 use Rattle.std.specs.Prelude.{slice_get, slice_index}
 use Rattle.aout_core.specs.Contents.{Contents}
-use Rattle.instructions.specs.Instructions.{instruction_of, following_words, word_count_of}
-use Rattle.instructions.specs.Lines.{line_of, line_length, word_for}
-use Rattle.instructions.specs.UnixLines.{call_by, unix_line, unix_line_at, unix_length}
-use Rattle.instructions.specs.{declared.call_table.CallRow.CallRow, declared.instruction.Instruction.Instruction}
-use Rattle.instructions.specs.{declared.line.Line.TheVariants.Plain, declared.line.Line.TheVariants.Decoded, declared.unix.Decoder.Decoder}
-use Rattle.instructions.specs.{declared.unix.UnixLine.TheVariants.Machine, declared.unix.UnixLine.TheVariants.Call, Relocated.is_relocated}
+use Rattle.instructions.specs.{Instructions.{instruction_of, following_words, word_count_of}, Lines.{line_of, line_length, word_for}}
+use Rattle.instructions.specs.{UnixLines.{call_by, unix_line, unix_line_at, unix_length}, declared.call_table.CallRow.CallRow}
+use Rattle.instructions.specs.{declared.instruction.Instruction.Instruction, declared.line.Line.TheVariants.{Plain, Decoded}}
+use Rattle.instructions.specs.{declared.unix.Decoder.Decoder, declared.unix.UnixLine.TheVariants.{Machine, Call}, Relocated.is_relocated}
 use Rattle.instructions.proofs.UnixLemmas.{unix_short}
 use Rattle.disassemblies.specs.Lines.{unix_line_in}
 

@@ -4,8 +4,7 @@ use Rattle.std.specs.Prelude.{not, ◌&&◌, get_or, slice_index}
 use Rattle.aout_core.specs.{declared.symbol.Symbol.Symbol, Contents.Contents}
 use Rattle.instructions.specs.{declared.unix.Decoder.Decoder, declared.unix.UnixLine.UnixLine, declared.line.Line.TheVariants.Plain}
 use Rattle.instructions.specs.{declared.unix.UnixLine.TheVariants.Machine, UnixLines.unix_length}
-use Rattle.disassemblies.specs.Lines.{unix_line_in}
-use Rattle.disassemblies.specs.Listed.{has_label, is_zero, zeros_from, have_label, listed_line, is_plain_line}
+use Rattle.disassemblies.specs.{Lines.unix_line_in, Listed.{has_label, is_zero, zeros_from, have_label, listed_line, is_plain_line}}
 use Rattle.disassemblies.specs.internal.Labelled.{AreLabelled, any_marked}
 use Rattle.disassemblies.proofs.LineLemmas.{length_in, line_fits}
 

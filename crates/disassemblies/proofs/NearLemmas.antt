@@ -1,14 +1,10 @@
 -- The nearest label is the first that is found from the address back.
-use Rattle.std.proofs.Common.{◌≡◌, ℕ, zero, suc, ◌+◌, ◌-◌, ◌<◌, ◌≤◌, Bool, true, false, cond, nat_le, if◌then◌else◌, List}
-use Rattle.std.proofs.Common.{Option, Some, None, IsSome, ◌==◌, nat_lt, refl, sym, ◌∙◌, ap, subst, arith}
-use Rattle.std.proofs.lemmas.Bool.Decides.{nat_tests}
-use Rattle.std.specs.Ordering.{nat_cmp, is_lt, is_gt, ordering_then}
-use Rattle.std.specs.declared.cmp.Ordering.TheVariants.{Less, Equal, Greater}
-use Rattle.aout_core.specs.WellFormed.{first_of, segment_number}
-use Rattle.aout_core.specs.{declared.symbol.Symbol.Symbol, declared.symbol.Segment.Segment}
+use Rattle.std.proofs.Common.{◌≡◌, ℕ, zero, suc, ◌+◌, ◌-◌, ◌<◌, ◌≤◌, Bool, true, false, cond, nat_le, if◌then◌else◌, List, Option, Some}
+use Rattle.std.proofs.{Common.{None, IsSome, ◌==◌, nat_lt, refl, sym, ◌∙◌, ap, subst, arith}, lemmas.Bool.Decides.nat_tests}
+use Rattle.std.specs.{Ordering.{nat_cmp, is_lt, is_gt, ordering_then}, declared.cmp.Ordering.TheVariants.{Less, Equal, Greater}}
+use Rattle.aout_core.specs.{WellFormed.{first_of, segment_number}, declared.symbol.Symbol.Symbol, declared.symbol.Segment.Segment}
 use Rattle.instructions.specs.declared.reference.Reference.{Reference}
-use Rattle.disassemblies.specs.Naming.{symbol_at}
-use Rattle.disassemblies.specs.Near.{bytes_beyond, label_before, nearest_within, near}
+use Rattle.disassemblies.specs.{Naming.symbol_at, Near.{bytes_beyond, label_before, nearest_within, near}}
 use Rattle.disassemblies.specs.internal.Nearest.{IsUpTo, IsLastUpTo, IsFree, IsNearest}
 
 -- no label is so many bytes before an address

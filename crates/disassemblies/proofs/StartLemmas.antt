@@ -1,7 +1,6 @@
 -- The steps from a place on: the first of them, and those after it.
-use Rattle.std.proofs.Common.{◌≡◌, ℕ, zero, suc, ◌+◌, ◌-◌, ◌<◌, ◌≤◌, Bool, true, false, nat_lt, if◌then◌else◌, List, ◌++◌, refl, sym, ◌∙◌, ap}
-use Rattle.std.proofs.Common.{append_assoc, arith}
-use Rattle.std.proofs.lemmas.Bool.Decides.{nat_tests}
+use Rattle.std.proofs.Common.{◌≡◌, ℕ, zero, suc, ◌+◌, ◌-◌, ◌<◌, ◌≤◌, Bool, true, false, nat_lt, if◌then◌else◌, List, ◌++◌, refl, sym, ◌∙◌}
+use Rattle.std.proofs.{Common.{ap, append_assoc, arith}, lemmas.Bool.Decides.nat_tests}
 use Rattle.disassemblies.specs.Starts.{steps_from}
 
 by_test : {A : Type 0} (step : ℕ → ℕ) (count : ℕ) (of : ℕ → ℕ → List A) (end : List A) (place a b : ℕ) (t : Bool) →

@@ -2,11 +2,10 @@
 -- the next label the first has its line, and a remark counts the others. (own choice)
 use Rattle.std.specs.Prelude.{ℕ, ◌+◌, ◌-◌, ◌*◌, nat_lt, eqb, if◌then◌else◌, List, [], ◌∷◌, ◌++◌, length, take, drop, replicate, codes, decimal}
 use Rattle.std.specs.List.{flat_map}
-use Rattle.aout_core.specs.{Contents.Contents, Words.plus}
+use Rattle.aout_core.specs.{Contents.Contents, Words.plus, declared.symbol.Segment.TheVariants.TextSeg}
 use Rattle.instructions.specs.Lines.{line_length, lines, words_of}
 use Rattle.instructions.specs.{declared.line.Line.Line, declared.unix.Decoder.Decoder, Texts.line_text}
 use Rattle.texts.specs.Numbers.{six_digits}
-use Rattle.aout_core.specs.declared.symbol.Segment.TheVariants.{TextSeg}
 use Rattle.disassemblies.specs.{Remarks.remarked_text, Starts.steps_from, Starts.length_at, Listed.zeros, Labels.labels}
 
 abbrev pub word_column : ℕ → List ℕ

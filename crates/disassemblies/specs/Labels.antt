@@ -1,6 +1,5 @@
 -- Labels: the symbols of a segment, at their addresses. (as(1); labels within a line: own choice)
-use Rattle.std.specs.Prelude.{ℕ, ◌+◌, ◌-◌, ◌*◌, Bool, ◌&&◌, eqb, nat_lt, if◌then◌else◌, List, [], ◌∷◌, ◌++◌, codes}
-use Rattle.std.specs.List.{flat_map}
+use Rattle.std.specs.{Prelude.{ℕ, ◌+◌, ◌-◌, ◌*◌, Bool, ◌&&◌, eqb, nat_lt, if◌then◌else◌, List, [], ◌∷◌, ◌++◌, codes}, List.flat_map}
 use Rattle.aout_core.specs.{declared.symbol.Symbol.Symbol, declared.symbol.Segment.Segment, WellFormed.masked_type, WellFormed.segment_number}
 use Rattle.texts.specs.{Numbers.octal, Lines.text_of}
 use Rattle.instructions.specs.References.{assembly_name}

@@ -12,12 +12,10 @@ use Rattle.instructions.specs.Texts.{number, branch_target, branch_back_target, 
 use Rattle.instructions.specs.{declared.operation.Operation.Operation, declared.mode.Addressing.Addressing}
 use Rattle.instructions.specs.{declared.mode.Addressing.TheVariants.Immediate, declared.operand.Operand.Operand}
 use Rattle.instructions.specs.{declared.reference.Reference.Reference, declared.reference.References.References, declared.line.Line.Line}
-use Rattle.instructions.specs.{declared.line.Line.TheVariants.Plain, declared.line.Line.TheVariants.Decoded, declared.unix.Decoder.Decoder}
-use Rattle.instructions.specs.{declared.unix.UnixLine.UnixLine, declared.unix.UnixLine.TheVariants.Machine}
-use Rattle.instructions.specs.{declared.unix.UnixLine.TheVariants.Call, Modes.addressing, Instructions.word_count_of}
-use Rattle.instructions.specs.{Relocated.is_relocated}
-use Rattle.disassemblies.specs.Naming.{symbol_at, exact, object_reference, relocated_text}
-use Rattle.disassemblies.specs.Linked.{located, linked_reference}
+use Rattle.instructions.specs.{declared.line.Line.TheVariants.{Plain, Decoded}, declared.unix.Decoder.Decoder}
+use Rattle.instructions.specs.{declared.unix.UnixLine.UnixLine, declared.unix.UnixLine.TheVariants.{Machine, Call}, Modes.addressing}
+use Rattle.instructions.specs.{Instructions.word_count_of, Relocated.is_relocated}
+use Rattle.disassemblies.specs.{Naming.{symbol_at, exact, object_reference, relocated_text}, Linked.{located, linked_reference}}
 
 abbrev pub unix_line_in : Decoder → Contents → ℕ → UnixLine
 unix_line_in d c place =

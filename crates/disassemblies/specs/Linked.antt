@@ -4,13 +4,12 @@
 -- reaches text, and any other operand data or bss. For an overlay only the addresses of text are known. An immediate number and an
 -- index may be addresses or not, so they have no names.
 use Rattle.std.specs.Prelude.{ℕ, ◌+◌, Bool, false, not, ◌&&◌, ◌||◌, eqb, nat_lt, nat_le, if◌then◌else◌, List, Option, Some, None}
-use Rattle.aout_core.specs.declared.symbol.Segment.TheVariants.{TextSeg, DataSeg, BssSeg}
-use Rattle.aout_core.specs.{declared.header.Header.Header, declared.symbol.Symbol.Symbol, declared.symbol.Segment.Segment, Words.plus}
-use Rattle.aout_core.specs.{Addresses.data_start_in}
+use Rattle.aout_core.specs.{declared.symbol.Segment.TheVariants.{TextSeg, DataSeg, BssSeg}, declared.header.Header.Header}
+use Rattle.aout_core.specs.{declared.symbol.Symbol.Symbol, declared.symbol.Segment.Segment, Words.plus, Addresses.data_start_in}
 use Rattle.instructions.specs.{declared.operation.Operation.Operation, declared.mode.Addressing.Addressing}
 use Rattle.instructions.specs.{declared.reference.Reference.Reference, Instructions.jumps}
-use Rattle.disassemblies.specs.Naming.{symbol_at, exact}
 use Rattle.instructions.specs.declared.mode.Addressing.TheVariants as ways
+use Rattle.disassemblies.specs.Naming.{symbol_at, exact}
 
 abbrev pub is_in_data : Header → ℕ → Bool
 is_in_data h address = nat_le (data_start_in h) address && nat_lt address (data_start_in h + h.data_size)

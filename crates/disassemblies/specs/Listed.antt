@@ -2,13 +2,11 @@
 -- (own choice)
 --
 -- If a symbol names a later word of the line that the words at a place begin, that line is cut: its first word is a line of its own.
-use Rattle.std.specs.Prelude.{ℕ, zero, suc, ◌+◌, ◌-◌, ◌*◌, Bool, true, false, ◌||◌, ◌&&◌, not, eqb, if◌then◌else◌, List, [], codes}
-use Rattle.std.specs.Prelude.{length, slice_get, slice_index}
-use Rattle.std.specs.List.{list_any}
+use Rattle.std.specs.Prelude.{ℕ, zero, suc, ◌+◌, ◌-◌, ◌*◌, Bool, true, false, ◌||◌, ◌&&◌, not, eqb, if◌then◌else◌, List, [], codes, length}
+use Rattle.std.specs.{Prelude.{slice_get, slice_index}, List.list_any}
 use Rattle.aout_core.specs.{declared.symbol.Symbol.Symbol, declared.symbol.Segment.TheVariants.TextSeg, Contents.Contents}
 use Rattle.instructions.specs.{declared.unix.Decoder.Decoder, declared.line.Line.TheVariants.Plain, UnixLines.unix_length}
-use Rattle.instructions.specs.{declared.unix.UnixLine.UnixLine, declared.unix.UnixLine.TheVariants.Machine}
-use Rattle.instructions.specs.Relocated.{is_relocated}
+use Rattle.instructions.specs.{declared.unix.UnixLine.UnixLine, declared.unix.UnixLine.TheVariants.Machine, Relocated.is_relocated}
 use Rattle.disassemblies.specs.{Naming.is_at, Lines.unix_line_in}
 
 -- a symbol names the word of text at a place

@@ -4,14 +4,13 @@
 -- the first of the table. A word that refers to an external is shown as the external and the bytes beyond it.
 use Rattle.std.specs.Prelude.{ℕ, ◌/◌, ◌%◌, Bool, ◌&&◌, ◌||◌, eqb, if◌then◌else◌, List, ◌++◌, Option, Some, None, slice_get, find, codes}
 use Rattle.aout_core.specs.WellFormed.{is_external, masked_type, segment_number, kind_of, is_pc_relative, symbol_number, is_undefined}
-use Rattle.aout_core.specs.WellFormed.{first_of}
-use Rattle.aout_core.specs.{declared.symbol.Symbol.Symbol, declared.symbol.Segment.Segment, declared.reloc.Reloc.Reloc}
+use Rattle.aout_core.specs.{WellFormed.first_of, declared.symbol.Symbol.Symbol, declared.symbol.Segment.Segment, declared.reloc.Reloc.Reloc}
 use Rattle.aout_core.specs.{declared.reloc.Kind.Kind, Words.plus, Addresses.target}
+use Rattle.aout_core.specs.declared.symbol.Segment.TheVariants as segments
+use Rattle.aout_core.specs.declared.reloc.Kind.TheVariants as kinds
 use Rattle.instructions.specs.declared.mode.Addressing.TheVariants.{Immediate, Absolute, Relative, RelativeDeferred, Indexed}
 use Rattle.instructions.specs.{declared.mode.Addressing.Addressing, declared.reference.Reference.Reference, References.reference_text}
 use Rattle.texts.specs.Numbers.{six_digits}
-use Rattle.aout_core.specs.declared.symbol.Segment.TheVariants as segments
-use Rattle.aout_core.specs.declared.reloc.Kind.TheVariants as kinds
 
 abbrev pub is_at : Segment → ℕ → Symbol → Bool
 is_at segment value s = eqb (masked_type s) (segment_number segment) && eqb s.value value

@@ -10,22 +10,20 @@
 use Rattle.std.specs.Prelude.{ℕ, ◌+◌, ◌-◌, ◌*◌, Bool, false, eqb, nat_lt, if◌then◌else◌, List, [], ◌∷◌, ◌++◌, take, drop, codes, Option, Some, None}
 use Rattle.std.specs.Prelude.{slice_get}
 use Rattle.aout_core.specs.{declared.symbol.Symbol.Symbol, declared.symbol.Segment.Segment, declared.reloc.Reloc.Reloc}
-use Rattle.aout_core.specs.{declared.reloc.Kind.Kind, Contents.Contents}
-use Rattle.aout_core.specs.{Addresses.target, Addresses.data_start_in, WellFormed.kind_of}
+use Rattle.aout_core.specs.{declared.reloc.Kind.Kind, Contents.Contents, Addresses.{target, data_start_in}, WellFormed.kind_of}
+use Rattle.aout_core.specs.declared.symbol.Segment.TheVariants as segments
+use Rattle.aout_core.specs.declared.reloc.Kind.TheVariants as kinds
 use Rattle.instructions.specs.{declared.reference.Reference.Reference, declared.reference.References.References}
 use Rattle.instructions.specs.{declared.line.Line.TheVariants.Plain, declared.line.Line.TheVariants.Decoded, declared.unix.Decoder.Decoder}
 use Rattle.instructions.specs.{declared.unix.UnixLine.UnixLine, declared.unix.UnixLine.TheVariants.Machine}
 use Rattle.instructions.specs.{declared.unix.UnixLine.TheVariants.Call, Instructions.word_count_of, Relocated.is_relocated}
-use Rattle.disassemblies.specs.Lines.{unix_line_in, references, argument_reference, text_of}
-use Rattle.disassemblies.specs.Listed.{listed_line, cut_remark}
 use Rattle.instructions.specs.{declared.operand.Operand.Operand, declared.operand.Operand.TheVariants.General}
 use Rattle.instructions.specs.{declared.operation.Operation.Operation, declared.mode.Addressing.Addressing, Modes.addressing}
 use Rattle.instructions.specs.declared.mode.Addressing.TheVariants.{Immediate, Absolute}
 use Rattle.instructions.specs.{Instructions.jumps, References.reference_text, declared.unix.Decoder.TheVariants.Unix}
-use Rattle.disassemblies.specs.{Naming.symbol_at, Naming.exact, Naming.referred, Naming.referred_text, Naming.from_the_pc}
-use Rattle.disassemblies.specs.{Linked.segment_at, Near.near, Strings.is_string, Strings.string_remark}
-use Rattle.aout_core.specs.declared.symbol.Segment.TheVariants as segments
-use Rattle.aout_core.specs.declared.reloc.Kind.TheVariants as kinds
+use Rattle.disassemblies.specs.{Lines.{unix_line_in, references, argument_reference, text_of}, Listed.{listed_line, cut_remark}}
+use Rattle.disassemblies.specs.{Naming.{symbol_at, exact, referred, referred_text, from_the_pc}, Linked.segment_at, Near.near}
+use Rattle.disassemblies.specs.Strings.{is_string, string_remark}
 
 -- what a number refers to by its relocation word: of an address the label near it
 abbrev pub near_by : List Symbol → Reloc → ℕ → Option Kind → Option Reference

@@ -1,15 +1,11 @@
 //! A text in columns.
-ghost use Rattle.std.specs.Prelude.{◌≡◌, ◌<◌, ◌≤◌, ◌+◌, ◌*◌, [], ◌++◌, length, take, drop, codes, OnOk};
-ghost use Rattle.std.specs.List.{flat_map};
+ghost use Rattle.std.specs.{Prelude.{◌≡◌, ◌<◌, ◌≤◌, ◌+◌, ◌*◌, [], ◌++◌, length, take, drop, codes, OnOk}, List.flat_map};
 ghost use Rattle.aout_core.specs.declared.symbol.Segment.TheVariants.{TextSeg};
-ghost use Rattle.texts.specs.Numbers.{six_digits};
-ghost use Rattle.texts.specs.Texts.{Puts};
+ghost use Rattle.texts.specs.{Numbers.six_digits, Texts.Puts};
 ghost use Rattle.instructions.specs.Lines.{words_of};
-ghost use Rattle.disassemblies.specs.Listed.{listed_line};
-ghost use Rattle.disassemblies.specs.Labels.{labels};
-ghost use Rattle.disassemblies.specs.Remarks.{remarked_text};
-ghost use Rattle.disassemblies.specs.internal.Rows.{with_digits};
-ghost use Rattle.disassemblies.specs.Columns.{columns, rest_row, row_of, row, range, times_text, again_text, rows_again, row_words, others, rows, labelled_rows, disassembly, plain_row, plain_disassembly};
+ghost use Rattle.disassemblies.specs.{Listed.listed_line, Labels.labels, Remarks.remarked_text, internal.Rows.with_digits};
+ghost use Rattle.disassemblies.specs.Columns.{columns, rest_row, row_of, row, range, times_text, again_text, rows_again, row_words, others};
+ghost use Rattle.disassemblies.specs.Columns.{rows, labelled_rows, disassembly, plain_row, plain_disassembly};
 
 use crate::label::put_labels;
 use crate::line::put_text_of;

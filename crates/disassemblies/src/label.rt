@@ -1,10 +1,7 @@
 //! Labels: the symbols of a segment, at their addresses.
-ghost use Rattle.std.specs.Prelude.{◌≡◌, ◌<◌, ◌≤◌, ◌*◌, ◌+◌};
-ghost use Rattle.std.specs.List.{flat_map};
-ghost use Rattle.texts.specs.Lines.{text_of};
-ghost use Rattle.texts.specs.Texts.{Puts};
-ghost use Rattle.disassemblies.specs.internal.Blocks.{block};
-ghost use Rattle.disassemblies.specs.Labels.{label_at, is_within, label_within, labels};
+ghost use Rattle.std.specs.{Prelude.{◌≡◌, ◌<◌, ◌≤◌, ◌*◌, ◌+◌}, List.flat_map};
+ghost use Rattle.texts.specs.{Lines.text_of, Texts.Puts};
+ghost use Rattle.disassemblies.specs.{internal.Blocks.block, Labels.{label_at, is_within, label_within, labels}};
 
 use crate::chains::Chains;
 use crate::named::{Blocks, NamedFile};

@@ -1,8 +1,7 @@
 //! The lines of a file's text.
-ghost use Rattle.instructions.specs.UnixLines.{unix_length};
+ghost use Rattle.instructions.specs.{UnixLines.unix_length, declared.unix.UnixLine.TheVariants.Call};
 ghost use Rattle.std.specs.Prelude.{◌≡◌, ◌≤◌, ◌<◌, ◌*◌, ◌+◌, length, take, drop, slice_get, option_copied, IfSome};
 ghost use Rattle.texts.specs.Texts.{Puts};
-ghost use Rattle.instructions.specs.declared.unix.UnixLine.TheVariants.{Call};
 ghost use Rattle.disassemblies.specs.internal.Spots.{first_spot, second_spot};
 ghost use Rattle.disassemblies.specs.Lines.{unix_line_in, word_reference, general_reference, branch_reference, operand_reference, references, argument_reference, arguments_text, unix_text_in, text_of, line_text_in};
 

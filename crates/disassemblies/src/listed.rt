@@ -3,9 +3,7 @@ ghost use Rattle.std.specs.Prelude.{◌≡◌, ◌≤◌, ◌<◌, ◌+◌, ◌-
 ghost use Rattle.texts.specs.Texts.{Puts};
 ghost use Rattle.aout_core.specs.declared.symbol.Segment.TheVariants.{TextSeg};
 ghost use Rattle.instructions.specs.UnixLines.{unix_length};
-ghost use Rattle.disassemblies.specs.Naming.{is_at};
-ghost use Rattle.disassemblies.specs.Lines.{unix_line_in};
-ghost use Rattle.disassemblies.specs.Columns.{shown_words};
+ghost use Rattle.disassemblies.specs.{Naming.is_at, Lines.unix_line_in, Columns.shown_words};
 ghost use Rattle.disassemblies.specs.Listed.{has_label, is_zero, zeros_from, zeros, listed_line, is_plain_line, cut_remark};
 ghost use Rattle.disassemblies.specs.internal.Labelled.{AreLabelled, any_marked};
 

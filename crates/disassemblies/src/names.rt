@@ -1,9 +1,7 @@
 //! The symbols that name values, each found by its value.
-ghost use Rattle.std.specs.Prelude.{◌≡◌, ℕ, if◌then◌else◌, Some, OnOk, IfOk};
-ghost use Rattle.std.specs.BTreeMap.{get};
+ghost use Rattle.std.specs.{Prelude.{◌≡◌, ℕ, if◌then◌else◌, Some, OnOk, IfOk}, BTreeMap.get};
 ghost use Rattle.aout_core.specs.WellFormed.{first_of};
-ghost use Rattle.disassemblies.specs.Naming.{symbol_at};
-ghost use Rattle.disassemblies.specs.internal.FirstNamed.{key_cmp, has_key, first_with, FindsNamed};
+ghost use Rattle.disassemblies.specs.{Naming.symbol_at, internal.FirstNamed.{key_cmp, has_key, first_with, FindsNamed}};
 ghost use Rattle.disassemblies.specs.internal.Nearest.{IsLastUpTo, IsNearest};
 
 use aout_core::{Segment, Symbol};

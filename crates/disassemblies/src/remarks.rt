@@ -1,13 +1,9 @@
 //! What operand words refer to, or may refer to, after their instruction.
 ghost use Rattle.std.specs.Prelude.{◌≡◌, ◌<◌, ◌≤◌, ◌+◌, ◌*◌, Some, false, length, slice_get};
 ghost use Rattle.texts.specs.Texts.{Puts};
-ghost use Rattle.aout_core.specs.WellFormed.{kind_of};
-ghost use Rattle.aout_core.specs.Addresses.{data_start_in};
-ghost use Rattle.aout_core.specs.declared.symbol.Segment.TheVariants.{DataSeg};
-ghost use Rattle.instructions.specs.UnixLines.{unix_length};
-ghost use Rattle.instructions.specs.declared.line.Line.TheVariants.{Decoded};
-ghost use Rattle.instructions.specs.declared.unix.UnixLine.TheVariants.{Machine, Call};
-ghost use Rattle.instructions.specs.declared.unix.Decoder.TheVariants.{Unix};
+ghost use Rattle.aout_core.specs.{WellFormed.kind_of, Addresses.data_start_in, declared.symbol.Segment.TheVariants.DataSeg};
+ghost use Rattle.instructions.specs.{UnixLines.unix_length, declared.line.Line.TheVariants.Decoded};
+ghost use Rattle.instructions.specs.{declared.unix.UnixLine.TheVariants.{Machine, Call}, declared.unix.Decoder.TheVariants.Unix};
 ghost use Rattle.disassemblies.specs.Lines.{operand_reference, argument_reference};
 ghost use Rattle.disassemblies.specs.Listed.{listed_line};
 ghost use Rattle.disassemblies.specs.Remarks.{near_referred, string_at, pointed_remark, pointed_text, target_remarks, perhaps, perhaps_data, perhaps_in, perhaps_at, addressing_of, unrelocated_remark, word_remarks, operand_remarks, argument_remarks, line_remarks, linked_remarks, listed_text};

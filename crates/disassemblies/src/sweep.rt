@@ -1,12 +1,8 @@
 //! The lines of a file's text, decoded once for all that is said of them.
 ghost use Rattle.std.specs.Prelude.{◌≡◌, ◌≤◌, ◌<◌, ◌+◌, ◌++◌, length, IfOk, OnOk};
 ghost use Rattle.texts.specs.Texts.{Puts};
-ghost use Rattle.instructions.specs.UnixLines.{unix_length};
-ghost use Rattle.instructions.specs.declared.unix.Decoder.TheVariants.{Unix};
-ghost use Rattle.disassemblies.specs.Lines.{unix_line_in};
-ghost use Rattle.disassemblies.specs.Listed.{listed_line};
-ghost use Rattle.disassemblies.specs.Remarks.{listed_text};
-ghost use Rattle.disassemblies.specs.Starts.{starts, is_start, swept_line};
+ghost use Rattle.instructions.specs.{UnixLines.unix_length, declared.unix.Decoder.TheVariants.Unix};
+ghost use Rattle.disassemblies.specs.{Lines.unix_line_in, Listed.listed_line, Remarks.listed_text, Starts.{starts, is_start, swept_line}};
 ghost use Rattle.disassemblies.specs.internal.Swept.{swept, line_words};
 
 use crate::line::unix_line_in;

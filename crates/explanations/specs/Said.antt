@@ -5,21 +5,19 @@
 --
 -- A byte below the blank is shown as a backslash and three octal digits, so a note or a remark never leaves its line.
 use Rattle.std.specs.Prelude.{ℕ, ◌+◌, ◌*◌, ◌%◌, Bool, true, ◌&&◌, nat_lt, nat_le, eqb, if◌then◌else◌, List, [], ◌∷◌, ◌++◌, length, map}
-use Rattle.std.specs.Prelude.{Option, Some, None, slice_get, slice_index, codes, decimal}
-use Rattle.std.specs.List.{flat_map}
+use Rattle.std.specs.{Prelude.{Option, Some, None, slice_get, slice_index, codes, decimal}, List.flat_map}
 use Rattle.aout_core.specs.WellFormed.{is_undefined, is_pc_relative, kind_of, symbol_number}
 use Rattle.aout_core.specs.{declared.reloc.Reloc.Reloc, declared.reloc.Kind.Kind, declared.symbol.Symbol.Symbol, Contents.Contents}
 use Rattle.aout_core.specs.{declared.part.Part.Part, Addresses.data_start_in, Addresses.target}
-use Rattle.symtools.specs.SymbolLines.{letter}
-use Rattle.texts.specs.{Names.escaped, Names.printable_name}
-use Rattle.listings.specs.{Listing.Remarks, Reading.is_numbered}
-use Rattle.instructions.specs.{declared.unix.Decoder.TheVariants.Unix, UnixLines.unix_length}
-use Rattle.instructions.specs.{Relocated.is_relocated}
-use Rattle.disassemblies.specs.{Listed.listed_line, Labels.label_lines, Remarks.listed_text, Remarks.pointed_text, Starts.is_start}
-use Rattle.disassemblies.specs.{Strings.string_in}
 use Rattle.aout_core.specs.declared.symbol.Segment.TheVariants as segments
 use Rattle.aout_core.specs.declared.reloc.Kind.TheVariants as kinds
 use Rattle.aout_core.specs.declared.part.Part.TheVariants as parts
+use Rattle.symtools.specs.SymbolLines.{letter}
+use Rattle.texts.specs.{Names.escaped, Names.printable_name}
+use Rattle.listings.specs.{Listing.Remarks, Reading.is_numbered}
+use Rattle.instructions.specs.{declared.unix.Decoder.TheVariants.Unix, UnixLines.unix_length, Relocated.is_relocated}
+use Rattle.disassemblies.specs.{Listed.listed_line, Labels.label_lines, Remarks.listed_text, Remarks.pointed_text, Starts.is_start}
+use Rattle.disassemblies.specs.{Strings.string_in}
 
 abbrev pub printed_byte : ℕ → List ℕ
 printed_byte b = if nat_lt b 32 then escaped b else b ∷ []

@@ -1,8 +1,6 @@
 //! Files as listings, in the form that `read_listing` of `listings` reads.
 ghost use Rattle.std.specs.Prelude.{◌≡◌, Ok, IfOk};
-ghost use Rattle.listings.specs.Listing.{listing};
-ghost use Rattle.listings.specs.Reading.{read};
-ghost use Rattle.listings.specs.declared.draft.Addresses.TheVariants.{Compared};
+ghost use Rattle.listings.specs.{Listing.listing, Reading.read, declared.draft.Addresses.TheVariants.Compared};
 ghost use Rattle.instructions.specs.declared.unix.Decoder.TheVariants.{Unix};
 ghost use Rattle.disassemblies.specs.Starts.{starts};
 ghost use Rattle.explanations.specs.Said.{explained};

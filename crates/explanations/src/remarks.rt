@@ -1,17 +1,12 @@
 //! What a listing remarks of a file.
 ghost use Rattle.std.specs.Prelude.{◌≡◌, ◌<◌, ◌≤◌, ◌+◌, ◌*◌, ◌++◌, ◌∷◌, [], false, length, map, slice_get, slice_index};
-ghost use Rattle.texts.specs.Lines.{text_of};
-ghost use Rattle.texts.specs.Texts.{Puts};
+ghost use Rattle.texts.specs.{Lines.text_of, Texts.Puts};
 ghost use Rattle.listings.specs.Listing.{remarked, note_lines};
 ghost use Rattle.explanations.specs.internal.Lines.{Holds};
+ghost use Rattle.explanations.specs.Said.{printed_byte, printed, is_plain, reloc_said, text_said, data_address, data_said, labels_said, data_labels_said, from_slash, without_number};
 ghost use Rattle.instructions.specs.declared.unix.Decoder.TheVariants.{Unix};
 ghost use Rattle.aout_core.specs.declared.symbol.Segment.TheVariants.{TextSeg, DataSeg, BssSeg};
-ghost use Rattle.disassemblies.specs.Listed.{listed_line};
-ghost use Rattle.disassemblies.specs.Remarks.{listed_text};
-ghost use Rattle.disassemblies.specs.Strings.{string_in};
-ghost use Rattle.disassemblies.specs.Starts.{starts};
-ghost use Rattle.disassemblies.specs.Labels.{label_lines};
-ghost use Rattle.explanations.specs.Said.{printed_byte, printed, is_plain, reloc_said, text_said, data_address, data_said, labels_said, data_labels_said, from_slash, without_number};
+ghost use Rattle.disassemblies.specs.{Listed.listed_line, Remarks.listed_text, Strings.string_in, Starts.starts, Labels.label_lines};
 
 use crate::words_in::put_word_text;
 use aout_core::{File, Part, Reloc, Segment, Symbol};
@@ -343,8 +338,7 @@ fn put_text_labels(x: &Explained<'_>, text: &mut Text, place: usize)
 }
 
 impl Remark for Explained<'_> {
-    ghost use Rattle.explanations.specs.Said.{explained};
-    ghost use Rattle.explanations.specs.internal.Lines.{explained_lines};
+    ghost use Rattle.explanations.specs.{Said.explained, internal.Lines.explained_lines};
 
     ghost said = { λ x. explained (starts Unix x.sweep.now) x.sweep.now x.notes.now x.findings.now };
 

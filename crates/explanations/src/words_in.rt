@@ -1,8 +1,7 @@
 //! What a relocation word says, in words.
 ghost use Rattle.std.specs.Prelude.{◌++◌, ◌∷◌, slice_get, codes, decimal};
 ghost use Rattle.aout_core.specs.WellFormed.{symbol_number};
-ghost use Rattle.texts.specs.Names.{printable_name};
-ghost use Rattle.texts.specs.Texts.{Puts};
+ghost use Rattle.texts.specs.{Names.printable_name, Texts.Puts};
 ghost use Rattle.explanations.specs.Said.{external_said, word_said};
 
 use aout_core::{Kind, Name, Reloc};

@@ -1,12 +1,10 @@
 -- One more symbol of a table: what is odd in it, and that its name is noted.
 use Rattle.std.proofs.Common.{◌≡◌, refl, ℕ, ◌+◌, ◌<◌, Bool, true, false, if◌then◌else◌, not, ◌&&◌, is_some, Option, Some, None, List, []}
 use Rattle.std.proofs.Common.{◌∷◌, ◌++◌, take, drop, length, get_or, sym, ◌∙◌, ap, arith, append_assoc}
-use Rattle.std.proofs.{lemmas.List.drop_more, lemmas.List.take_more, lemmas.List.length-take, lemmas.Slice.Eq.bytes_eq-Decides}
+use Rattle.std.proofs.{lemmas.List.{drop_more, take_more, length-take}, lemmas.Slice.Eq.bytes_eq-Decides, lemmas.Bool.and_parts}
 use Rattle.std.specs.Prelude.{bytes_eq, Result, Ok, Err, OnOk}
 use Rattle.aout_core.specs.{declared.symbol.Symbol.Symbol, Contents.Contents, WellFormed.first_of, WellFormed.is_external}
-use Rattle.findings.specs.{Found.Found, Odd.first_named_from, Odd.first_named, Odd.odd_symbol, Odd.odd_symbols, Odd.first_alike}
-use Rattle.findings.specs.Odd.{has_name}
-use Rattle.std.proofs.lemmas.Bool.{and_parts}
+use Rattle.findings.specs.{Found.Found, Odd.{first_named_from, first_named, odd_symbol, odd_symbols, first_alike, has_name}}
 
 pub symbols_more : (commons : Bool) (c : Contents) (bytes : List ℕ) (symbols : List Symbol) (i : ℕ) (s : Symbol) (old new whole : List Found) →
     i < length symbols → s ≡ get_or symbols i s →

@@ -1,6 +1,5 @@
 -- One more word of a part: what is found in it.
-use Rattle.std.proofs.Common.{◌≡◌, ℕ, ◌+◌, ◌<◌, List, ◌++◌, drop, length, sym, ◌∙◌, ap, append_assoc}
-use Rattle.std.proofs.lemmas.List.{drop_more}
+use Rattle.std.proofs.{Common.{◌≡◌, ℕ, ◌+◌, ◌<◌, List, ◌++◌, drop, length, sym, ◌∙◌, ap, append_assoc}, lemmas.List.drop_more}
 use Rattle.std.specs.List.{flat_map}
 use Rattle.aout_core.specs.{declared.part.Part.Part, declared.placed.PlacedWord.PlacedWord, Contents.Contents}
 use Rattle.aout_core.specs.Placed.{placed_word, placed_from}

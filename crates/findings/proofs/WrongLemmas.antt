@@ -5,10 +5,9 @@ use Rattle.aout_core.specs.declared.object.ObjectFault.TheVariants.{NotAnObject,
 use Rattle.aout_core.specs.WellFormed.{is_wanted, kind_of, symbol_number, kind_fault, word_fault, first_of, first_bad_word}
 use Rattle.aout_core.specs.{declared.symbol.Symbol.Symbol, declared.reloc.Reloc.Reloc, declared.reloc.Kind.Kind}
 use Rattle.aout_core.specs.{declared.object.ObjectFault.ObjectFault, Contents.Contents, Encoding.relocation_at}
-use Rattle.findings.specs.Wrong.{fault_kind, bad_word, bad_words, all_bad_words, more_bad_words, wrong_words}
-use Rattle.findings.specs.{declared.finding.FindingKind.FindingKind, Found.Found}
-use Rattle.findings.specs.{WrongLaw.WrongWordsLaw, WrongLaw.WrongObjectsLaw}
 use Rattle.aout_core.specs.declared.reloc.Kind.TheVariants as kinds
+use Rattle.findings.specs.Wrong.{fault_kind, bad_word, bad_words, all_bad_words, more_bad_words, wrong_words}
+use Rattle.findings.specs.{declared.finding.FindingKind.FindingKind, Found.Found, WrongLaw.{WrongWordsLaw, WrongObjectsLaw}}
 
 nothing : (xs ys : List Found) → xs ++ ys ≡ [] → (xs ≡ []) × (ys ≡ [])
 nothing [] ys e = (refl, e)

@@ -5,20 +5,18 @@
 -- of an operand of mode 37, 67 or 77, by the lines of the sweep: for then memory is there. It is one too if the address lies more than 0400
 -- bytes outside, unless a symbol of text lies outside too. A symbol of data or bss is one if it is an external or lies so far outside, with
 -- the same exception; one of text is none for sure.
-use Rattle.std.specs.Prelude.{ℕ, ◌+◌, ◌-◌, Bool, true, false, not, ◌&&◌, ◌||◌, eqb, nat_lt, if◌then◌else◌, Option, Some}
-use Rattle.std.specs.List.{list_any}
+use Rattle.std.specs.{Prelude.{ℕ, ◌+◌, ◌-◌, Bool, true, false, not, ◌&&◌, ◌||◌, eqb, nat_lt, if◌then◌else◌, Option, Some}, List.list_any}
 use Rattle.aout_core.specs.WellFormed.{is_external, is_pc_relative, masked_type, segment_number, segment_of}
 use Rattle.aout_core.specs.{declared.header.Header.Header, declared.symbol.Symbol.Symbol, declared.symbol.Segment.Segment}
-use Rattle.aout_core.specs.declared.symbol.Segment.TheVariants.{TextSeg, DataSeg, BssSeg}
-use Rattle.aout_core.specs.{declared.reloc.Reloc.Reloc, Contents.Contents, Addresses.data_start_in}
-use Rattle.aout_core.specs.{declared.part.Part.Part, declared.part.Part.TheVariants.Text, declared.part.Part.TheVariants.Data}
+use Rattle.aout_core.specs.{declared.symbol.Segment.TheVariants.{TextSeg, DataSeg, BssSeg}, declared.reloc.Reloc.Reloc, Contents.Contents}
+use Rattle.aout_core.specs.{Addresses.data_start_in, declared.part.Part.Part, declared.part.Part.TheVariants.{Text, Data}}
 use Rattle.instructions.specs.{declared.mode.Addressing.Addressing, declared.operand.Operand.Operand}
 use Rattle.instructions.specs.{declared.operand.Operand.TheVariants.General, declared.line.Line.TheVariants.Decoded}
 use Rattle.instructions.specs.{declared.unix.Decoder.TheVariants.Unix, declared.unix.UnixLine.UnixLine}
 use Rattle.instructions.specs.{declared.unix.UnixLine.TheVariants.Machine, Modes.addressing, Instructions.word_count_of}
+use Rattle.instructions.specs.declared.mode.Addressing.TheVariants as ways
 use Rattle.disassemblies.specs.{Lines.unix_line_in, Starts.starts, Starts.is_start}
 use Rattle.findings.specs.Segments.{data_to, bss_to, has_address}
-use Rattle.instructions.specs.declared.mode.Addressing.TheVariants as ways
 
 abbrev pub is_byte : ℕ → Bool
 is_byte b = not (eqb b 0)

@@ -2,9 +2,8 @@
 --
 -- Text begins at 0. Data follows it, or begins at a multiple of 020000 or at 0, by the magic number; bss follows data.
 use Rattle.std.specs.Prelude.{ℕ, ◌+◌, Bool, true, ◌&&◌, nat_le, Option, Some}
-use Rattle.aout_core.specs.declared.symbol.Segment.TheVariants.{TextSeg, DataSeg, BssSeg, Undefined}
-use Rattle.aout_core.specs.{declared.header.Header.Header, declared.symbol.Segment.Segment, declared.reloc.Kind.Kind}
-use Rattle.aout_core.specs.{Addresses.data_start_in}
+use Rattle.aout_core.specs.{declared.symbol.Segment.TheVariants.{TextSeg, DataSeg, BssSeg, Undefined}, declared.header.Header.Header}
+use Rattle.aout_core.specs.{declared.symbol.Segment.Segment, declared.reloc.Kind.Kind, Addresses.data_start_in}
 use Rattle.aout_core.specs.declared.reloc.Kind.TheVariants as kinds
 
 abbrev pub data_to : Header → ℕ

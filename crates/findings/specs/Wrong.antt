@@ -4,11 +4,11 @@ use Rattle.std.specs.Prelude.{codes, Option, Some, None}
 use Rattle.aout_core.specs.{declared.header.Header.Header, declared.reloc.Reloc.Reloc, declared.file.ReadFault.ReadFault}
 use Rattle.aout_core.specs.{declared.object.ObjectFault.ObjectFault, Contents.Contents, Encoding.relocation_at, Decoding.header_in}
 use Rattle.aout_core.specs.{WellFormed.word_fault}
+use Rattle.aout_core.specs.declared.file.ReadFault.TheVariants as faults
+use Rattle.aout_core.specs.declared.object.ObjectFault.TheVariants as refusals
 use Rattle.findings.specs.declared.finding.FindingKind.TheVariants.{ShortHeader, BadMagic, OddSize, Truncated, BadRelocation}
 use Rattle.findings.specs.declared.finding.FindingKind.TheVariants.{BadSymbolNumber, MoreBadWords}
 use Rattle.findings.specs.{declared.finding.FindingKind.FindingKind, Found.Found, Found.found_if}
-use Rattle.aout_core.specs.declared.file.ReadFault.TheVariants as faults
-use Rattle.aout_core.specs.declared.object.ObjectFault.TheVariants as refusals
 
 -- the size of a part, at its word of the header
 abbrev pub odd_size : ℕ → ℕ → List Found

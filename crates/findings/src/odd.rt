@@ -1,17 +1,11 @@
 //! What is odd of a file, and not refused. Only tested: the texts of the findings.
-ghost use Rattle.std.specs.Prelude.{◌≡◌, ◌^◌, ◌<◌, ◌&&◌, not, None, Some, length, slice_get, take};
-ghost use Rattle.std.specs.Prelude.{if◌then◌else◌, bytes_eq, is_some, IfOk, OnOk, List, ℕ};
-ghost use Rattle.std.specs.List.{flat_map, list_any};
-ghost use Rattle.std.specs.BTreeMap.{get};
-ghost use Rattle.std.specs.Cmp.Lexicographic.{slice_cmp};
+ghost use Rattle.std.specs.Prelude.{◌≡◌, ◌^◌, ◌<◌, ◌&&◌, not, None, Some, length, slice_get, take, if◌then◌else◌, bytes_eq, is_some, IfOk};
+ghost use Rattle.std.specs.{Prelude.{OnOk, List, ℕ}, List.{flat_map, list_any}, BTreeMap.get, Cmp.Lexicographic.slice_cmp};
 ghost use Rattle.std.specs.Ordering.{nat_cmp};
-ghost use Rattle.aout_core.specs.WellFormed.{is_external};
-ghost use Rattle.aout_core.specs.Placed.{placed_word, placed_words, relocs_of, words_of};
-ghost use Rattle.findings.specs.Found.{all_found, Finds};
-ghost use Rattle.findings.specs.Segments.{segment_meant};
-ghost use Rattle.findings.specs.Outside.{is_byte};
-ghost use Rattle.findings.specs.Odd.{after_name, first_alike, has_name, has_type, ignores_number, is_hidden, odd, odd_fields};
-ghost use Rattle.findings.specs.Odd.{odd_header, odd_rest, odd_name, refers_to, is_unused, odd_reloc, odd_symbol, odd_symbols, odd_word};
+ghost use Rattle.aout_core.specs.{WellFormed.is_external, Placed.{placed_word, placed_words, relocs_of, words_of}};
+ghost use Rattle.findings.specs.{Found.{all_found, Finds}, Segments.segment_meant, Outside.is_byte};
+ghost use Rattle.findings.specs.Odd.{after_name, first_alike, has_name, has_type, ignores_number, is_hidden, odd, odd_fields, odd_header};
+ghost use Rattle.findings.specs.Odd.{odd_rest, odd_name, refers_to, is_unused, odd_reloc, odd_symbol, odd_symbols, odd_word};
 
 use crate::finding::{Finding, FindingKind, Findings};
 use crate::outside::{has_byte, is_sure_value, is_sure_word};

@@ -1,6 +1,5 @@
 //! Whether an address outside of its segment is a fault for sure.
-ghost use Rattle.std.specs.Prelude.{◌≡◌, ◌^◌, ◌<◌, length};
-ghost use Rattle.std.specs.List.{list_any};
+ghost use Rattle.std.specs.{Prelude.{◌≡◌, ◌^◌, ◌<◌, length}, List.list_any};
 ghost use Rattle.aout_core.specs.Placed.{words_of};
 ghost use Rattle.findings.specs.Outside.{is_byte, is_far, is_text_outside, is_moved, is_at_address, is_direct_in, is_direct_back, is_direct, is_sure_word, is_sure_value};
 

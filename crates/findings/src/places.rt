@@ -1,9 +1,7 @@
 //! The places of the parts of a file, by the sizes in its header, and their addresses in memory.
 ghost use Rattle.std.specs.Prelude.{◌≡◌, ◌+◌, ◌^◌, ◌<◌, ◌&&◌, nat_le};
 ghost use Rattle.aout_core.specs.Encoding.{relocation_at, symbols_at, file_length};
-ghost use Rattle.findings.specs.Segments.{has_address};
-ghost use Rattle.findings.specs.Odd.{symbol_at};
-ghost use Rattle.findings.specs.Outside.{first_of, last_of};
+ghost use Rattle.findings.specs.{Segments.has_address, Odd.symbol_at, Outside.{first_of, last_of}};
 
 use aout_core::{Header, Segment, Symbol};
 use std::fmt::{self, Display, Formatter, Write};

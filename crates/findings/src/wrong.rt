@@ -2,9 +2,8 @@
 ghost use Rattle.std.specs.Prelude.{◌≡◌, ◌^◌, ◌<◌, ◌++◌, length, IfOk, OnOk};
 ghost use Rattle.aout_core.specs.WellFormed.{word_fault};
 ghost use Rattle.findings.specs.Found.{all_found, Finds};
-ghost use Rattle.findings.specs.Wrong.{odd_size, odd_sizes, wrong_bytes};
-ghost use Rattle.findings.specs.Wrong.{fault_kind, is_damaged, bad_words, all_bad_words, more_bad_words, wrong_in, wrong_words};
-ghost use Rattle.findings.specs.internal.BadWords.{all_bad};
+ghost use Rattle.findings.specs.Wrong.{odd_size, odd_sizes, wrong_bytes, fault_kind, is_damaged, bad_words, all_bad_words, more_bad_words};
+ghost use Rattle.findings.specs.{Wrong.{wrong_in, wrong_words}, internal.BadWords.all_bad};
 
 use crate::finding::{Finding, FindingKind, Findings};
 use crate::other_files::header_of;

@@ -1,7 +1,6 @@
 -- What a map finds for a name once a name, or a symbol that counts, has been put in.
 use Rattle.std.proofs.Common.{◌≡◌, ℕ, ◌+◌, ◌<◌, Bool, true, false, cond, not, ◌&&◌, nat_eq, if◌then◌else◌, List, drop, take, length, Option}
-use Rattle.std.proofs.Common.{Some, None, get_or, refl, sym, ap, ◌∙◌, rules}
-use Rattle.std.proofs.{lemmas.List.drop_more}
+use Rattle.std.proofs.{Common.{Some, None, get_or, refl, sym, ap, ◌∙◌, rules}, lemmas.List.drop_more}
 use Rattle.std.specs.Cmp.Lexicographic.{pointwise, same_text}
 use Rattle.indexmap.specs.IndexMap.{IndexMap, get}
 use Rattle.gnu_objects.specs.Staying.{are_alike, alike_with}

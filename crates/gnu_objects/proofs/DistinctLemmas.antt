@@ -1,7 +1,6 @@
 -- Different names of symbols that stay are different in eight bytes.
-use Rattle.std.proofs.Common.{◌≡◌, ◌≢◌, ℕ, zero, suc, ◌+◌, ◌<◌, Bool, true, false, not, ◌&&◌, ◌||◌, if◌then◌else◌, List, [], ◌∷◌}
-use Rattle.std.proofs.Common.{take, Option, Some, None, slice_get, sym, ap, ◌∙◌, arith, ◌⊎◌, inl, inr, rules}
-use Rattle.std.proofs.{lemmas.Bool.cases_order}
+use Rattle.std.proofs.Common.{◌≡◌, ◌≢◌, ℕ, zero, suc, ◌+◌, ◌<◌, Bool, true, false, not, ◌&&◌, ◌||◌, if◌then◌else◌, List, [], ◌∷◌, take}
+use Rattle.std.proofs.{Common.{Option, Some, None, slice_get, sym, ap, ◌∙◌, arith, ◌⊎◌, inl, inr, rules}, lemmas.Bool.cases_order}
 use Rattle.gnu_objects.specs.Staying.{is_external, are_alike, counts, alike_with, is_some, collides, stays}
 use Rattle.gnu_objects.specs.GnuRefusals.{alike_at, alike_refusal, first_alike}
 use Rattle.gnu_objects.specs.{declared.options.Locals.Locals, declared.symbols.GnuSymbol.GnuSymbol, GnuForm.name_at, GnuForm.is_stab}

@@ -1,13 +1,10 @@
 -- Externals of several files, and what a map finds for their names.
-use Rattle.std.proofs.Common.{◌≡◌, ℕ, ◌+◌, ◌<◌, ◌||◌, Bool, true, false, if◌then◌else◌, List, [], ◌∷◌, ◌++◌, drop, take, length, Option, Some, None}
-use Rattle.std.proofs.Common.{get_or, refl, sym, ap, ◌∙◌, subst, rules}
-use Rattle.std.proofs.lemmas.List.{drop_more, map_more}
+use Rattle.std.proofs.Common.{◌≡◌, ℕ, ◌+◌, ◌<◌, ◌||◌, Bool, true, false, if◌then◌else◌, List, [], ◌∷◌, ◌++◌, drop, take, length, Option}
+use Rattle.std.proofs.{Common.{Some, None, get_or, refl, sym, ap, ◌∙◌, subst, rules}, lemmas.List.{drop_more, map_more}}
 use Rattle.std.proofs.lemmas.List.Folds.{list_any-append}
 use Rattle.std.specs.{List.list_any, Option.is_some}
 use Rattle.indexmap.specs.IndexMap.{IndexMap}
-use Rattle.gnu_objects.specs.Staying.{are_alike}
-use Rattle.gnu_objects.specs.internal.AlikeNames.{found, PutsName}
-use Rattle.gnu_objects.specs.internal.Externals.{HasNames, names_in}
+use Rattle.gnu_objects.specs.{Staying.are_alike, internal.AlikeNames.{found, PutsName}, internal.Externals.{HasNames, names_in}}
 use Rattle.gnu_objects.specs.{Clashes.alike_after, declared.alike.Equals.Equals, declared.external.External.External}
 
 last_first : (a b : Bool) → (a || (b || false)) ≡ (b || a)

@@ -1,11 +1,8 @@
 -- The parts of a converted object fit its header.
-use Rattle.std.proofs.Common.{◌≡◌, ℕ, ◌+◌, ◌*◌, ◌/◌, ◌%◌, ◌&&◌, ◌==◌, Bool, IsTrue, List, length}
-use Rattle.std.proofs.Common.{rules}
-use Rattle.std.proofs.lemmas.List.{length-map, length-take, length-drop, length-replicate}
-use Rattle.std.proofs.lemmas.List.FromFn.{length-map-range_with_len}
+use Rattle.std.proofs.Common.{◌≡◌, ℕ, ◌+◌, ◌*◌, ◌/◌, ◌%◌, ◌&&◌, ◌==◌, Bool, IsTrue, List, length, rules}
+use Rattle.std.proofs.{lemmas.List.{length-map, length-take, length-drop, length-replicate}, lemmas.List.FromFn.length-map-range_with_len}
 use Rattle.aout_core.specs.{declared.header.Header.Header, Contents.Fits}
-use Rattle.gnu_objects.specs.GnuForm.{word_at, symbol_at, words_from, symbols_from, relocation_of}
-use Rattle.gnu_objects.specs.Converted.{contents_with}
+use Rattle.gnu_objects.specs.{GnuForm.{word_at, symbol_at, words_from, symbols_from, relocation_of}, Converted.contents_with}
 use Rattle.gnu_objects.specs.{declared.symbols.GnuSymbol.GnuSymbol, Staying.count, internal.Sizes.IsObjectHeader}
 use Rattle.gnu_objects.proofs.StayingLemmas.{length-pairs_kept}
 

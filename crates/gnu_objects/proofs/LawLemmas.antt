@@ -1,6 +1,5 @@
 -- The law of conversion.
-use Rattle.std.proofs.Common.{◌≡◌, ℕ, ◌+◌, ◌/◌, Bool, List, ◌++◌, map, take, drop, length, Option}
-use Rattle.std.proofs.Common.{None, refl, ap, ◌∙◌, subst, rules}
+use Rattle.std.proofs.Common.{◌≡◌, ℕ, ◌+◌, ◌/◌, Bool, List, ◌++◌, map, take, drop, length, Option, None, refl, ap, ◌∙◌, subst, rules}
 use Rattle.std.proofs.lemmas.List.{take-append-drop}
 use Rattle.std.specs.Prelude.{Result, Ok}
 use Rattle.aout_core.specs.WellFormed.{first_bad_word, first_object_fault}
@@ -8,10 +7,9 @@ use Rattle.aout_core.specs.{declared.header.Header.Header, declared.object.Objec
 use Rattle.gnu_objects.specs.GnuRefusals.{header_refusal, strings_refusal, first_bad_symbol, linked_refusal, count_refusal, first_alike}
 use Rattle.gnu_objects.specs.GnuRefusals.{first_dropped_word, table_refusal, refused_first}
 use Rattle.gnu_objects.specs.Converted.{unless, object_unless, object_of, contents_with, converted_by, converted_with, converted_under}
-use Rattle.gnu_objects.specs.Converted.{renumbered, converted_symbol}
-use Rattle.gnu_objects.specs.{declared.options.Options.Options, declared.refusal.Refusal.Refusal, declared.symbols.GnuSymbol.GnuSymbol}
-use Rattle.gnu_objects.specs.{GnuForm.words_from, GnuForm.symbols_of, GnuForm.strings_of, GnuForm.relocation_of, Staying.staying}
-use Rattle.gnu_objects.specs.{Staying.kept, Staying.count, Laws.GnuFile, Laws.file_under, Laws.IsConversion, Laws.ConversionLaw}
+use Rattle.gnu_objects.specs.{Converted.{renumbered, converted_symbol}, declared.options.Options.Options, declared.refusal.Refusal.Refusal}
+use Rattle.gnu_objects.specs.{declared.symbols.GnuSymbol.GnuSymbol, GnuForm.{words_from, symbols_of, strings_of, relocation_of}}
+use Rattle.gnu_objects.specs.{Staying.{staying, kept, count}, Laws.{GnuFile, file_under, IsConversion, ConversionLaw}}
 use Rattle.gnu_objects.proofs.ReferenceLemmas.{both_none, bad_split, dropped_split, references}
 use Rattle.gnu_objects.proofs.{StayingLemmas.length-staying, StayingLemmas.kept_fused, DistinctLemmas.distinct}
 

@@ -1,6 +1,5 @@
 -- The bytes before the first NUL have none.
-use Rattle.std.proofs.Common.{◌≡◌, ◌==◌, ℕ, List, take, Some, None, sym, ap, ◌∙◌}
-use Rattle.std.proofs.Math.Seq.{take-length}
+use Rattle.std.proofs.{Common.{◌≡◌, ◌==◌, ℕ, List, take, Some, None, sym, ap, ◌∙◌}, Math.Seq.take-length}
 use Rattle.std.specs.List.{position}
 use Rattle.aout_core.proofs.NameLemmas.{nul_found, nul_missing, take-before_nul, before_nul-twice}
 use Rattle.aout_core.specs.Names.{before_nul}

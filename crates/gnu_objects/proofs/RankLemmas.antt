@@ -4,8 +4,7 @@ use Rattle.std.proofs.Common.{◌∷◌, ◌++◌, take, length, length-take, mi
 use Rattle.std.proofs.lemmas.List.FromFn.{get_or-map-range_with_len, length-map-range_with_len, map-range_with_len_more}
 use Rattle.std.proofs.{lemmas.Bool.cases_lt, lemmas.List.take_all}
 use Rattle.aout_core.specs.declared.reloc.Reloc.{Reloc}
-use Rattle.gnu_objects.specs.internal.Ranks.{one_if, ranks_to, ranks_of}
-use Rattle.gnu_objects.specs.{Staying.count, Staying.refers, Converted.renumbered}
+use Rattle.gnu_objects.specs.{internal.Ranks.{one_if, ranks_to, ranks_of}, Staying.{count, refers}, Converted.renumbered}
 
 -- no more stay than there are
 pub count_le : (flags : List Bool) → count flags ≤ length flags

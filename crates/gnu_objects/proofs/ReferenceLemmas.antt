@@ -6,9 +6,8 @@ use Rattle.aout_core.specs.WellFormed.{kind_numbered, kind_of, symbol_number, wo
 use Rattle.aout_core.specs.{declared.object.ObjectFault.ObjectFault, declared.reloc.Reloc.Reloc, declared.reloc.Kind.TheVariants.External}
 use Rattle.aout_core.specs.{declared.symbol.Symbol.Symbol, Contents.Contents}
 use Rattle.gnu_objects.specs.GnuRefusals.{refused_first, dropped_refusal, word_refusal, first_dropped_word}
-use Rattle.gnu_objects.specs.Laws.{GnuFile, RefersAlike, IsSameReference, AreSameReferences}
-use Rattle.gnu_objects.specs.{declared.refusal.Refusal.Refusal, declared.symbols.GnuSymbol.GnuSymbol, Staying.refers, Staying.kept}
-use Rattle.gnu_objects.specs.{Staying.count, Converted.renumbered, Converted.converted_symbol}
+use Rattle.gnu_objects.specs.{Laws.{GnuFile, RefersAlike, IsSameReference, AreSameReferences}, declared.refusal.Refusal.Refusal}
+use Rattle.gnu_objects.specs.{declared.symbols.GnuSymbol.GnuSymbol, Staying.{refers, kept, count}, Converted.{renumbered, converted_symbol}}
 use Rattle.gnu_objects.proofs.StayingLemmas.{length-kept, kept_at}
 
 pub both_none : (a b : Option Refusal) → refused_first a b ≡ None → (a ≡ None) × (b ≡ None)

@@ -1,7 +1,6 @@
 -- The symbols that stay.
 use Rattle.std.proofs.Common.{◌≡◌, ℕ, zero, suc, ◌+◌, Bool, true, false, List, [], ◌∷◌, map, take, length, Some, slice_get, refl, ap, ◌∙◌}
-use Rattle.std.proofs.Common.{arith}
-use Rattle.std.proofs.lemmas.List.{length-map}
+use Rattle.std.proofs.{Common.arith, lemmas.List.length-map}
 use Rattle.aout_core.specs.declared.symbol.Symbol.{Symbol}
 use Rattle.gnu_objects.specs.Staying.{staying_from, staying, pairs_kept, kept, count}
 use Rattle.gnu_objects.specs.{declared.options.Locals.Locals, declared.symbols.GnuSymbol.GnuSymbol}

@@ -7,8 +7,7 @@ use Rattle.std.specs.Prelude.{Err}
 use Rattle.aout_core.specs.{declared.header.Header.Header, declared.reloc.Reloc.Reloc, declared.symbol.Symbol.Symbol}
 use Rattle.aout_core.specs.{declared.object.ObjectFault.ObjectFault, Contents.Contents, Decoding.header_in, WellFormed.first_object_fault}
 use Rattle.gnu_objects.specs.GnuForm.{words_from, symbols_of, strings_of, relocation_of, name_at}
-use Rattle.gnu_objects.specs.Staying.{refers, staying, pairs_kept, count}
-use Rattle.gnu_objects.specs.GnuRefusals.{header_refusal, strings_refusal, table_refusal}
+use Rattle.gnu_objects.specs.{Staying.{refers, staying, pairs_kept, count}, GnuRefusals.{header_refusal, strings_refusal, table_refusal}}
 use Rattle.gnu_objects.specs.{declared.refusal.Refusal.Refusal, declared.refusal.Refusal.TheVariants.BadWord}
 use Rattle.gnu_objects.specs.{declared.symbols.GnuSymbol.GnuSymbol, declared.options.Options.Options}
 

@@ -3,10 +3,8 @@
 -- The header has the eight words of the Seventh Edition, and text, data and relocation follow it as in a.out(5). After them come the
 -- symbols, 8 bytes each, and after these the strings. They begin with their length in four bytes, which counts these four too.
 use Rattle.std.specs.Prelude.{ℕ, ◌+◌, ◌*◌, ◌/◌, Bool, ◌&&◌, ◌||◌, ◌==◌, nat_lt, if◌then◌else◌, List, [], map, take, drop, replicate}
-use Rattle.std.specs.Prelude.{slice_index}
-use Rattle.std.specs.List.{list_any, range_with_len}
-use Rattle.aout_core.specs.Encoding.{relocation_at, symbols_at, file_length}
-use Rattle.aout_core.specs.{declared.header.Header.Header, Names.before_nul}
+use Rattle.std.specs.{Prelude.slice_index, List.{list_any, range_with_len}}
+use Rattle.aout_core.specs.{Encoding.{relocation_at, symbols_at, file_length}, declared.header.Header.Header, Names.before_nul}
 use Rattle.gnu_objects.specs.declared.symbols.GnuSymbol.{GnuSymbol}
 
 -- a word has its low byte first, and a number of two words its high word first

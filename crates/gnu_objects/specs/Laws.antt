@@ -1,11 +1,9 @@
 -- The law of conversion: what an object in GNU's form and the object that it becomes have in common. (own choice)
-use Rattle.std.specs.Prelude.{◌≡◌, ◌≢◌, ℕ, ◌+◌, ◌/◌, true, List, map, take, drop, slice_get, Some, Ok}
-use Rattle.std.specs.List.{AllZip}
+use Rattle.std.specs.{Prelude.{◌≡◌, ◌≢◌, ℕ, ◌+◌, ◌/◌, true, List, map, take, drop, slice_get, Some, Ok}, List.AllZip}
 use Rattle.aout_core.specs.{declared.header.Header.Header, declared.reloc.Reloc.Reloc, declared.reloc.Kind.TheVariants.External}
 use Rattle.aout_core.specs.{Contents.Contents, Decoding.header_in, WellFormed.kind_of, WellFormed.is_pc_relative, WellFormed.symbol_number}
-use Rattle.gnu_objects.specs.GnuForm.{words_from, symbols_of, strings_of, relocation_of, name_at}
-use Rattle.gnu_objects.specs.{declared.options.Options.Options, declared.symbols.GnuSymbol.GnuSymbol, Staying.stays, Staying.staying}
-use Rattle.gnu_objects.specs.{Staying.kept, Converted.converted, Converted.converted_symbol}
+use Rattle.gnu_objects.specs.{GnuForm.{words_from, symbols_of, strings_of, relocation_of, name_at}, declared.options.Options.Options}
+use Rattle.gnu_objects.specs.{declared.symbols.GnuSymbol.GnuSymbol, Staying.{stays, staying, kept}, Converted.{converted, converted_symbol}}
 
 -- a file in GNU's form by its parts
 pub record GnuFile : Type 0 where

@@ -3,8 +3,7 @@
 -- Externals stay. Symbols for a debugger go. A local goes if the options drop it, and also if its name, cut at eight bytes, is
 -- that of another symbol whose whole name differs.
 use Rattle.std.specs.Prelude.{ℕ, ◌+◌, ◌/◌, ◌%◌, Bool, true, false, ◌&&◌, ◌||◌, ◌==◌, not, nat_eq, if◌then◌else◌, List, [], ◌∷◌, map, filter}
-use Rattle.std.specs.Prelude.{zip, take, length, Option, Some, None}
-use Rattle.std.specs.{List.list_any, Cmp.Lexicographic.pointwise}
+use Rattle.std.specs.{Prelude.{zip, take, length, Option, Some, None}, List.list_any, Cmp.Lexicographic.pointwise}
 use Rattle.gnu_objects.specs.declared.options.Locals.TheVariants.{KeepAll, KeepNeeded, KeepNone}
 use Rattle.gnu_objects.specs.{declared.options.Locals.Locals, declared.symbols.GnuSymbol.GnuSymbol, GnuForm.name_at, GnuForm.is_stab}
 

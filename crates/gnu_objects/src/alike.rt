@@ -1,8 +1,7 @@
 //! Names that are found by their first eight bytes. Two names are alike if they differ, and are equal in these bytes.
 ghost use Rattle.std.specs.Prelude.{◌≡◌, ◌≤◌, ◌<◌, ◌^◌, false, IfOk, OnOk, length};
 ghost use Rattle.aout_core.specs.Names.{before_nul};
-ghost use Rattle.gnu_objects.specs.internal.AlikeNames.{found, PutsName, PutsSymbol, PutsSymbols, FindsAlike};
-ghost use Rattle.gnu_objects.specs.Staying.{alike_with};
+ghost use Rattle.gnu_objects.specs.{internal.AlikeNames.{found, PutsName, PutsSymbol, PutsSymbols, FindsAlike}, Staying.alike_with};
 
 use crate::names::name_at;
 use crate::staying::counts;

@@ -1,11 +1,10 @@
 //! What is wrong with an object in GNU's form.
 ghost use Rattle.std.specs.Prelude.{◌≡◌, ◌+◌, ◌≤◌, ◌<◌, ◌^◌, IfOk, length, slice_get};
 ghost use Rattle.aout_core.specs.Encoding.{symbols_at, file_length};
-ghost use Rattle.gnu_objects.specs.GnuRefusals.{size_refusal, header_refusal, strings_refusal, symbol_refusal, first_bad_symbol, linked_refusal, count_refusal};
-ghost use Rattle.gnu_objects.specs.GnuForm.{name_at};
-ghost use Rattle.gnu_objects.specs.internal.Sizes.{HasWholeSizes, IsObjectHeader};
-ghost use Rattle.gnu_objects.specs.internal.AlikeNames.{found, alike_among};
-ghost use Rattle.gnu_objects.specs.GnuRefusals.{alike_at, first_alike, refused_first, dropped_refusal, word_refusal, first_dropped_word, table_refusal};
+ghost use Rattle.gnu_objects.specs.GnuRefusals.{size_refusal, header_refusal, strings_refusal, symbol_refusal, first_bad_symbol};
+ghost use Rattle.gnu_objects.specs.GnuRefusals.{linked_refusal, count_refusal, alike_at, first_alike, refused_first, dropped_refusal};
+ghost use Rattle.gnu_objects.specs.{GnuRefusals.{word_refusal, first_dropped_word, table_refusal}, GnuForm.name_at};
+ghost use Rattle.gnu_objects.specs.{internal.Sizes.{HasWholeSizes, IsObjectHeader}, internal.AlikeNames.{found, alike_among}};
 
 use crate::alike::{AlikeNames, found, put_symbol};
 use crate::bytes::long_at;

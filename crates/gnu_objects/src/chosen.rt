@@ -1,7 +1,6 @@
 //! Which locals the options keep.
 ghost use Rattle.std.specs.Prelude.{◌≡◌, ◌<◌, ◌/◌, IfOk, length};
-ghost use Rattle.gnu_objects.specs.internal.Chosen.{AreNeeded, noted};
-ghost use Rattle.gnu_objects.specs.declared.options.Locals.TheVariants.{KeepNeeded};
+ghost use Rattle.gnu_objects.specs.{internal.Chosen.{AreNeeded, noted}, declared.options.Locals.TheVariants.KeepNeeded};
 
 use crate::options::Locals;
 use crate::staying::refers;

@@ -1,9 +1,6 @@
 //! Names of several files that a linker would take for one.
-ghost use Rattle.std.specs.Prelude.{◌≡◌, ◌++◌, [], map, OnOk, IfOk};
-ghost use Rattle.std.specs.Option.{is_some};
-ghost use Rattle.std.specs.List.{flat_map, list_any};
-ghost use Rattle.gnu_objects.specs.Clashes.{alike_after, externals_in, externals_of, has_clash};
-ghost use Rattle.gnu_objects.specs.Staying.{are_alike};
+ghost use Rattle.std.specs.{Prelude.{◌≡◌, ◌++◌, [], map, OnOk, IfOk}, Option.is_some, List.{flat_map, list_any}};
+ghost use Rattle.gnu_objects.specs.{Clashes.{alike_after, externals_in, externals_of, has_clash}, Staying.are_alike};
 ghost use Rattle.gnu_objects.specs.internal.Externals.{names_in};
 
 use crate::alike::{found, put_name};

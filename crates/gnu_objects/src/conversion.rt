@@ -1,14 +1,10 @@
 //! The object of the Seventh Edition that an object in GNU's form is.
 ghost use Rattle.std.specs.Prelude.{◌≡◌, ◌≢◌, ◌+◌, ◌*◌, ◌/◌, ◌%◌, ◌≤◌, ◌<◌, ◌^◌, IfOk, IfSome, Err, None, length, map, replicate, take};
-ghost use Rattle.aout_core.specs.Contents.{Fits};
-ghost use Rattle.aout_core.specs.Parts.{contents_of};
-ghost use Rattle.aout_core.specs.Encoding.{file_length};
-ghost use Rattle.aout_core.specs.Refusals.{refused};
-ghost use Rattle.gnu_objects.specs.GnuForm.{symbols_of, relocation_of};
-ghost use Rattle.gnu_objects.specs.Staying.{count};
-ghost use Rattle.gnu_objects.specs.GnuRefusals.{first_alike, sizes_refusal, table_refusal};
-ghost use Rattle.gnu_objects.specs.internal.Sizes.{IsObjectHeader};
-ghost use Rattle.gnu_objects.specs.Converted.{converted, converted_header, converted_symbol, converted_symbols, converted_by, converted_with, contents_with, object_of};
+ghost use Rattle.aout_core.specs.{Contents.Fits, Parts.contents_of, Encoding.file_length, Refusals.refused};
+ghost use Rattle.gnu_objects.specs.{GnuForm.{symbols_of, relocation_of}, Staying.count};
+ghost use Rattle.gnu_objects.specs.{GnuRefusals.{first_alike, sizes_refusal, table_refusal}, internal.Sizes.IsObjectHeader};
+ghost use Rattle.gnu_objects.specs.Converted.{converted, converted_header, converted_symbol, converted_symbols, converted_by};
+ghost use Rattle.gnu_objects.specs.Converted.{converted_with, contents_with, object_of};
 
 use crate::checks::{first_alike, table_refusal};
 use crate::names::name_at;

@@ -1,9 +1,7 @@
 //! The names of symbols, and which symbols are for a debugger.
-ghost use Rattle.std.specs.Prelude.{◌≡◌, ◌==◌, position, take};
-ghost use Rattle.std.specs.List.{list_any};
+ghost use Rattle.std.specs.{Prelude.{◌≡◌, ◌==◌, position, take}, List.list_any};
 ghost use Rattle.aout_core.specs.Names.{before_nul};
-ghost use Rattle.gnu_objects.specs.GnuForm.{name_at, is_stab};
-ghost use Rattle.gnu_objects.specs.Staying.{are_alike};
+ghost use Rattle.gnu_objects.specs.{GnuForm.{name_at, is_stab}, Staying.are_alike};
 
 use crate::symbols::GnuSymbol;
 

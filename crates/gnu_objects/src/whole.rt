@@ -1,9 +1,7 @@
 //! The parts of a file whose header, sizes and strings are not refused.
 ghost use Rattle.std.specs.Prelude.{◌≡◌, ◌+◌, ◌/◌, ◌≤◌, ◌<◌, ◌^◌, IfOk, IfErr, Some, None, length, take};
-ghost use Rattle.aout_core.specs.Decoding.{header_in};
-ghost use Rattle.aout_core.specs.Encoding.{file_length};
-ghost use Rattle.gnu_objects.specs.GnuForm.{strings_of, symbols_of, relocation_of};
-ghost use Rattle.gnu_objects.specs.GnuRefusals.{sizes_refusal, strings_refusal};
+ghost use Rattle.aout_core.specs.{Decoding.header_in, Encoding.file_length};
+ghost use Rattle.gnu_objects.specs.{GnuForm.{strings_of, symbols_of, relocation_of}, GnuRefusals.{sizes_refusal, strings_refusal}};
 ghost use Rattle.gnu_objects.specs.internal.Sizes.{IsObjectHeader, IsWhole};
 
 use crate::bytes::long_at;

@@ -1,9 +1,6 @@
 //! Words and relocation words.
 ghost use Rattle.std.specs.Prelude.{◌≡◌, ◌+◌, ◌*◌, ◌≤◌, [], IfOk, OnOk, length, map};
-ghost use Rattle.gnu_objects.specs.GnuForm.{words_from};
-ghost use Rattle.gnu_objects.specs.Converted.{renumbered};
-ghost use Rattle.gnu_objects.specs.Staying.{count};
-ghost use Rattle.gnu_objects.specs.internal.Ranks.{one_if, ranks_to, ranks_of};
+ghost use Rattle.gnu_objects.specs.{GnuForm.words_from, Converted.renumbered, Staying.count, internal.Ranks.{one_if, ranks_to, ranks_of}};
 
 use crate::bytes::word_at;
 use crate::staying::refers;

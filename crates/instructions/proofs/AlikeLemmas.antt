@@ -1,13 +1,11 @@
 -- The lines of two texts that differ at most in words that move, and of texts one after the other.
 use Rattle.std.proofs.Common.{◌≡◌, ℕ, zero, suc, ◌+◌, ◌-◌, ◌<◌, ◌≤◌, Bool, true, false, nat_lt, if◌then◌else◌, Option, Some, None, List, []}
-use Rattle.std.proofs.Common.{◌∷◌, ◌++◌, length, take, drop, slice_get, refl, sym, ap, subst, ◌∙◌, arith}
-use Rattle.std.proofs.{lemmas.Bool.Decides.nat_tests, lemmas.List.length-drop, lemmas.List.take_rest}
-use Rattle.std.proofs.{lemmas.Option.slice_get-get_or, Common.get_or, Common.drop-drop}
+use Rattle.std.proofs.Common.{◌∷◌, ◌++◌, length, take, drop, slice_get, refl, sym, ap, subst, ◌∙◌, arith, get_or, drop-drop}
+use Rattle.std.proofs.{lemmas.Bool.Decides.nat_tests, lemmas.List.{length-drop, take_rest}, lemmas.Option.slice_get-get_or}
 use Rattle.instructions.specs.Instructions.{instruction_of, word_count_of, following_words}
 use Rattle.instructions.specs.Lines.{word_for, line_of, line_at, line_length, lines_within, lines}
-use Rattle.instructions.specs.Alike.{AlikeWords, AlikeLine, AlikeLines, is_cut, AreWhole}
-use Rattle.instructions.specs.{declared.instruction.Instruction.Instruction, declared.line.Line.Line, declared.line.Line.TheVariants.Plain}
-use Rattle.instructions.specs.{declared.line.Line.TheVariants.Decoded, Operands.takes_word}
+use Rattle.instructions.specs.{Alike.{AlikeWords, AlikeLine, AlikeLines, is_cut, AreWhole}, declared.instruction.Instruction.Instruction}
+use Rattle.instructions.specs.{declared.line.Line.Line, declared.line.Line.TheVariants.{Plain, Decoded}, Operands.takes_word}
 use Rattle.instructions.proofs.LineLemmas.{length_from, line_within}
 
 -- the bound on the number of lines does not matter if it is no less than that of the words

@@ -1,13 +1,12 @@
 -- What holds of each row of the table of calls: by its name it is found again.
 use Rattle.std.proofs.Common.{◌≡◌, ℕ, ◌≤◌, ◌<◌, ◌/◌, Bool, true, false, ◌&&◌, eqb, nat_lt, Option, Some, None, List, [], ◌∷◌, ◌++◌}
-use Rattle.std.proofs.Common.{slice_index, refl, subst, cond, arith}
-use Rattle.std.proofs.{lemmas.Bool.Decides.Decides-eqb, lemmas.Bool.Decides.nat_tests, lemmas.Bool.and_parts}
+use Rattle.std.proofs.{Common.{slice_index, refl, subst, cond, arith}, lemmas.Bool.Decides.{Decides-eqb, nat_tests}, lemmas.Bool.and_parts}
 use Rattle.std.specs.{Prelude.IfSome, List.find}
 use Rattle.instructions.specs.{declared.call_table.CallRow.CallRow, declared.unix.Decoder.Decoder, declared.call_table.TheConstants.CALLS}
 use Rattle.instructions.specs.{CallNames.call_name, Calls.system_calls, Rows.begins, Rows.row_of, UnixLines.call_word, UnixLines.call_of}
 use Rattle.instructions.specs.{UnixLines.call_by, UnixLaws.AreMadeBySys, internal.CallSearch.call_in}
-use Rattle.instructions.proofs.{SplitLemmas.free, TableLemmas.same_text}
 use Rattle.instructions.specs.declared.unix.Decoder.TheVariants as decoders
+use Rattle.instructions.proofs.{SplitLemmas.free, TableLemmas.same_text}
 
 -- the call of a name
 unfoldable pub call_named : List ℕ → Option CallRow

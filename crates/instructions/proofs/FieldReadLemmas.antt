@@ -4,18 +4,17 @@ use Rattle.std.proofs.Common.{List, [], ◌∷◌, ◌++◌, length, slice_index
 use Rattle.std.proofs.{lemmas.Bool.Decides.nat_tests, lemmas.List.append-nil}
 use Rattle.std.specs.{Prelude.codes, Str.Parse.digits_value}
 use Rattle.instructions.specs.declared.mode.Register.TheVariants.{R0, R1, R2, R3, R4, R5, Sp, Pc}
-use Rattle.instructions.specs.Modes.{mode_numbered, mode_number, register_numbered}
-use Rattle.instructions.specs.Operands.{general, operand_of, value_of, takes_word}
+use Rattle.instructions.specs.{Modes.{mode_numbered, mode_number, register_numbered}, Operands.{general, operand_of, value_of, takes_word}}
 use Rattle.instructions.specs.Texts.{register_text, number, signed, in_parentheses, branch_target, branch_back_target}
 use Rattle.instructions.specs.{declared.field.Field.Field, declared.mode.Mode.Mode, declared.mode.Register.Register, Fields.size}
+use Rattle.instructions.specs.declared.field.Field.TheVariants as fields
+use Rattle.instructions.specs.declared.mode.Mode.TheVariants as modes
+use Rattle.instructions.specs.declared.operand.Operand.TheVariants as operands
 use Rattle.texts.specs.Numbers.{octal}
 use Rattle.instructions.proofs.PlainTexts.{increment_text, index_text, general_text, operand_text}
 use Rattle.instructions.proofs.FieldLemmas.{mode_again, register_again, general_again}
 use Rattle.instructions.proofs.SplitLemmas.{free, other_test, AreDigits, octal_is, clean, clean_append, clean_comma, digits_clean}
 use Rattle.instructions.proofs.ReadLemmas.{Reading, register_read, tail, general_read, general_back, register_back}
-use Rattle.instructions.specs.declared.field.Field.TheVariants as fields
-use Rattle.instructions.specs.declared.mode.Mode.TheVariants as modes
-use Rattle.instructions.specs.declared.operand.Operand.TheVariants as operands
 
 -- an operand has its word exactly if it takes one
 pub record Word (takes : Bool) (a : Option ℕ) : Type 0 where

@@ -6,9 +6,8 @@ use Rattle.std.proofs.{lemmas.Bool.Decides.nat_tests, Math.Seq.drop-cons, Math.N
 use Rattle.std.specs.List.{flat_map}
 use Rattle.instructions.specs.Instructions.{instruction_of, first_word, word_count_of, following_words}
 use Rattle.instructions.specs.Lines.{word_for, line_of, line_at, line_length, word_list, words_of, start_of, lines_within}
-use Rattle.instructions.specs.Laws.{IdentityLaw, FirstWordLaw, TotalLaw, shape}
-use Rattle.instructions.specs.{declared.instruction.Instruction.Instruction, declared.line.Line.Line, declared.line.Line.TheVariants.Plain}
-use Rattle.instructions.specs.{declared.line.Line.TheVariants.Decoded, Operands.takes_word}
+use Rattle.instructions.specs.{Laws.{IdentityLaw, FirstWordLaw, TotalLaw, shape}, declared.instruction.Instruction.Instruction}
+use Rattle.instructions.specs.{declared.line.Line.Line, declared.line.Line.TheVariants.{Plain, Decoded}, Operands.takes_word}
 use Rattle.instructions.proofs.FieldLemmas.{first_word_again}
 
 -- the operand words, by which of two operands has one

@@ -3,11 +3,10 @@ use Rattle.std.proofs.Common.{◌≡◌, ℕ, ◌+◌, ◌-◌, ◌*◌, ◌<◌
 use Rattle.std.proofs.Common.{List, [], ◌∷◌, ◌++◌, length, slice_index_or, refl, sym, ap, subst, ◌∙◌, cond, arith}
 use Rattle.std.proofs.{lemmas.Bool.Decides.nat_tests, lemmas.Bool.and_parts, lemmas.Bool.false_from_ne_true}
 use Rattle.std.specs.List.{find, filter}
-use Rattle.instructions.specs.{declared.field.Field.Field, declared.table.TheConstants.ROWS, declared.table.Row.Row, Fields.place}
-use Rattle.instructions.specs.{Fields.size, Table.table, Rows.part, Rows.begins, Rows.row_of, Laws.placed, Laws.in_order, Laws.SameTable}
-use Rattle.instructions.specs.{Laws.OneRow}
-use Rattle.instructions.proofs.FieldLemmas.{row_sum}
+use Rattle.instructions.specs.{declared.field.Field.Field, declared.table.TheConstants.ROWS, declared.table.Row.Row, Fields.{place, size}}
+use Rattle.instructions.specs.{Table.table, Rows.{part, begins, row_of}, Laws.{placed, in_order, SameTable, OneRow}}
 use Rattle.instructions.specs.declared.field.Field.TheVariants as fields
+use Rattle.instructions.proofs.FieldLemmas.{row_sum}
 
 -- what a field adds at most
 abbrev pub most : Option Field → ℕ

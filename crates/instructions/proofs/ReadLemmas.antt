@@ -4,13 +4,12 @@ use Rattle.std.proofs.Common.{[], ◌∷◌, ◌++◌, length, slice_index, refl
 use Rattle.std.proofs.{lemmas.Bool.Decides.nat_tests, lemmas.List.append-nil}
 use Rattle.std.specs.{Prelude.codes, Str.Parse.digits_value}
 use Rattle.instructions.specs.declared.mode.Register.TheVariants.{R0, R1, R2, R3, R4, R5, Sp, Pc}
-use Rattle.instructions.specs.Modes.{mode_number, register_number, has_word}
-use Rattle.instructions.specs.Texts.{register_text, in_parentheses}
+use Rattle.instructions.specs.{Modes.{mode_number, register_number, has_word}, Texts.{register_text, in_parentheses}}
 use Rattle.instructions.specs.{declared.mode.Mode.Mode, declared.mode.Register.Register}
+use Rattle.instructions.specs.declared.mode.Mode.TheVariants as modes
 use Rattle.texts.specs.Numbers.{octal}
 use Rattle.instructions.proofs.PlainTexts.{increment_text, index_text, general_text}
 use Rattle.instructions.proofs.SplitLemmas.{until, past, other_test, until_past, AreDigits, octal_is, digits_free}
-use Rattle.instructions.specs.declared.mode.Mode.TheVariants as modes
 
 -- a value in a field, and the word of the operand if it has one
 abbrev pub Reading : Type 0

@@ -1,8 +1,7 @@
 -- The text of a line at an address is read back, so that no two lines of different words have one text.
 use Rattle.std.proofs.Common.{◌≡◌, ℕ, zero, suc, ◌+◌, ◌-◌, ◌*◌, ◌/◌, ◌%◌, ◌<◌, ◌≤◌, Bool, true, false, ◌||◌, eqb, nat_lt, if◌then◌else◌}
 use Rattle.std.proofs.Common.{Option, Some, None, List, [], ◌∷◌, ◌++◌, length, drop, slice_get, slice_index, refl, sym, ap, subst, ◌∙◌}
-use Rattle.std.proofs.Common.{append_assoc, arith}
-use Rattle.std.proofs.lemmas.Bool.Decides.{nat_tests}
+use Rattle.std.proofs.{Common.{append_assoc, arith}, lemmas.Bool.Decides.nat_tests}
 use Rattle.std.specs.Prelude.{codes}
 use Rattle.instructions.specs.Operands.{general, operand_of, takes_word, is_missing}
 use Rattle.instructions.specs.Instructions.{field_operand, instruction, instruction_in, word_count_of, following_words}
@@ -11,15 +10,13 @@ use Rattle.instructions.specs.{declared.field.Field.Field, declared.operand.Oper
 use Rattle.instructions.specs.{declared.instruction.Instruction.Instruction, declared.line.Line.Line, declared.line.Line.TheVariants.Plain}
 use Rattle.instructions.specs.{declared.line.Line.TheVariants.Decoded, Fields.place, Fields.size, Rows.part, Rows.begins, Rows.row_of}
 use Rattle.instructions.specs.{Names.name_text, Texts.number, Texts.is_ldf, Texts.name, Texts.line_text, Laws.AreWords, Laws.UnambiguousLaw}
+use Rattle.instructions.specs.declared.field.Field.TheVariants as fields
+use Rattle.instructions.specs.declared.operand.Operand.TheVariants as operands
 use Rattle.texts.specs.Numbers.{six_digits}
 use Rattle.instructions.proofs.FieldLemmas.{in_size, row_begins, row_sum, instruction_starts}
 use Rattle.instructions.proofs.FieldReadLemmas.{Word, field_read, field_back, field_free, floating_f}
-use Rattle.instructions.proofs.TableLemmas.{Layout, layout_of, layout, FitsBy, Sound, row_sound}
-use Rattle.instructions.proofs.{PlainTexts.operand_text, PlainTexts.operand_after, SplitLemmas.until, SplitLemmas.past, SplitLemmas.free}
-use Rattle.instructions.proofs.{SplitLemmas.Stops, SplitLemmas.until_past, ReadLemmas.Reading, ReadLemmas.tail}
-use Rattle.instructions.proofs.AlikeLemmas.{has_both}
-use Rattle.instructions.specs.declared.field.Field.TheVariants as fields
-use Rattle.instructions.specs.declared.operand.Operand.TheVariants as operands
+use Rattle.instructions.proofs.{TableLemmas.{Layout, layout_of, layout, FitsBy, Sound, row_sound}, PlainTexts.{operand_text, operand_after}}
+use Rattle.instructions.proofs.{SplitLemmas.{until, past, free, Stops, until_past}, ReadLemmas.{Reading, tail}, AlikeLemmas.has_both}
 
 -- what a field adds to the base, and the word of its operand
 abbrev pub part_read : Option Field → ℕ → ℕ → List ℕ → Reading

@@ -4,8 +4,8 @@ use Rattle.std.proofs.Common.{map, refl, sym, ap, subst, ◌∙◌, cond}
 use Rattle.std.specs.{Prelude.codes, Prelude.is_none, Prelude.option_map, List.find}
 use Rattle.instructions.specs.{declared.field.Field.Field, declared.table.Row.Row, declared.table.TheConstants.ROWS, Rows.begins}
 use Rattle.instructions.specs.{Rows.row_of, Names.name_text}
-use Rattle.instructions.proofs.{SplitLemmas.free, SplitLemmas.clean as spotless, OrderLemmas.table_holds}
 use Rattle.instructions.specs.declared.field.Field.TheVariants as fields
+use Rattle.instructions.proofs.{SplitLemmas.free, SplitLemmas.clean as spotless, OrderLemmas.table_holds}
 
 abbrev pub same_text : List ℕ → List ℕ → Bool
 same_text [] [] = true

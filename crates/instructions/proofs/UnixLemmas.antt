@@ -1,13 +1,11 @@
 -- A line with a system call has the words that it was made of.
 use Rattle.std.proofs.Common.{◌≡◌, ℕ, zero, suc, ◌+◌, ◌<◌, ◌≤◌, Bool, true, false, Option, Some, None, refl, sym, ap, ◌∙◌, arith}
 use Rattle.std.proofs.{lemmas.Bool.Decides.nat_tests, lemmas.List.length-drop, lemmas.List.take-append-drop}
-use Rattle.std.specs.Prelude.{nat_lt, if◌then◌else◌, List, [], ◌∷◌, ◌++◌, length, take, drop, slice_index}
-use Rattle.std.specs.List.{flat_map}
+use Rattle.std.specs.{Prelude.{nat_lt, if◌then◌else◌, List, [], ◌∷◌, ◌++◌, length, take, drop, slice_index}, List.flat_map}
 use Rattle.instructions.specs.UnixLines.{call_word, call_by, unix_line, unix_line_at, unix_length, unix_words, unix_lines_within}
-use Rattle.instructions.specs.UnixLaws.{UnixIdentityLaw, UnixFirstWordLaw, UnixTotalLaw}
-use Rattle.instructions.specs.{declared.call_table.CallRow.CallRow, declared.line.Line.TheVariants.Plain, declared.unix.Decoder.Decoder}
-use Rattle.instructions.specs.{declared.unix.UnixLine.UnixLine, declared.unix.UnixLine.TheVariants.Machine}
-use Rattle.instructions.specs.{declared.unix.UnixLine.TheVariants.Call, Lines.line_at}
+use Rattle.instructions.specs.{UnixLaws.{UnixIdentityLaw, UnixFirstWordLaw, UnixTotalLaw}, declared.call_table.CallRow.CallRow}
+use Rattle.instructions.specs.{declared.line.Line.TheVariants.Plain, declared.unix.Decoder.Decoder, declared.unix.UnixLine.UnixLine}
+use Rattle.instructions.specs.{declared.unix.UnixLine.TheVariants.{Machine, Call}, Lines.line_at}
 use Rattle.instructions.proofs.LineLemmas.{take_one_more, from_place, identity, first_word_decides, length_from}
 use Rattle.instructions.proofs.CallLemmas.{call_sound, call_has_word}
 

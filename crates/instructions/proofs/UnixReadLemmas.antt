@@ -1,10 +1,8 @@
 -- The text of a line with a system call is read back, so that no two lines of different words have one text.
 use Rattle.std.proofs.Common.{◌≡◌, ℕ, zero, suc, ◌+◌, ◌*◌, ◌/◌, ◌%◌, ◌<◌, Option, Some, None, refl, sym, ap, subst, ◌∙◌, append_assoc}
-use Rattle.std.proofs.Common.{arith}
-use Rattle.std.proofs.{lemmas.Bool.Decides.nat_tests, lemmas.List.append-nil}
+use Rattle.std.proofs.{Common.arith, lemmas.Bool.Decides.nat_tests, lemmas.List.append-nil}
 use Rattle.std.specs.Prelude.{Bool, true, false, not, ◌&&◌, ◌||◌, eqb, nat_lt, if◌then◌else◌, List, [], ◌∷◌, ◌++◌, length, take, drop}
-use Rattle.std.specs.Prelude.{slice_index, codes}
-use Rattle.std.specs.List.{flat_map}
+use Rattle.std.specs.{Prelude.{slice_index, codes}, List.flat_map}
 use Rattle.texts.specs.Numbers.{octal, six_digits}
 use Rattle.instructions.specs.Instructions.{field_operand, instruction, instruction_in, instruction_of, word_count_of, following_words}
 use Rattle.instructions.specs.UnixLines.{call_word, call_by, unix_line, unix_line_at, unix_words, argument_text, call_text, unix_text}
@@ -14,11 +12,11 @@ use Rattle.instructions.specs.{declared.call_table.CallRow.CallRow, declared.uni
 use Rattle.instructions.specs.{declared.unix.UnixLine.TheVariants.Machine, declared.unix.UnixLine.TheVariants.Call, Rows.row_of}
 use Rattle.instructions.specs.{Operands.is_missing, Lines.word_for, Lines.line_of, Lines.line_at, Lines.words_of, Names.name_text}
 use Rattle.instructions.specs.{Texts.is_ldf, Texts.name, Texts.line_text, CallNames.call_name, Laws.AreWords, UnixLaws.UnixUnambiguousLaw}
+use Rattle.instructions.specs.declared.field.Field.TheVariants as fields
 use Rattle.instructions.proofs.SplitLemmas.{until, past, free, Stops, until_past, other_test, AreDigits, octal_is, digits_free}
 use Rattle.instructions.proofs.ReadLineLemmas.{six_read, line_read, six_back, plain_back, stops, words_from, word_in, line_back}
 use Rattle.instructions.proofs.{PlainTexts.operand_after, ReadLemmas.tail, TableLemmas.same_text, TableLemmas.Sound, TableLemmas.row_sound}
 use Rattle.instructions.proofs.{CallLemmas.call_named, CallLemmas.SoundCall, CallLemmas.call_sound}
-use Rattle.instructions.specs.declared.field.Field.TheVariants as fields
 
 -- a call has a letter following its `sys`, and any other `sys` a digit
 abbrev is_call : List ℕ → Bool

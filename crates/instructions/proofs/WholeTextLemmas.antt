@@ -5,16 +5,14 @@ use Rattle.std.proofs.{lemmas.Bool.Decides.nat_tests, lemmas.List.length-drop, l
 use Rattle.std.specs.Prelude.{codes}
 use Rattle.instructions.specs.Instructions.{field_operand, instruction, instruction_in, instruction_of, word_count_of, following_words}
 use Rattle.instructions.specs.{declared.field.Field.Field, declared.table.Row.Row, declared.instruction.Instruction.Instruction}
-use Rattle.instructions.specs.{declared.line.Line.Line, declared.line.Line.TheVariants.Plain, declared.line.Line.TheVariants.Decoded}
-use Rattle.instructions.specs.{Fields.place, Fields.size, Rows.row_of, Operands.operand_of, Operands.takes_word, Operands.is_missing}
-use Rattle.instructions.specs.{Lines.word_for, Lines.line_of, Lines.line_length, Lines.words_of, Lines.lines, Names.name_text, Texts.number}
-use Rattle.instructions.specs.{Texts.is_ldf, Texts.name, Texts.line_text, Laws.AreWords, Laws.lines_text, Laws.UnambiguousTextLaw}
+use Rattle.instructions.specs.{declared.line.Line.Line, declared.line.Line.TheVariants.{Plain, Decoded}, Fields.{place, size}, Rows.row_of}
+use Rattle.instructions.specs.{Operands.{operand_of, takes_word, is_missing}, Lines.{word_for, line_of, line_length, words_of, lines}}
+use Rattle.instructions.specs.{Names.name_text, Texts.{number, is_ldf, name, line_text}, Laws.{AreWords, lines_text, UnambiguousTextLaw}}
 use Rattle.texts.specs.Numbers.{six_digits}
 use Rattle.instructions.proofs.SplitLemmas.{past, free, free_append, until_past, until, digits_free, clean_free}
-use Rattle.instructions.proofs.ReadLineLemmas.{word_at, words_from, unambiguous}
-use Rattle.instructions.proofs.{PlainTexts.operand_text, PlainTexts.operand_after, FieldLemmas.in_size, FieldReadLemmas.field_clean}
-use Rattle.instructions.proofs.{TableLemmas.Sound, TableLemmas.row_sound, LineLemmas.identity, LineLemmas.length_from, LineLemmas.line_fits}
-use Rattle.instructions.proofs.{AlikeLemmas.has_both, AlikeLemmas.lines_first}
+use Rattle.instructions.proofs.{ReadLineLemmas.{word_at, words_from, unambiguous}, PlainTexts.{operand_text, operand_after}}
+use Rattle.instructions.proofs.{FieldLemmas.in_size, FieldReadLemmas.field_clean, TableLemmas.{Sound, row_sound}}
+use Rattle.instructions.proofs.{LineLemmas.{identity, length_from, line_fits}, AlikeLemmas.{has_both, lines_first}}
 
 -- no line has a newline
 plain_free : (w : ℕ) → free 10 (six_digits w) ≡ true

@@ -1,8 +1,7 @@
 -- When two texts decode alike: line by line the same operations, modes, registers and numbers, with other operand words. (own choice)
 use Rattle.std.specs.Prelude.{◌≡◌, ℕ, zero, suc, ◌+◌, Bool, false, nat_lt, Option, Some, None, List, [], ◌∷◌, length, drop}
-use Rattle.instructions.specs.Instructions.{instruction_of, word_count_of, following_words}
-use Rattle.instructions.specs.{declared.instruction.Instruction.Instruction, declared.line.Line.Line, declared.line.Line.TheVariants.Plain}
-use Rattle.instructions.specs.{declared.line.Line.TheVariants.Decoded, Lines.line_of, Lines.line_length}
+use Rattle.instructions.specs.{Instructions.{instruction_of, word_count_of, following_words}, declared.instruction.Instruction.Instruction}
+use Rattle.instructions.specs.{declared.line.Line.Line, declared.line.Line.TheVariants.{Plain, Decoded}, Lines.{line_of, line_length}}
 
 -- the operand word at a place, if there is one, and what is there in the other text
 abbrev pub AlikeWords : (ℕ → ℕ → ℕ → Type 0) → ℕ → Option ℕ → Option ℕ → Type 0

@@ -1,10 +1,9 @@
 -- Instructions without their operand words: the instruction that a first word encodes, and the first word of an instruction. (as(1))
 use Rattle.std.specs.Prelude.{ℕ, ◌+◌, ◌*◌, ◌/◌, ◌%◌, Bool, true, false, ◌||◌, if◌then◌else◌, Option, Some, None}
-use Rattle.instructions.specs.Operands.{operand_of, value_of, takes_word, is_missing}
-use Rattle.instructions.specs.{declared.field.Field.Field, declared.operation.Operation.Operation}
-use Rattle.instructions.specs.{declared.operation.Operation.TheVariants.Jmp, declared.operation.Operation.TheVariants.Jsr}
+use Rattle.instructions.specs.{Operands.{operand_of, value_of, takes_word, is_missing}, declared.field.Field.Field}
+use Rattle.instructions.specs.{declared.operation.Operation.Operation, declared.operation.Operation.TheVariants.{Jmp, Jsr}}
 use Rattle.instructions.specs.{declared.operand.Operand.Operand, declared.table.Row.Row, declared.instruction.Instruction.Instruction}
-use Rattle.instructions.specs.{Fields.place, Fields.size, Rows.row_of}
+use Rattle.instructions.specs.{Fields.{place, size}, Rows.row_of}
 
 -- the operand in a field of a word
 abbrev pub field_operand : Option Field → ℕ → Option Operand

@@ -3,8 +3,7 @@
 -- Nothing is lost or normalized: encoding what was decoded gives the same words. The first word alone decides the instruction and
 -- the length, if enough words follow it. At one address different words have different texts.
 use Rattle.std.specs.Prelude.{◌≡◌, ℕ, ◌+◌, ◌*◌, ◌<◌, ◌≤◌, nat_lt, if◌then◌else◌, Option, Some, None, List, [], ◌∷◌, ◌++◌, length, filter}
-use Rattle.std.specs.Prelude.{take, drop}
-use Rattle.std.specs.List.{flat_map}
+use Rattle.std.specs.{Prelude.{take, drop}, List.flat_map}
 use Rattle.instructions.specs.Lines.{line_at, line_of, line_length, words_of, lines}
 use Rattle.instructions.specs.{declared.table.Row.Row, declared.table.TheConstants.ROWS, Table.table, Rows.begins, Rows.row_of}
 use Rattle.instructions.specs.{declared.instruction.Instruction.Instruction, declared.line.Line.Line, declared.line.Line.TheVariants.Plain}

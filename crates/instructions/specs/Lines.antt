@@ -3,11 +3,10 @@
 -- A word begins an instruction if the table has it and enough words follow it; any other word is plain, a line of its own.
 use Rattle.std.specs.Prelude.{ℕ, zero, suc, ◌+◌, nat_lt, if◌then◌else◌, Option, Some, None, List, [], ◌∷◌, ◌++◌, length, drop, slice_get}
 use Rattle.std.specs.Prelude.{slice_index}
-use Rattle.instructions.specs.Instructions.{instruction_of, first_word, word_count_of, following_words}
-use Rattle.instructions.specs.{declared.operand.Operand.Operand, declared.instruction.Instruction.Instruction, declared.line.Line.Line}
-use Rattle.instructions.specs.{declared.line.Line.TheVariants.Plain, declared.line.Line.TheVariants.Decoded, declared.line.Words.Words}
-use Rattle.instructions.specs.{declared.line.Words.TheVariants.One, declared.line.Words.TheVariants.Two}
-use Rattle.instructions.specs.{declared.line.Words.TheVariants.Three, Operands.takes_word}
+use Rattle.instructions.specs.{Instructions.{instruction_of, first_word, word_count_of, following_words}, declared.operand.Operand.Operand}
+use Rattle.instructions.specs.{declared.instruction.Instruction.Instruction, declared.line.Line.Line}
+use Rattle.instructions.specs.{declared.line.Line.TheVariants.{Plain, Decoded}, declared.line.Words.Words}
+use Rattle.instructions.specs.{declared.line.Words.TheVariants.{One, Two, Three}, Operands.takes_word}
 
 -- the word of an operand, if it has one, at a place among those that follow the first word
 abbrev pub word_for : Option Operand → ℕ → List ℕ → Option ℕ

@@ -2,8 +2,7 @@
 --
 -- A word is in a row if it is the row's base plus what its own bits in the row's fields add. A word is in one row at most (`OneRow`
 -- of Laws), so the order of the table does not matter.
-use Rattle.std.specs.Prelude.{ℕ, ◌+◌, ◌*◌, ◌/◌, ◌%◌, Bool, eqb, Option, Some, None}
-use Rattle.std.specs.List.{find}
+use Rattle.std.specs.{Prelude.{ℕ, ◌+◌, ◌*◌, ◌/◌, ◌%◌, Bool, eqb, Option, Some, None}, List.find}
 use Rattle.instructions.specs.{declared.field.Field.Field, declared.table.Row.Row, Fields.place, Fields.size, Table.table}
 
 -- what a field adds to the base in a first word

@@ -5,14 +5,13 @@
 use Rattle.std.specs.Prelude.{ℕ, ◌+◌, ◌-◌, ◌*◌, ◌%◌, Bool, false, eqb, nat_lt, if◌then◌else◌, Option, Some, None, List, [], ◌++◌, codes}
 use Rattle.instructions.specs.declared.mode.Mode.TheVariants.{Direct, Deferred, Increment, IncrementDeferred, Decrement, DecrementDeferred}
 use Rattle.instructions.specs.declared.mode.Mode.TheVariants.{Index, IndexDeferred}
-use Rattle.instructions.specs.declared.mode.Register.TheVariants.{R0, R1, R2, R3, R4, R5, Sp, Pc}
-use Rattle.instructions.specs.{declared.reference.Reference.Reference, declared.reference.References.References, declared.mode.Mode.Mode}
-use Rattle.instructions.specs.{declared.mode.Register.Register, declared.operand.Operand.Operand}
-use Rattle.instructions.specs.{declared.instruction.Instruction.Instruction, declared.line.Line.Line, declared.line.Line.TheVariants.Plain}
-use Rattle.instructions.specs.{declared.line.Line.TheVariants.Decoded, Names.name_text, References.reference_text, Modes.is_pc}
-use Rattle.instructions.specs.{Instructions.word_count_of}
-use Rattle.texts.specs.Numbers.{octal, six_digits}
+use Rattle.instructions.specs.{declared.mode.Register.TheVariants.{R0, R1, R2, R3, R4, R5, Sp, Pc}, declared.reference.Reference.Reference}
+use Rattle.instructions.specs.{declared.reference.References.References, declared.mode.Mode.Mode, declared.mode.Register.Register}
+use Rattle.instructions.specs.{declared.operand.Operand.Operand, declared.instruction.Instruction.Instruction, declared.line.Line.Line}
+use Rattle.instructions.specs.{declared.line.Line.TheVariants.{Plain, Decoded}, Names.name_text, References.reference_text, Modes.is_pc}
+use Rattle.instructions.specs.Instructions.{word_count_of}
 use Rattle.instructions.specs.declared.operand.Operand.TheVariants as operands
+use Rattle.texts.specs.Numbers.{octal, six_digits}
 
 abbrev pub register_text : Register → List ℕ
 register_text R0 = codes "r0"

@@ -2,8 +2,7 @@
 --
 -- Nothing is lost or normalized, the first word alone decides which line it is, if enough words follow it, and at one address different
 -- words have different texts.
-use Rattle.std.specs.Prelude.{◌≡◌, ℕ, ◌+◌, ◌<◌, ◌≤◌, List, ◌∷◌, length, take, drop, map, Some, None}
-use Rattle.std.specs.List.{flat_map}
+use Rattle.std.specs.{Prelude.{◌≡◌, ℕ, ◌+◌, ◌<◌, ◌≤◌, List, ◌∷◌, length, take, drop, map, Some, None}, List.flat_map}
 use Rattle.instructions.specs.UnixLines.{call_word, call_by, unix_line_at, unix_length, unix_words, unix_text, unix_lines}
 use Rattle.instructions.specs.{declared.field.Field.TheVariants.Byte, declared.operation.Operation.TheVariants.Sys}
 use Rattle.instructions.specs.{declared.operand.Operand.TheVariants.Number, declared.instruction.Instruction.Instruction}

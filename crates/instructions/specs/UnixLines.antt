@@ -4,8 +4,7 @@
 -- The call of number N is made by the instruction 104400 + N, and its arguments are the words after it. If the words end before them,
 -- the call is cut: its first word is plain, as that of an instruction that is cut.
 use Rattle.std.specs.Prelude.{ℕ, zero, suc, ◌+◌, eqb, nat_lt, if◌then◌else◌, Option, Some, None, List, [], ◌∷◌, ◌++◌, codes, length, take}
-use Rattle.std.specs.Prelude.{drop, slice_index}
-use Rattle.std.specs.List.{find, flat_map}
+use Rattle.std.specs.{Prelude.{drop, slice_index}, List.{find, flat_map}}
 use Rattle.texts.specs.Numbers.{six_digits}
 use Rattle.instructions.specs.{declared.call_table.CallRow.CallRow, declared.line.Line.TheVariants.Plain, declared.unix.Decoder.Decoder}
 use Rattle.instructions.specs.{declared.unix.UnixLine.UnixLine, declared.unix.UnixLine.TheVariants.Machine}

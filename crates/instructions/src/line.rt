@@ -1,7 +1,6 @@
 //! Lines: each is an instruction with its operand words, or a plain word.
 ghost use Rattle.std.specs.Prelude.{◌≡◌, ◌≤◌, ◌<◌, ◌+◌, length};
-ghost use Rattle.instructions.specs.Operands.{takes_word};
-ghost use Rattle.instructions.specs.Instructions.{word_count_of};
+ghost use Rattle.instructions.specs.{Operands.takes_word, Instructions.word_count_of};
 ghost use Rattle.instructions.specs.Lines.{line_at, line_length, words_of, start_of, listed, word_for};
 
 use crate::instruction::{Instruction, word_count_of};

@@ -1,7 +1,6 @@
 //! The operations and their names.
 ghost use Rattle.std.specs.Prelude.{◌≡◌};
-ghost use Rattle.instructions.specs.Names.{name_text};
-ghost use Rattle.instructions.specs.Instructions.{jumps};
+ghost use Rattle.instructions.specs.{Names.name_text, Instructions.jumps};
 
 /// What an instruction does, named as the assembler names it. If as(1) has no name, it is that of the processor
 /// handbook. (as(1), the handbook of the PDP-11/70)

@@ -1,6 +1,5 @@
 //! References, which are shown in place of numbers.
-ghost use Rattle.std.specs.Prelude.{◌≡◌};
-ghost use Rattle.std.specs.List.{flat_map};
+ghost use Rattle.std.specs.{Prelude.◌≡◌, List.flat_map};
 ghost use Rattle.texts.specs.Texts.{Puts};
 ghost use Rattle.instructions.specs.References.{is_between, is_digit, is_letter, is_plain, assembly_byte, is_register, assembly_name, offset_text, reference_text};
 

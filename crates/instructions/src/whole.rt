@@ -1,6 +1,5 @@
 //! The lines of a whole text.
-ghost use Rattle.std.specs.Prelude.{◌≡◌, ◌<◌};
-ghost use Rattle.std.specs.Iterator.{YieldsFirst, item_count};
+ghost use Rattle.std.specs.{Prelude.{◌≡◌, ◌<◌}, Iterator.{YieldsFirst, item_count}};
 ghost use Rattle.instructions.specs.Lines.{lines};
 
 use crate::line::{Line, decode};

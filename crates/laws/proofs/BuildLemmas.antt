@@ -1,38 +1,25 @@
 -- Builds, step by step: what the file at each path stands for.
 use Rattle.std.proofs.Common.{rules, ◌≡◌, ◌⊎◌, ℕ, ◌≤◌, Bool, true, false, cond, List, [], ◌∷◌, ◌++◌, map, length, Option, Some, None}
 use Rattle.std.proofs.Common.{Result, Ok, Err, IsErr, append-nil, refl, sym, ap, ◌∙◌, subst, inl, inr, arith}
-use Rattle.std.specs.Prelude.{◌≢◌, bytes_eq, eqb, if◌then◌else◌, is_err}
-use Rattle.std.specs.List.{AllByRecursion, flat_map}
-use Rattle.aout_core.specs.{Contents.Contents, Contents.IsSound, Decoding.decode, Encoding.encoding, WellFormed.IsWellFormed}
+use Rattle.std.specs.{Prelude.{◌≢◌, bytes_eq, eqb, if◌then◌else◌, is_err}, List.{AllByRecursion, flat_map}}
+use Rattle.aout_core.specs.{Contents.{Contents, IsSound}, Decoding.decode, Encoding.encoding, WellFormed.IsWellFormed, Words.AreBytes}
 use Rattle.aout_core.proofs.{EncodingLemmas.decode-encoding, EncodesLemmas.decoded_sound}
-use Rattle.aout_core.specs.Words.{AreBytes}
-use Rattle.link_session.specs.Limits.{limit_passed}
+use Rattle.link_session.specs.{Limits.limit_passed, Labelled.{Labelled, objects}, Mentions.mentions, States.multiple_names}
 use Rattle.link_session.proofs.ListLemmas.{all_split}
-use Rattle.laws.proofs.BuildObjects.{was_read}
-use Rattle.laws.proofs.BuildSounds.{forced_are_names, partial_is_sound}
-use Rattle.link_session.specs.{Labelled.Labelled, Labelled.objects, Mentions.mentions, States.multiple_names}
-use Rattle.link_out.specs.Inputs.{Refusal, linked, not_linked, object_in, with_inputs}
-use Rattle.link_out.specs.Steps.{and_then, refused_as}
-use Rattle.link_out.specs.function.Link.{Outcome, link}
-use Rattle.link_out.specs.function.Reports.{ReportNames, report_text, status_of}
-use Rattle.link_out.specs.{declared.linked.LinkFault.LinkFault, Outcomes.outcome_of}
-use Rattle.link_out.specs.laws.PartialLinks.{IsPartialLink}
+use Rattle.laws.proofs.BuildObjects.{was_read, AreFrom, AreInto, AreObjects, GroupInto, group_both, linked_alike, none_within, not_both}
+use Rattle.laws.proofs.BuildObjects.{object_read, objects_append, objects_split, same_fault, same_objects, same_value, taken}
+use Rattle.laws.proofs.{BuildObjects.{all_well_formed, linked_too, none_too, taken_too}, BuildSounds.{forced_are_names, partial_is_sound}}
+use Rattle.laws.proofs.BuildRuns.{Did, IsNone, Stores, StoredLink, answer_by_bytes, did, refusal_line, stored_link}
+use Rattle.link_out.specs.{Inputs.{Refusal, linked, not_linked, object_in, with_inputs}, Steps.{and_then, refused_as}}
+use Rattle.link_out.specs.{function.Link.{Outcome, link}, function.Reports.{ReportNames, report_text, status_of}}
+use Rattle.link_out.specs.{declared.linked.LinkFault.LinkFault, Outcomes.outcome_of, laws.PartialLinks.IsPartialLink}
 use Rattle.link_out.proofs.partial_links.PartialTheorem.{relocatable_is_object}
 use Rattle.tool_options.specs.{declared.options.Keep.Keep, Choices.Choices}
-use Rattle.surroundings.specs.Events.{Opened, opens, stored}
-use Rattle.surroundings.specs.declared.office.Stored.TheVariants.{Kept}
+use Rattle.surroundings.specs.{Events.{Opened, opens, stored}, declared.office.Stored.TheVariants.Kept}
 use Rattle.link_laws.specs.PartialLinksAmongOthers.{grouped}
-use Rattle.laws.specs.{Disks.Disk, Disks.Run, Disks.IsOn, Disks.Writes, Disks.disk_after, Disks.with_file}
-use Rattle.laws.specs.SessionsByCommands.{Says}
+use Rattle.laws.specs.{Disks.{Disk, Run, IsOn, Writes, disk_after, with_file}, SessionsByCommands.Says}
 use Rattle.laws.specs.Builds.{AreLdRuns, BuildsLaw, Command, EndAlike, IsBuild, NoneIsMultiple, OnceLaw, ElsewhereLaw, Holds, IsLdRun}
-use Rattle.laws.specs.Builds.{Leaves}
-use Rattle.laws.specs.Builds.{MayReplace, SayAlike, StoreAlike}
-use Rattle.laws.specs.Builds.{at_once, disk_left, itself, leaves_after, leaves_of}
-use Rattle.laws.proofs.BuildObjects.{AreFrom, AreInto, AreObjects, GroupInto, group_both, linked_alike, none_within, not_both}
-use Rattle.laws.proofs.BuildObjects.{object_read, objects_append, objects_split, same_fault, same_objects, same_value, taken}
-use Rattle.laws.proofs.BuildObjects.{all_well_formed}
-use Rattle.laws.proofs.BuildObjects.{linked_too, none_too, taken_too}
-use Rattle.laws.proofs.BuildRuns.{Did, IsNone, Stores, StoredLink, answer_by_bytes, did, refusal_line, stored_link}
+use Rattle.laws.specs.Builds.{Leaves, MayReplace, SayAlike, StoreAlike, at_once, disk_left, itself, leaves_after, leaves_of}
 
 -- ---- lists of files
 

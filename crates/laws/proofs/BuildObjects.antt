@@ -1,18 +1,14 @@
 -- The objects in files, what is accepted of them, and groups of them.
 use Rattle.std.proofs.Common.{◌≡◌, ◌⊎◌, ℕ, ◌≤◌, List, [], ◌∷◌, ◌++◌, map, length, Option, Some, None, Result, Ok, Err, IsErr, refl, sym, ap}
-use Rattle.std.proofs.Common.{◌∙◌, subst, inl, inr, arith, append_assoc, append-nil, length-append}
-use Rattle.std.proofs.lemmas.List.{map-append, length-map}
+use Rattle.std.proofs.{Common.{◌∙◌, subst, inl, inr, arith, append_assoc, append-nil, length-append}, lemmas.List.{map-append, length-map}}
 use Rattle.std.specs.{List.AllByRecursion, Prelude.is_err}
-use Rattle.aout_core.specs.declared.object.ObjectFault.{ObjectFault}
-use Rattle.aout_core.specs.declared.file.ReadFault.{ReadFault}
-use Rattle.aout_core.specs.{Contents.Contents, Decoding.decode, WellFormed.IsWellFormed, WellFormed.first_object_fault}
-use Rattle.link_session.specs.Limits.{limit_passed, refusal}
-use Rattle.link_session.specs.Mentions.{Mention, mentions, externals, names_of, forced_mention}
-use Rattle.link_session.specs.{declared.entry.AddFault.AddFault, Labelled.Labelled, Labelled.objects, States.multiple_names}
+use Rattle.aout_core.specs.{declared.object.ObjectFault.ObjectFault, declared.file.ReadFault.ReadFault, Contents.Contents, Decoding.decode}
+use Rattle.aout_core.specs.WellFormed.{IsWellFormed, first_object_fault}
+use Rattle.link_session.specs.{Limits.{limit_passed, refusal}, Mentions.{Mention, mentions, externals, names_of, forced_mention}}
+use Rattle.link_session.specs.{declared.entry.AddFault.AddFault, Labelled.{Labelled, objects}, States.multiple_names}
 use Rattle.link_session.proofs.{LimitLemmas.length-new_names, TotalLemmas.limit_within, TotalLemmas.within_before}
 use Rattle.link_out.specs.Inputs.{Cause, Refusal, bad_object, not_added, not_linked, at_path, kept_with, object_in, with_inputs, linked}
-use Rattle.link_out.specs.Steps.{and_then, refused_as, unless}
-use Rattle.link_out.specs.function.Link.{Outcome, link}
+use Rattle.link_out.specs.{Steps.{and_then, refused_as, unless}, function.Link.{Outcome, link}}
 use Rattle.tool_options.specs.{declared.options.Keep.Keep, Choices.Choices}
 use Rattle.link_laws.specs.PartialLinksAmongOthers.{IsGrouped, ungrouped, grouped}
 use Rattle.link_laws.proofs.GroupingLemmas.{grouping_changes_nothing, is_accepted}

@@ -1,28 +1,23 @@
 -- What one run of ld did, by the bytes of its inputs.
-use Rattle.std.proofs.Common.{◌≡◌, ◌⊎◌, ℕ, ◌≤◌, List, [], ◌∷◌, ◌++◌, map, Option, Some, Result, Ok, Err, refl, sym, ap, ◌∙◌}
-use Rattle.std.proofs.Common.{subst, inl, inr, arith, append-nil}
-use Rattle.std.proofs.lemmas.List.{append_cancel_left}
-use Rattle.std.specs.Prelude.{string_bytes, codes}
-use Rattle.std.specs.{List.AllByRecursion}
+use Rattle.std.proofs.Common.{◌≡◌, ◌⊎◌, ℕ, ◌≤◌, List, [], ◌∷◌, ◌++◌, map, Option, Some, Result, Ok, Err, refl, sym, ap, ◌∙◌, subst, inl}
+use Rattle.std.proofs.{Common.{inr, arith, append-nil}, lemmas.List.append_cancel_left}
+use Rattle.std.specs.{Prelude.{string_bytes, codes}, List.AllByRecursion}
 use Rattle.aout_core.specs.Refusals.{device_fault, refused}
+use Rattle.aout_core.specs.declared.file.ReadFault.TheVariants as reads
 use Rattle.link_out.specs.{declared.linked.Linked.Linked, FaultTexts.link_text, Outcomes.outcome_of, Outcomes.report_names}
 use Rattle.link_out.specs.{Results.Outcome, function.Reports.report_text, function.Reports.status_of}
 use Rattle.link_out.specs.Inputs.{Refusal, linked, of_input, not_linked, bad_file, bad_object, not_added}
-use Rattle.surroundings.specs.Events.{Event, Extends, Opened, opens, paths_of, stored}
-use Rattle.surroundings.specs.declared.office.Stored.{Stored}
+use Rattle.link_out.specs.declared.linked.LinkFault.TheVariants as links
+use Rattle.surroundings.specs.{Events.{Event, Extends, Opened, opens, paths_of, stored}, declared.office.Stored.Stored}
 use Rattle.surroundings.specs.declared.office.Stored.TheVariants.{Kept, NotCreated, Failed}
 use Rattle.v7tools.specs.LinkRuns.{IsLinkOfFiles, Refuses, Reports, ReportsIf}
 use Rattle.v7tools.specs.{CommandRuns.Ends, FaultTexts.cause_text, FaultTexts.cli_text, FaultTexts.fault_line}
 use Rattle.v7tools.specs.{LinkAnswers.IsLinkOfBytes, LinkAnswers.IsTrueOf, LinkAnswers.said_by, declared.fault.CliFault.CliFault}
-use Rattle.laws.specs.{Disks.Disk, Disks.IsOn, Disks.Run, Disks.Writes}
-use Rattle.laws.specs.SessionsByCommands.{AreThere, CannotRead, CannotWrite, IsOpening, RunsLd, Says}
-use Rattle.laws.specs.Builds.{Command, Holds, IsDisturbed, EndsInRefusal, IsLdRun}
-use Rattle.laws.proofs.LeftLemmas.{bytes_of}
-use Rattle.laws.proofs.{CallLemmas.link_call, LinkLineLemmas.all_openings, LinkLineLemmas.bytes_say}
-use Rattle.aout_core.specs.declared.file.ReadFault.TheVariants as reads
-use Rattle.link_session.specs.declared.entry.AddFault.TheVariants as adds
-use Rattle.link_out.specs.declared.linked.LinkFault.TheVariants as links
 use Rattle.v7tools.specs.declared.fault.CliFault.TheVariants as faults
+use Rattle.laws.specs.{Disks.{Disk, IsOn, Run, Writes}, SessionsByCommands.{AreThere, CannotRead, CannotWrite, IsOpening, RunsLd, Says}}
+use Rattle.laws.specs.Builds.{Command, Holds, IsDisturbed, EndsInRefusal, IsLdRun}
+use Rattle.laws.proofs.{LeftLemmas.bytes_of, CallLemmas.link_call, LinkLineLemmas.{all_openings, bytes_say}}
+use Rattle.link_session.specs.declared.entry.AddFault.TheVariants as adds
 
 -- ---- files with known bytes
 

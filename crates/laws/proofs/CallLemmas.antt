@@ -1,6 +1,5 @@
 -- Words ask for one call at most, and a run whose words ask for a session or a link is a run of that.
-use Rattle.std.specs.declared.alloc.Global.{Global}
-use Rattle.std.specs.Prelude.{◌⊎◌, String, Vec, bytes_eq, codes, string_bytes, unwrap_or}
+use Rattle.std.specs.{declared.alloc.Global.Global, Prelude.{◌⊎◌, String, Vec, bytes_eq, codes, string_bytes, unwrap_or}}
 use Rattle.std.proofs.Common.{◌≡◌, ℕ, Bool, true, false, List, [], ◌++◌, map, Option, Some, None, Result, Ok, sym, ap, ◌∙◌, inl, inr, subst}
 use Rattle.clap.specs.Walk.{Row, first_of}
 use Rattle.tool_options.specs.Choices.{Choices}
@@ -11,8 +10,8 @@ use Rattle.aout_core.specs.{Refusals.refused, Wires.Latched}
 use Rattle.surroundings.specs.Events.{History, Extends}
 use Rattle.v7tools.specs.CommandRuns.{AsksFor, IsCallRun, RefusesWords, RunsCall}
 use Rattle.v7tools.specs.{Calls.fault_of_words, LinkRuns.IsLinkRun, LinkRuns.Refuses, SessionRuns.IsSessionRun, declared.fault.CliFault.CliFault}
-use Rattle.laws.specs.{Calls.LinkCallLaw, Calls.SessionCallLaw}
 use Rattle.v7tools.specs.declared.fault.CliFault.TheVariants as faults
+use Rattle.laws.specs.{Calls.LinkCallLaw, Calls.SessionCallLaw}
 
 -- the ids by which the options are known
 abbrev file_id : List ℕ

@@ -1,7 +1,6 @@
 -- An instruction stands in a linked file wherever it begins in an object.
-use Rattle.std.proofs.Common.{rules}
-use Rattle.std.proofs.Common.{◌≡◌, ℕ, ◌+◌, ◌/◌, ◌≤◌, Bool, false, List, [], ◌∷◌, ◌++◌, length, drop, drop-drop, refl, sym, ◌∙◌, ap, subst, arith}
-use Rattle.std.proofs.lemmas.List.{length-drop}
+use Rattle.std.proofs.Common.{rules, ◌≡◌, ℕ, ◌+◌, ◌/◌, ◌≤◌, Bool, false, List, [], ◌∷◌, ◌++◌, length, drop, drop-drop, refl, sym, ◌∙◌, ap}
+use Rattle.std.proofs.{Common.{subst, arith}, lemmas.List.length-drop}
 use Rattle.std.specs.Prelude.{slice_get}
 use Rattle.aout_core.specs.{declared.symbol.Segment.TheVariants.TextSeg, Contents.Contents}
 use Rattle.link_session.specs.{Starts.total, Sessions.IsObject}

@@ -1,11 +1,8 @@
 -- Where a line of a program leads: within the text of its object, or by a jump or a call.
-use Rattle.std.proofs.Common.{rules, ◌≡◌, ℕ, suc, ◌+◌, ◌-◌, ◌*◌, ◌/◌, ◌%◌, ◌<◌, ◌≤◌, ◌⊎◌, inl, inr, Bool, true, false, ◌||◌, ◌&&◌, eqb, nat_lt}
-use Rattle.std.proofs.Common.{if◌then◌else◌, List, [], ◌∷◌, length, drop, Option, Some, None, refl, sym, ◌∙◌, ap, subst, arith}
-use Rattle.std.proofs.Math.Bool.{and-false}
-use Rattle.std.proofs.{lemmas.Bool.and_parts, lemmas.Bool.and_from, lemmas.Bool.or_cases}
-use Rattle.std.proofs.lemmas.Bool.{eq-eqb, lt-ltb, or_left, or_right}
-use Rattle.std.specs.Prelude.{slice_get, IfSome}
-use Rattle.std.specs.List.{list_any}
+use Rattle.std.proofs.Common.{rules, ◌≡◌, ℕ, suc, ◌+◌, ◌-◌, ◌*◌, ◌/◌, ◌%◌, ◌<◌, ◌≤◌, ◌⊎◌, inl, inr, Bool, true, false, ◌||◌, ◌&&◌, eqb}
+use Rattle.std.proofs.Common.{nat_lt, if◌then◌else◌, List, [], ◌∷◌, length, drop, Option, Some, None, refl, sym, ◌∙◌, ap, subst, arith}
+use Rattle.std.proofs.{Math.Bool.and-false, lemmas.Bool.{and_parts, and_from, or_cases, eq-eqb, lt-ltb, or_left, or_right}}
+use Rattle.std.specs.{Prelude.{slice_get, IfSome}, List.list_any}
 use Rattle.aout_core.specs.{Contents.Contents, Strip.stripped}
 use Rattle.instructions.specs.Instructions.{instruction_of, instruction_in, word_count_of, following_words, jumps}
 use Rattle.instructions.specs.{Lines.word_for, Texts.number, Rows.row_of, declared.table.Row.Row, declared.mode.Addressing.Addressing}
@@ -13,17 +10,17 @@ use Rattle.instructions.specs.{declared.operation.Operation.Operation, declared.
 use Rattle.instructions.specs.{declared.instruction.Instruction.Instruction, declared.call.SystemCall.SystemCall}
 use Rattle.instructions.specs.{declared.call_table.CallRow.CallRow, declared.unix.UnixLine.TheVariants.Machine}
 use Rattle.instructions.specs.{declared.unix.UnixLine.UnixLine, declared.unix.Decoder.TheVariants.Unix, declared.line.Line.TheVariants.Decoded}
-use Rattle.disassemblies.specs.{Listed.listed_line, Starts.starts, Starts.is_start}
 use Rattle.instructions.specs.{declared.unix.UnixLine.TheVariants.Call, Operands.takes_word}
+use Rattle.instructions.specs.declared.operand.Operand.TheVariants as operands
+use Rattle.instructions.specs.declared.operation.Operation.TheVariants as operations
+use Rattle.instructions.specs.declared.call.SystemCall.TheVariants as calls
+use Rattle.disassemblies.specs.{Listed.listed_line, Starts.starts, Starts.is_start}
 use Rattle.suspicions.specs.{ReachedLaw.is_place, Reached.passes, Reached.flows, Reached.calls_csv, Reached.calls_by_r5}
 use Rattle.suspicions.specs.Reached.{returns, next_of, parent_of, branch_of, jump, leads_by, has_distance, is_shown_by, shown_from}
 use Rattle.suspicions.specs.declared.evidence.Evidence.TheVariants.{Names, Promise}
 use Rattle.instructions.proofs.AlikeLemmas.{get_from}
 use Rattle.laws.specs.{OperandPlaces.addressing_of, OperandPlaces.IsDirect, OperandPlaces.IsOperand, OperandWords.machine_value}
 use Rattle.laws.proofs.{ReachedInstructionLemmas.decoded, OperandPlaceLemmas.takes_its_word}
-use Rattle.instructions.specs.declared.operand.Operand.TheVariants as operands
-use Rattle.instructions.specs.declared.operation.Operation.TheVariants as operations
-use Rattle.instructions.specs.declared.call.SystemCall.TheVariants as calls
 
 -- an address is that of a place
 pub placed : (q address : ℕ) → is_place q (Some address) ≡ true → address ≡ 2 * q

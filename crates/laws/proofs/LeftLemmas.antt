@@ -1,13 +1,11 @@
 -- What the lines of a session leave: its objects are those of the files that are left, taken one after another.
 use Rattle.std.proofs.Common.{rules, ◌≡◌, ℕ, Bool, true, false, List, [], ◌∷◌, ◌++◌, map, Option, Some, None, Result, Ok, Err}
-use Rattle.std.proofs.Common.{option_and_then, option_map, refl, sym, ap, ◌∙◌, subst, inl, inr}
-use Rattle.std.proofs.lemmas.List.{map-append}
+use Rattle.std.proofs.{Common.{option_and_then, option_map, refl, sym, ap, ◌∙◌, subst, inl, inr}, lemmas.List.map-append}
 use Rattle.std.specs.Prelude.{IfSome, eqb, unwrap_or}
 use Rattle.aout_core.specs.{Contents.Contents, Decoding.decode}
 use Rattle.link_session.specs.Edits.{last_of, without_last}
 use Rattle.link_session.specs.{declared.entry.AddFault.AddFault, Labelled.Labelled, Labelled.objects, Limits.refusal}
-use Rattle.link_out.specs.{declared.linked.LinkFault.LinkFault, function.Link.Outcome, function.Link.link}
-use Rattle.link_out.specs.Steps.{and_then, unless}
+use Rattle.link_out.specs.{declared.linked.LinkFault.LinkFault, function.Link.{Outcome, link}, Steps.{and_then, unless}}
 use Rattle.link_out.specs.Inputs.{Cause, Refusal, not_added, at_path, kept_with, object_in, with_input, with_inputs}
 use Rattle.link_session.proofs.EditLemmas.{without_last-put_last}
 use Rattle.tool_options.specs.Choices.{Choices}

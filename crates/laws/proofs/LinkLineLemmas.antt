@@ -1,33 +1,27 @@
 -- What `ld` does with the files that a session has left, and what a line of the session did.
-use Rattle.aout_core.specs.Refusals.{device_fault}
-use Rattle.std.proofs.Common.{rules}
-use Rattle.std.proofs.Common.{◌≡◌, ℕ, List, [], ◌∷◌, ◌++◌, Option, Some, None, Result, Ok, Err, refl, sym, ap, ◌∙◌, inl, inr, subst, ◌⊎◌}
-use Rattle.std.specs.Prelude.{IfSome, String, string_bytes}
-use Rattle.std.specs.{declared.alloc.Global.Global, List.AllByRecursion}
-use Rattle.std.proofs.lemmas.List.{append-nil, append_cancel_left}
-use Rattle.aout_core.specs.{Contents.Contents, Refusals.refused}
+use Rattle.aout_core.specs.{Refusals.{device_fault, refused}, Contents.Contents}
+use Rattle.aout_core.specs.declared.file.ReadFault.TheVariants as reads
+use Rattle.std.proofs.Common.{rules, ◌≡◌, ℕ, List, [], ◌∷◌, ◌++◌, Option, Some, None, Result, Ok, Err, refl, sym, ap, ◌∙◌, inl, inr, subst}
+use Rattle.std.proofs.{Common.◌⊎◌, lemmas.List.{append-nil, append_cancel_left}}
+use Rattle.std.specs.{Prelude.{IfSome, String, string_bytes}, declared.alloc.Global.Global, List.AllByRecursion}
 use Rattle.command_words.specs.Scripts.{Asked, to_link}
 use Rattle.link_session.specs.Labelled.{Labelled, objects}
+use Rattle.link_session.specs.declared.entry.AddFault.TheVariants as adds
 use Rattle.link_session.proofs.ListLemmas.{all_append}
 use Rattle.link_out.specs.{declared.linked.Linked.Linked, declared.linked.LinkFault.LinkFault, FaultTexts.link_text, Outcomes.outcome_of}
 use Rattle.link_out.specs.{Outcomes.report_names, Results.Outcome, Steps.and_then, Steps.refused_as, function.Link.link}
 use Rattle.link_out.specs.{function.Reports.line, function.Reports.status_of, Inputs.Refusal, Inputs.linked, Inputs.not_linked}
-use Rattle.tool_options.specs.Choices.{Choices}
-use Rattle.surroundings.specs.Events.{Event, Extends, Opened, opened, opens, paths_of, stored}
-use Rattle.surroundings.specs.declared.office.Stored.{Stored}
-use Rattle.surroundings.specs.declared.office.Stored.TheVariants.{Kept, NotCreated, Failed}
-use Rattle.v7tools.specs.LinkRuns.{IsLinkOfFiles, IsLinkRun, Refuses, Reports, ReportsIf, inputs_opened}
-use Rattle.v7tools.specs.{Answers.link_answer_text, CommandRuns.Ends}
-use Rattle.v7tools.specs.{FaultTexts.cli_text, FaultTexts.no_memory, LineRuns.IsLineOf, LineRuns.LineRun, LinkAnswers.IsLinkOfBytes}
-use Rattle.v7tools.specs.{LinkAnswers.IsTrueOf, LinkAnswers.known_inputs, LinkAnswers.said_by, declared.fault.CliFault.CliFault}
-use Rattle.laws.specs.SessionsByCommands.{AreThere, CannotRead, CannotWrite, DoesAsLd, FailsBy, IsOpening, IsRefusedAsLd}
-use Rattle.laws.specs.SessionsByCommands.{LinkLineLaw, RefusedLineLaw, files_left}
-use Rattle.laws.specs.{Disks.Disk, Disks.IsOn, Disks.Run}
-use Rattle.laws.proofs.LeftLemmas.{IsAt, IsLeft, all_known, at_line, bytes_of, left_lines, same_ok, taken_bytes}
-use Rattle.aout_core.specs.declared.file.ReadFault.TheVariants as reads
-use Rattle.link_session.specs.declared.entry.AddFault.TheVariants as adds
 use Rattle.link_out.specs.declared.linked.LinkFault.TheVariants as links
+use Rattle.tool_options.specs.Choices.{Choices}
+use Rattle.surroundings.specs.{Events.{Event, Extends, Opened, opened, opens, paths_of, stored}, declared.office.Stored.Stored}
+use Rattle.surroundings.specs.declared.office.Stored.TheVariants.{Kept, NotCreated, Failed}
+use Rattle.v7tools.specs.{LinkRuns.{IsLinkOfFiles, IsLinkRun, Refuses, Reports, ReportsIf, inputs_opened}, Answers.link_answer_text}
+use Rattle.v7tools.specs.{CommandRuns.Ends, FaultTexts.{cli_text, no_memory}, LineRuns.{IsLineOf, LineRun}}
+use Rattle.v7tools.specs.{LinkAnswers.{IsLinkOfBytes, IsTrueOf, known_inputs, said_by}, declared.fault.CliFault.CliFault}
 use Rattle.v7tools.specs.declared.fault.CliFault.TheVariants as faults
+use Rattle.laws.specs.SessionsByCommands.{AreThere, CannotRead, CannotWrite, DoesAsLd, FailsBy, IsOpening, IsRefusedAsLd, LinkLineLaw}
+use Rattle.laws.specs.{SessionsByCommands.{RefusedLineLaw, files_left}, Disks.{Disk, IsOn, Run}}
+use Rattle.laws.proofs.LeftLemmas.{IsAt, IsLeft, all_known, at_line, bytes_of, left_lines, same_ok, taken_bytes}
 
 -- ---- the files that ld opened are those that are left
 

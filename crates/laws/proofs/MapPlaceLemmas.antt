@@ -1,11 +1,10 @@
 -- The places of a map are those of the file.
 use Rattle.std.proofs.Common.{rules, ◌≡◌, ℕ, ◌+◌, ◌<◌, ◌≤◌, min, List, [], ◌∷◌, ◌++◌, length, map, Some, None, Ok, slice_get, refl, sym, ap}
-use Rattle.std.proofs.Common.{◌∙◌, subst, arith}
-use Rattle.std.proofs.lemmas.List.Sums.{sum_by-append}
+use Rattle.std.proofs.{Common.{◌∙◌, subst, arith}, lemmas.List.Sums.sum_by-append}
 use Rattle.std.specs.List.{AllByRecursion}
-use Rattle.aout_core.specs.{Contents.Contents, Addresses.data_start_in, declared.part.Part.Part}
-use Rattle.aout_core.specs.declared.symbol.Segment.{Segment}
+use Rattle.aout_core.specs.{Contents.Contents, Addresses.data_start_in, declared.part.Part.Part, declared.symbol.Segment.Segment}
 use Rattle.aout_core.specs.declared.symbol.Segment.TheVariants.{TextSeg, DataSeg, BssSeg}
+use Rattle.aout_core.specs.declared.part.Part.TheVariants as parts
 use Rattle.link_session.specs.{Labelled.Labelled, Labelled.objects, Limits.limit_passed, Sessions.IsObject, Starts.size_of, Starts.total}
 use Rattle.link_out.specs.{function.Link.link, function.Link.linked_file, function.Plans.Plan, function.Plans.plan, Results.Outcome}
 use Rattle.link_out.proofs.OutcomeLemmas.{made_file, made_fits}
@@ -17,7 +16,6 @@ use Rattle.link_maps.specs.{declared.places.Places.Places, References.segment_of
 use Rattle.tool_options.specs.Choices.{Choices}
 use Rattle.laws.proofs.{LoadedLemmas.HasPlace, LoadedLemmas.place_at, MapWordLemmas.IsSmallObject}
 use Rattle.laws.specs.{CoreLaws.IsPlace, Maps.IsShown, Maps.places_mapped}
-use Rattle.aout_core.specs.declared.part.Part.TheVariants as parts
 
 -- ---- sums
 

@@ -1,12 +1,12 @@
 -- The words under each symbol of a map are those that lead to it.
 use Rattle.std.proofs.Common.{rules, ◌≡◌, ℕ, zero, suc, ◌+◌, ◌*◌, ◌<◌, ◌≤◌, Bool, true, false, ◌&&◌, eqb, if◌then◌else◌, List, [], ◌∷◌}
 use Rattle.std.proofs.Common.{◌++◌, length, map, Option, Some, None, slice_get, refl, sym, ap, ◌∙◌, subst, inl, inr, arith, eq-eqb}
-use Rattle.std.proofs.Common.{eqb-true}
-use Rattle.std.proofs.lemmas.List.Elements.{Contains-append_cases, Contains-append_left, Contains-append_right}
+use Rattle.std.proofs.{Common.eqb-true, lemmas.List.Elements.{Contains-append_cases, Contains-append_left, Contains-append_right}}
 use Rattle.std.proofs.lemmas.List.Sorted.{Contains-permutation, IsPermutation-sym}
 use Rattle.std.specs.{Prelude.◌⊎◌, List.Contains, List.flat_map}
 use Rattle.aout_core.specs.{Contents.Contents, Contents.Fits, Words.plus, WellFormed.is_external, WellFormed.masked_type}
 use Rattle.aout_core.specs.{WellFormed.segment_number, declared.part.Part.Part, declared.reloc.Reloc.Reloc, declared.symbol.Symbol.Symbol}
+use Rattle.aout_core.specs.declared.part.Part.TheVariants as parts
 use Rattle.instructions.specs.declared.unix.Decoder.TheVariants.{Unix}
 use Rattle.disassemblies.specs.Starts.{starts}
 use Rattle.link_maps.specs.Leads.{aim_of, lead_by, leads, leads_in, leads_of, leads_to, reference_if, references_to}
@@ -16,7 +16,6 @@ use Rattle.link_maps.specs.{declared.leads.Aim.Aim, declared.leads.Lead.Lead, de
 use Rattle.link_maps.specs.declared.leads.Aim.TheVariants.{Numbered, Addressed}
 use Rattle.laws.proofs.ArrangedLemmas.{in_order_moves}
 use Rattle.laws.specs.Maps.{Hits, IsOfName, LeadsTo}
-use Rattle.aout_core.specs.declared.part.Part.TheVariants as parts
 
 -- ---- elements
 

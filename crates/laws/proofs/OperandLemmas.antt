@@ -1,28 +1,25 @@
 -- What words of a linked program find, beside what they find in their objects.
 use Rattle.std.proofs.Common.{rules, ◌≡◌, ◌≢◌, ℕ, ◌+◌, ◌-◌, ◌*◌, ◌%◌, ◌<◌, ◌≤◌, Bool, true, false, cond, List, [], ◌∷◌, ◌++◌, Some, None}
-use Rattle.std.proofs.Common.{refl, sym, ◌∙◌, ap, subst, arith}
-use Rattle.std.proofs.{lemmas.List.Sums.sum_by-append}
+use Rattle.std.proofs.{Common.{refl, sym, ◌∙◌, ap, subst, arith}, lemmas.List.Sums.sum_by-append}
 use Rattle.std.specs.{Prelude.slice_get, Prelude.Ok, List.AllByRecursion}
 use Rattle.aout_core.specs.declared.symbol.Segment.TheVariants.{Undefined, Absolute, TextSeg, DataSeg, BssSeg, Other}
 use Rattle.aout_core.specs.{declared.header.Header.Header, declared.symbol.Symbol.Symbol, declared.symbol.Segment.Segment}
 use Rattle.aout_core.specs.{declared.reloc.Reloc.Reloc, declared.reloc.Kind.Kind, Contents.Contents, Words.plus, WellFormed.kind_of}
 use Rattle.aout_core.specs.WellFormed.{is_pc_relative, symbol_number}
+use Rattle.aout_core.specs.declared.reloc.Kind.TheVariants as kinds
 use Rattle.link_session.specs.{declared.state.State.State, declared.state.State.TheVariants.Defined}
 use Rattle.link_session.specs.{declared.state.State.TheVariants.Wanted, Starts.size_of, Starts.total, Starts.own, Sessions.IsObject, Mentions.mentions}
 use Rattle.link_session.specs.{Mentions.names_by_first_mention, States.state, Cells.segment_words, Cells.segment_relocs}
 use Rattle.tool_options.specs.{NameLists.is_among, declared.options.Keep.TheVariants.Nothing, Choices.Choices}
-use Rattle.link_out.specs.function.Plans.{Plan, plan}
-use Rattle.link_out.specs.function.Finals.{final_by}
-use Rattle.link_out.specs.{Results.Outcome, function.Tables.external_row, function.Link.link}
+use Rattle.link_out.specs.{function.Plans.{Plan, plan}, function.Finals.final_by, Results.Outcome, function.Tables.external_row}
+use Rattle.link_out.specs.function.Link.{link}
 use Rattle.link_laws.specs.relation.Relocated.{move_in, entry_of, address_in, HoldsObjects}
 use Rattle.link_laws.proofs.{RelocatedLemmas.objects_fill, ExternalLemmas.entry_in_table, ExternalLemmas.row_address}
 use Rattle.link_laws.proofs.{SegmentLemmas.HasWords, LinkedTheorem.linked_exactly}
 use Rattle.link_out.proofs.OutcomeLemmas.{made_file}
 use Rattle.laws.specs.{Operands.operand, Operands.segment_meant, Operands.is_usable_in, Core.Space, Core.is_in, Core.IsWordAt}
 use Rattle.laws.specs.{CoreLaws.space_of, CoreLaws.IsPlace, CoreLaws.IsLoaded}
-use Rattle.laws.proofs.CoreLemmas.{within_back}
-use Rattle.laws.proofs.LoadedLemmas.{address_of, place_at, words_loaded, words_of_rows}
-use Rattle.aout_core.specs.declared.reloc.Kind.TheVariants as kinds
+use Rattle.laws.proofs.{CoreLemmas.within_back, LoadedLemmas.{address_of, place_at, words_loaded, words_of_rows}}
 
 -- word i of a segment of k, which is w with relocation word r, finds in the program so much more than it does in k
 pub record FindsMore (file : Contents) (os before : List Contents) (k : Contents) (segment : Segment) (i w : ℕ)

@@ -6,12 +6,13 @@ use Rattle.std.specs.{Prelude.slice_get, Prelude.Ok, List.AllByRecursion}
 use Rattle.aout_core.specs.WellFormed.{kind_of, is_pc_relative, symbol_number}
 use Rattle.aout_core.specs.{declared.symbol.Symbol.Symbol, declared.symbol.Segment.Segment, declared.reloc.Reloc.Reloc}
 use Rattle.aout_core.specs.{declared.reloc.Kind.Kind, Contents.Contents, Words.plus}
+use Rattle.aout_core.specs.declared.symbol.Segment.TheVariants as segs
+use Rattle.aout_core.specs.declared.reloc.Kind.TheVariants as kinds
 use Rattle.link_session.specs.{Starts.own, Sessions.IsObject, Cells.segment_words, Cells.segment_relocs}
 use Rattle.link_session.proofs.ListLemmas.{all_split}
 use Rattle.tool_options.specs.{declared.options.Keep.TheVariants.Nothing, Choices.Choices}
 use Rattle.link_out.specs.{Results.Outcome, function.Link.link}
-use Rattle.link_laws.specs.relation.Relocated.{move_in, entry_of, address_in}
-use Rattle.link_laws.specs.{relation.LinkedFrom.IsLinkedFrom, WordsAndNames.IsDefined}
+use Rattle.link_laws.specs.{relation.Relocated.{move_in, entry_of, address_in}, relation.LinkedFrom.IsLinkedFrom, WordsAndNames.IsDefined}
 use Rattle.link_laws.proofs.{DefinedLemmas.definitions_hold, LinkedTheorem.linked_exactly}
 use Rattle.instructions.specs.declared.mode.Mode.TheVariants.{Increment, IncrementDeferred, Index, IndexDeferred}
 use Rattle.instructions.specs.declared.mode.Addressing.TheVariants.{Immediate, Absolute}
@@ -20,18 +21,14 @@ use Rattle.instructions.specs.Instructions.{instruction_of, jumps, word_count_of
 use Rattle.instructions.specs.{declared.operation.Operation.Operation, declared.mode.Mode.Mode, declared.mode.Register.Register}
 use Rattle.instructions.specs.{declared.mode.Addressing.Addressing, declared.operand.Operand.Operand}
 use Rattle.instructions.specs.{declared.instruction.Instruction.Instruction, Operands.takes_word, Alike.is_cut}
+use Rattle.instructions.specs.declared.operand.Operand.TheVariants as operands
 use Rattle.instructions.proofs.AlikeLemmas.{get_inside}
 use Rattle.laws.specs.OperandPlaces.{addressing_of, within_text, kind_meant, IsNamedByte, IsAddress, HasOperand, IsOperand}
 use Rattle.laws.specs.OperandPlaces.{OperandsAreThere, IsDirect, JumpsArrive, PointersToSegments, PointersToNames}
-use Rattle.laws.specs.{Core.Space, Core.of_instructions, Core.of_data, Core.IsWordAt, Operands.operand}
-use Rattle.laws.specs.{Operands.segment_meant, Operands.Defines, OperandWords.machine_value, OperandWords.moves_instructions}
-use Rattle.laws.specs.{OperandWords.space_used}
+use Rattle.laws.specs.{Core.{Space, of_instructions, of_data, IsWordAt}, Operands.{operand, segment_meant, Defines}}
+use Rattle.laws.specs.OperandWords.{machine_value, moves_instructions, space_used}
 use Rattle.laws.proofs.OperandLemmas.{FindsMore, loaded_finds, address_found, names_found, segments_found, any_place, byte_in}
-use Rattle.laws.proofs.{InstructionLemmas.relocs_long, InstructionLemmas.reloc_inside, LoadedLemmas.address_of, LoadedLemmas.words_there}
-use Rattle.laws.proofs.{LoadedLemmas.words_of_rows}
-use Rattle.aout_core.specs.declared.symbol.Segment.TheVariants as segs
-use Rattle.aout_core.specs.declared.reloc.Kind.TheVariants as kinds
-use Rattle.instructions.specs.declared.operand.Operand.TheVariants as operands
+use Rattle.laws.proofs.{InstructionLemmas.{relocs_long, reloc_inside}, LoadedLemmas.{address_of, words_there, words_of_rows}}
 
 -- the word at an address is one
 one_number : (a b : ℕ) → Some (a % 256) ≡ Some (b % 256) → Some (a / 256) ≡ Some (b / 256) → a ≡ b

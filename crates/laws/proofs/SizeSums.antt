@@ -1,12 +1,10 @@
 -- The sizes of a linked file are the sums of the objects' sizes, bss with the commons.
-use Rattle.std.proofs.Common.{rules, ◌≡◌, ℕ, ◌+◌, Bool, true, false, cond, List, [], ◌∷◌, arith}
-use Rattle.std.proofs.lemmas.List.Sums.{sum_by-cons}
+use Rattle.std.proofs.{Common.{rules, ◌≡◌, ℕ, ◌+◌, Bool, true, false, cond, List, [], ◌∷◌, arith}, lemmas.List.Sums.sum_by-cons}
 use Rattle.std.specs.Prelude.{Ok}
 use Rattle.aout_core.specs.Contents.{Contents}
 use Rattle.link_session.specs.{Mentions.Mention, Mentions.mentions, Mentions.externals, States.state}
 use Rattle.tool_options.specs.Choices.{Choices, lays_commons}
-use Rattle.link_out.specs.function.Plans.{common_size, commons_size, commons_laid}
-use Rattle.link_out.specs.function.Link.{Outcome, link}
+use Rattle.link_out.specs.{function.Plans.{common_size, commons_size, commons_laid}, function.Link.{Outcome, link}}
 use Rattle.link_laws.specs.{relation.LinkedTable.space_for, relation.Refusals.CommonsTake}
 use Rattle.link_laws.proofs.{HasStateLemmas.has_state, LinkedRows.space_laid}
 use Rattle.laws.specs.Listings.{HasSizes}

@@ -4,17 +4,14 @@ use Rattle.std.proofs.Common.{sym, ◌∙◌, ap, subst, inl, inr}
 use Rattle.std.proofs.{lemmas.List.Elements.filter-append, lemmas.List.Sorted.IsPermutation-sym, lemmas.List.Sorted.IsPermutation-map}
 use Rattle.std.specs.{Prelude.Ok, List.flat_map, List.AllByRecursion}
 use Rattle.aout_core.specs.declared.symbol.Segment.TheVariants.{Undefined, Absolute, TextSeg, DataSeg, BssSeg, Other}
-use Rattle.aout_core.specs.WellFormed.{masked_type, is_external}
-use Rattle.aout_core.specs.{declared.symbol.Symbol.Symbol, Contents.Contents}
-use Rattle.link_session.specs.Mentions.{Mention, mentions, names_by_first_mention}
-use Rattle.link_session.specs.{declared.state.State.State, declared.state.State.TheVariants.Defined}
-use Rattle.link_session.specs.{declared.state.State.TheVariants.Wanted, Earlier.with_earlier, States.state}
+use Rattle.aout_core.specs.{WellFormed.{masked_type, is_external}, declared.symbol.Symbol.Symbol, Contents.Contents}
+use Rattle.link_session.specs.{Mentions.{Mention, mentions, names_by_first_mention}, declared.state.State.State}
+use Rattle.link_session.specs.{declared.state.State.TheVariants.{Defined, Wanted}, Earlier.with_earlier, States.state}
 use Rattle.tool_options.specs.{declared.options.Keep.TheVariants.Nothing, Choices.Choices, declared.nm_options.NmOptions.NmOptions}
-use Rattle.link_out.specs.function.Plans.{Plan, plan}
-use Rattle.link_out.specs.function.Finals.{Final, final_by}
+use Rattle.link_out.specs.{function.Plans.{Plan, plan}, function.Finals.{Final, final_by}}
 use Rattle.link_out.specs.function.Tables.{moved_local, local_rows, external_row, external_rows}
-use Rattle.link_out.specs.function.Reports.{is_missing, undefined_names}
-use Rattle.link_out.specs.{KeptSymbols.is_kept_local, Layouts.Bases, function.Link.Outcome, function.Link.link}
+use Rattle.link_out.specs.{function.Reports.{is_missing, undefined_names}, KeptSymbols.is_kept_local, Layouts.Bases}
+use Rattle.link_out.specs.function.Link.{Outcome, link}
 use Rattle.link_laws.specs.relation.Refusals.{kept_locals}
 use Rattle.link_laws.proofs.ExternalLemmas.{row_at}
 use Rattle.link_out.proofs.partial_links.PartialLemmas.{IsProper, state_is_proper, local_rows_inner, external_row_outer}

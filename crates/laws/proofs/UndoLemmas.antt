@@ -1,21 +1,18 @@
 -- Two lines that add a file and withdraw it, and two runs of the same lines for which the system gave the same.
 use Rattle.std.proofs.Common.{rules, ◌≡◌, ℕ, List, [], ◌∷◌, ◌++◌, Option, Some, None, Result, Ok, Err, refl, ap, ◌∙◌, arith, inl, inr}
-use Rattle.std.proofs.Common.{subst}
-use Rattle.std.proofs.{lemmas.List.append_cancel_left, lemmas.Grind.flat_map-append}
+use Rattle.std.proofs.{Common.subst, lemmas.List.append_cancel_left, lemmas.Grind.flat_map-append}
 use Rattle.std.specs.{Prelude.codes}
 use Rattle.aout_core.specs.{Contents.Contents}
 use Rattle.command_words.specs.Scripts.{Asked, to_add, to_withdraw}
 use Rattle.link_session.specs.{declared.entry.AddFault.AddFault, Edits.last_of, Labelled.Labelled, Labelled.objects, Edits.without_last, Limits.refusal}
-use Rattle.link_out.specs.Inputs.{Cause, not_added, kept_with}
-use Rattle.link_out.specs.{Steps.unless, function.Reports.line}
+use Rattle.link_out.specs.{Inputs.{Cause, not_added, kept_with}, Steps.unless, function.Reports.line}
 use Rattle.link_session.proofs.EditLemmas.{last_of-put_last, without_last-put_last}
 use Rattle.tool_options.specs.Choices.{Choices}
 use Rattle.surroundings.specs.Events.{opened}
 use Rattle.v7tools.specs.Answers.{refused, Stepped, add_step, withdraw_step}
 use Rattle.v7tools.specs.LineRuns.{DoesStep, IsAddOf, IsLineOf, LineRun, OpensOne, status_after}
 use Rattle.v7tools.specs.SessionRuns.{Chains, answers_of, events_of, lines_asked, worst}
-use Rattle.laws.specs.Disks.{Run, Writes}
-use Rattle.laws.specs.SessionsByCommands.{AreGivenTheSame, EndsWell, LeavesNoTrace, UndoLaw}
+use Rattle.laws.specs.{Disks.{Run, Writes}, SessionsByCommands.{AreGivenTheSame, EndsWell, LeavesNoTrace, UndoLaw}}
 use Rattle.laws.proofs.LeftLemmas.{IsAt, adds_found, at_line}
 
 -- ---- an addition that is done, and the withdrawal after it

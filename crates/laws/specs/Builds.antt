@@ -9,10 +9,8 @@ use Rattle.aout_core.specs.{Contents.Contents, Words.AreBytes}
 use Rattle.link_session.specs.{Labelled.Labelled, Labelled.objects, Mentions.mentions, States.multiple_names}
 use Rattle.link_out.specs.{Inputs.with_inputs, laws.PartialLinks.IsPart, laws.PartialLinks.KeepsNoMore}
 use Rattle.tool_options.specs.Choices.{Choices}
-use Rattle.surroundings.specs.Events.{stored, Opened, opens, paths_of}
-use Rattle.surroundings.specs.declared.office.Stored.TheVariants.{Kept}
-use Rattle.laws.specs.{Disks.Disk, Disks.IsOn, Disks.Run, Disks.Writes, Disks.disk_after}
-use Rattle.laws.specs.Calls.{AsksToLink, DoesPerform}
+use Rattle.surroundings.specs.{Events.{stored, Opened, opens, paths_of}, declared.office.Stored.TheVariants.Kept}
+use Rattle.laws.specs.{Disks.{Disk, IsOn, Run, Writes, disk_after}, Calls.{AsksToLink, DoesPerform}}
 use Rattle.laws.specs.SessionsByCommands.{CannotRead, CannotWrite, FailsBy, IsOpening, Says}
 
 -- ---- what a path stands for

@@ -9,26 +9,23 @@
 -- All of each object's text is taken to be instructions, as by `-t`. Two things are asked besides. A jump or a call refers to its own text, or
 -- to a name of text. After `sys fork` the parent's word is in the text, or is the first one after it.
 use Rattle.std.specs.Prelude.{◌≡◌, ◌≢◌, ℕ, ◌+◌, ◌*◌, ◌/◌, ◌<◌, ◌≤◌, ◌⊎◌, true, false, List, [], ◌∷◌, ◌++◌, length, Option, Some, slice_get}
-use Rattle.std.specs.Prelude.{slice_index}
-use Rattle.std.specs.List.{AllByRecursion}
+use Rattle.std.specs.{Prelude.slice_index, List.AllByRecursion}
 use Rattle.aout_core.specs.{declared.symbol.Symbol.Symbol, declared.symbol.Segment.TheVariants.TextSeg, declared.reloc.Reloc.Reloc}
 use Rattle.aout_core.specs.{Contents.Contents, Contents.IsWord, Strip.stripped, WellFormed.is_external, WellFormed.symbol_number}
+use Rattle.aout_core.specs.declared.reloc.Kind.TheVariants as kinds
 use Rattle.link_session.specs.{Starts.total, Sessions.IsObject}
 use Rattle.tool_options.specs.{declared.options.Keep.TheVariants.Nothing, Choices.Choices}
 use Rattle.link_out.specs.Results.{Outcome}
 use Rattle.link_laws.specs.relation.LinkedFrom.{IsLinkedFrom}
 use Rattle.instructions.specs.{declared.mode.Addressing.Addressing, declared.operand.Operand.Operand, Instructions.jumps}
 use Rattle.instructions.specs.{declared.instruction.Instruction.Instruction, declared.line.Line.TheVariants.Decoded}
-use Rattle.instructions.specs.{declared.unix.Decoder.TheVariants.Unix, declared.unix.UnixLine.TheVariants.Machine}
-use Rattle.instructions.specs.{declared.unix.UnixLine.TheVariants.Call, declared.call.SystemCall.TheVariants.Fork}
-use Rattle.instructions.specs.declared.call_table.CallRow.{CallRow}
+use Rattle.instructions.specs.{declared.unix.Decoder.TheVariants.Unix, declared.unix.UnixLine.TheVariants.{Machine, Call}}
+use Rattle.instructions.specs.{declared.call.SystemCall.TheVariants.Fork, declared.call_table.CallRow.CallRow}
 use Rattle.disassemblies.specs.Lines.{unix_line_in}
-use Rattle.suspicions.specs.declared.evidence.Evidence.TheVariants.{Names, Promise}
-use Rattle.suspicions.specs.{Reached.is_text, ReachedLaw.IsReached, Suspicions.suspicions, Suspicions.is_foreign}
-use Rattle.suspicions.specs.SureLaw.{NoneIsSure}
+use Rattle.suspicions.specs.{declared.evidence.Evidence.TheVariants.{Names, Promise}, Reached.is_text, ReachedLaw.IsReached}
+use Rattle.suspicions.specs.{Suspicions.{suspicions, is_foreign}, SureLaw.NoneIsSure}
 use Rattle.laws.specs.{OperandPlaces.addressing_of, OperandPlaces.IsOperand, OperandPlaces.IsDirect, OperandWords.machine_value}
 use Rattle.laws.specs.ReachedInstructions.{kind_said, KeepsInstruction, BeginsInstruction}
-use Rattle.aout_core.specs.declared.reloc.Kind.TheVariants as kinds
 
 -- control reaches a place of a program, which counts the words of its text
 abbrev pub IsRun : Contents → ℕ → Type 0

@@ -2,8 +2,7 @@
 --
 -- Each word of each object is loaded, relocated, at the address that a symbol of its place has. The bss of objects and the commons are
 -- zeros.
-use Rattle.std.specs.Prelude.{◌≡◌, ◌≢◌, ℕ, ◌+◌, ◌*◌, ◌%◌, ◌<◌, true, cond, List, ◌∷◌, ◌++◌, Some, Ok, slice_get}
-use Rattle.std.specs.List.{AllByRecursion}
+use Rattle.std.specs.{Prelude.{◌≡◌, ◌≢◌, ℕ, ◌+◌, ◌*◌, ◌%◌, ◌<◌, true, cond, List, ◌∷◌, ◌++◌, Some, Ok, slice_get}, List.AllByRecursion}
 use Rattle.aout_core.specs.WellFormed.{kind_of, is_pc_relative, symbol_number}
 use Rattle.aout_core.specs.{declared.header.Header.Header, declared.symbol.Symbol.Symbol, declared.symbol.Segment.Segment}
 use Rattle.aout_core.specs.{declared.symbol.Segment.TheVariants.TextSeg, declared.symbol.Segment.TheVariants.BssSeg}
@@ -11,8 +10,7 @@ use Rattle.aout_core.specs.{declared.reloc.Reloc.Reloc, Contents.Contents, Words
 use Rattle.link_session.specs.{Starts.total, Starts.own, Sessions.IsObject, Cells.segment_words, Cells.segment_relocs}
 use Rattle.tool_options.specs.{declared.options.Keep.TheVariants.Nothing, Choices.Choices, Choices.lays_commons}
 use Rattle.link_out.specs.{Results.Outcome, function.Link.link}
-use Rattle.link_laws.specs.relation.Relocated.{base_in, move_in, entry_of, IsAdded}
-use Rattle.link_laws.specs.CommonsAndEntries.{IsCommon}
+use Rattle.link_laws.specs.{relation.Relocated.{base_in, move_in, entry_of, IsAdded}, CommonsAndEntries.IsCommon}
 use Rattle.laws.specs.Core.{Space, of_instructions, of_data, core, IsWordAt}
 
 -- the space in which a segment is always found

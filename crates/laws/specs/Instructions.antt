@@ -2,16 +2,14 @@
 --
 -- If a link does not change the first word of an instruction, and that is not cut, the linked file has the same instruction in its place:
 -- the same operation, modes, registers and numbers. An operand word may be another one, and is then the word that relocation makes of it.
-use Rattle.std.specs.Prelude.{◌≡◌, ℕ, ◌+◌, ◌/◌, false, List, ◌∷◌, ◌++◌, drop, Some, slice_get}
-use Rattle.std.specs.List.{AllByRecursion}
+use Rattle.std.specs.{Prelude.{◌≡◌, ℕ, ◌+◌, ◌/◌, false, List, ◌∷◌, ◌++◌, drop, Some, slice_get}, List.AllByRecursion}
 use Rattle.aout_core.specs.{declared.symbol.Symbol.Symbol, declared.symbol.Segment.TheVariants.TextSeg, declared.reloc.Reloc.Reloc}
 use Rattle.aout_core.specs.{Contents.Contents, Contents.IsWord}
 use Rattle.link_session.specs.{Starts.total, Sessions.IsObject}
 use Rattle.tool_options.specs.Choices.{Choices}
 use Rattle.link_out.specs.Results.{Outcome}
 use Rattle.link_laws.specs.{relation.Relocated.IsRelocated, relation.LinkedFrom.IsLinkedFrom}
-use Rattle.instructions.specs.Alike.{AlikeLine, is_cut}
-use Rattle.instructions.specs.{Instructions.instruction_of, Lines.line_of, Relocated.is_relocated}
+use Rattle.instructions.specs.{Alike.{AlikeLine, is_cut}, Instructions.instruction_of, Lines.line_of, Relocated.is_relocated}
 
 -- word i of the text of k is w; the file has v in its place, which is what relocation makes of w
 pub record IsLinkedWord (file : Contents) (rows : List Symbol) (os before : List Contents) (k : Contents) (i w v : ℕ) : Type 0 where

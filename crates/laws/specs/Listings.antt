@@ -2,8 +2,7 @@
 --
 -- The report is made from the objects, and a list from the linked file alone. By these laws the two agree.
 use Rattle.std.specs.Prelude.{◌≡◌, ◌≢◌, ◌⊎◌, ℕ, ◌+◌, true, false, ◌&&◌, cond, eqb, if◌then◌else◌, List, [], ◌∷◌, ◌++◌, map, filter, codes}
-use Rattle.std.specs.Prelude.{Some, Ok, bytes_eq, IsPermutation}
-use Rattle.std.specs.List.{flat_map}
+use Rattle.std.specs.{Prelude.{Some, Ok, bytes_eq, IsPermutation}, List.flat_map}
 use Rattle.aout_core.specs.declared.symbol.Segment.TheVariants.{TextSeg, DataSeg, BssSeg}
 use Rattle.aout_core.specs.{declared.header.Header.Header, declared.symbol.Symbol.Symbol, declared.symbol.Segment.Segment}
 use Rattle.aout_core.specs.{Contents.Contents, Words.letter_of, WellFormed.is_external, Addresses.data_start_in}
@@ -12,8 +11,7 @@ use Rattle.link_session.specs.{declared.state.State.TheVariants.Wanted, Starts.t
 use Rattle.tool_options.specs.{NameLists.is_among, declared.options.Keep.TheVariants.Nothing, Choices.Choices}
 use Rattle.tool_options.specs.{declared.nm_options.NmOptions.NmOptions}
 use Rattle.link_out.specs.{ReservedNames.etext, ReservedNames.edata, ReservedNames.end_name, function.Link.Outcome, function.Link.link}
-use Rattle.link_laws.specs.relation.LinkedTable.{row_for, moved_locals_in}
-use Rattle.link_laws.specs.relation.Refusals.{CommonsTake, kept_locals}
+use Rattle.link_laws.specs.{relation.LinkedTable.{row_for, moved_locals_in}, relation.Refusals.{CommonsTake, kept_locals}}
 use Rattle.link_laws.specs.{relation.NameStates.HasState, relation.Relocated.entry_of, relation.LinkedFrom.IsLinkedFrom}
 use Rattle.symtools.specs.SymbolLines.{is_shown_undefined, letter, symbol_line}
 use Rattle.symtools.specs.{NmLists.arranged, NmLists.shown, NmLists.line_heading, NmLists.nm_text, SizeLines.size_line, SizeLines.size_text}

@@ -4,18 +4,16 @@
 -- object, with the words that lead to it. The objects are those that a session accepts.
 use Rattle.std.specs.Prelude.{◌≡◌, ℕ, ◌*◌, ◌<◌, true, List, ◌∷◌, ◌++◌, length, map, Some, None, Ok, slice_get}
 use Rattle.std.specs.List.{AllByRecursion, Contains}
-use Rattle.aout_core.specs.{Contents.Contents, WellFormed.is_external, WellFormed.masked_type, WellFormed.segment_number}
-use Rattle.aout_core.specs.{declared.part.Part.Part, declared.reloc.Reloc.Reloc}
-use Rattle.aout_core.specs.{declared.symbol.Segment.TheVariants.BssSeg, declared.symbol.Symbol.Symbol}
+use Rattle.aout_core.specs.{Contents.Contents, WellFormed.{is_external, masked_type, segment_number}, declared.part.Part.Part}
+use Rattle.aout_core.specs.{declared.reloc.Reloc.Reloc, declared.symbol.Segment.TheVariants.BssSeg, declared.symbol.Symbol.Symbol}
 use Rattle.link_session.specs.{Labelled.Labelled, Labelled.objects, Limits.limit_passed, Sessions.IsObject}
 use Rattle.link_out.specs.{function.Link.link, function.Plans.plan, Results.Outcome}
 use Rattle.link_maps.specs.{declared.places.Places.Places, declared.references.ReferringWord.ReferringWord}
-use Rattle.link_maps.specs.Members.{capped, first_places, member_of, places_from, start_in}
+use Rattle.link_maps.specs.{Members.{capped, first_places, member_of, places_from, start_in}, Leads.aim_of}
+use Rattle.link_maps.specs.{References.{part_words, relocs_of, segment_of_part}, Uses.{Use, uses_in_order}, declared.leads.Aim.Aim}
+use Rattle.link_maps.specs.declared.leads.Aim.TheVariants.{Numbered, Addressed}
 use Rattle.instructions.specs.declared.unix.Decoder.TheVariants.{Unix}
 use Rattle.disassemblies.specs.Starts.{starts}
-use Rattle.link_maps.specs.{Leads.aim_of, References.part_words, References.relocs_of, References.segment_of_part}
-use Rattle.link_maps.specs.{Uses.Use, Uses.uses_in_order, declared.leads.Aim.Aim}
-use Rattle.link_maps.specs.declared.leads.Aim.TheVariants.{Numbered, Addressed}
 use Rattle.tool_options.specs.Choices.{Choices}
 use Rattle.laws.specs.CoreLaws.{IsPlace}
 

@@ -5,23 +5,21 @@
 -- the address of a pointer in mode 77, and a number in mode 27 and as an index. The machine looks in the space that the instruction
 -- uses.
 use Rattle.std.specs.Prelude.{◌≡◌, ◌≢◌, ℕ, ◌+◌, ◌*◌, ◌%◌, ◌<◌, ◌⊎◌, true, false, if◌then◌else◌, List, [], ◌∷◌, ◌++◌, drop, Option, Some}
-use Rattle.std.specs.Prelude.{None, Ok, slice_get}
-use Rattle.std.specs.List.{AllByRecursion}
+use Rattle.std.specs.{Prelude.{None, Ok, slice_get}, List.AllByRecursion}
 use Rattle.aout_core.specs.WellFormed.{kind_of, is_pc_relative, symbol_number}
 use Rattle.aout_core.specs.{declared.symbol.Symbol.Symbol, declared.symbol.Segment.Segment, declared.symbol.Segment.TheVariants.TextSeg}
 use Rattle.aout_core.specs.{declared.reloc.Reloc.Reloc, declared.reloc.Kind.Kind, Contents.Contents, Words.plus}
+use Rattle.aout_core.specs.declared.reloc.Kind.TheVariants as kinds
 use Rattle.link_session.specs.{Starts.size_of, Starts.own, Sessions.IsObject, Cells.segment_words, Cells.segment_relocs}
 use Rattle.tool_options.specs.{declared.options.Keep.TheVariants.Nothing, Choices.Choices}
 use Rattle.link_out.specs.{Results.Outcome, function.Link.link}
 use Rattle.link_laws.specs.relation.Relocated.{entry_of}
 use Rattle.instructions.specs.{declared.operation.Operation.Operation, declared.mode.Addressing.Addressing}
-use Rattle.instructions.specs.{declared.mode.Addressing.TheVariants.Absolute, declared.mode.Addressing.TheVariants.Relative}
-use Rattle.instructions.specs.{declared.operand.Operand.Operand, declared.operand.Operand.TheVariants.General}
-use Rattle.instructions.specs.{declared.instruction.Instruction.Instruction, Modes.addressing, Modes.counts_from_pc}
-use Rattle.instructions.specs.{Instructions.instruction_of, Instructions.jumps, Instructions.word_count_of, Alike.is_cut}
+use Rattle.instructions.specs.{declared.mode.Addressing.TheVariants.{Absolute, Relative}, declared.operand.Operand.Operand}
+use Rattle.instructions.specs.{declared.operand.Operand.TheVariants.General, declared.instruction.Instruction.Instruction}
+use Rattle.instructions.specs.{Modes.{addressing, counts_from_pc}, Instructions.{instruction_of, jumps, word_count_of}, Alike.is_cut}
 use Rattle.laws.specs.{Core.Space, Core.of_instructions, Core.is_in, Core.IsWordAt, CoreLaws.space_of, CoreLaws.IsPlace, Operands.operand}
 use Rattle.laws.specs.{Operands.segment_meant, Operands.Defines, Operands.is_usable_in, OperandWords.machine_value, OperandWords.space_used}
-use Rattle.aout_core.specs.declared.reloc.Kind.TheVariants as kinds
 
 -- how an operand uses its word, if it has one
 abbrev pub addressing_of : Option Operand → Option Addressing

@@ -1,12 +1,11 @@
 -- To what the words of an object refer, and what a word of a linked program finds. (ld(1), the PDP-11's relative and absolute modes)
 use Rattle.std.specs.Prelude.{◌≡◌, ℕ, ◌+◌, Bool, true, false, cond, eqb, List, Option, Some, None, slice_get}
-use Rattle.aout_core.specs.WellFormed.{is_external, masked_type, segment_of}
-use Rattle.aout_core.specs.{declared.symbol.Symbol.Symbol, declared.symbol.Segment.Segment}
-use Rattle.aout_core.specs.{declared.reloc.Kind.Kind, Contents.Contents, Words.plus}
-use Rattle.link_session.specs.Starts.{own}
-use Rattle.laws.specs.Core.{Space, has_segment}
+use Rattle.aout_core.specs.{WellFormed.{is_external, masked_type, segment_of}, declared.symbol.Symbol.Symbol}
+use Rattle.aout_core.specs.{declared.symbol.Segment.Segment, declared.reloc.Kind.Kind, Contents.Contents, Words.plus}
 use Rattle.aout_core.specs.declared.symbol.Segment.TheVariants as segments
 use Rattle.aout_core.specs.declared.reloc.Kind.TheVariants as kinds
+use Rattle.link_session.specs.Starts.{own}
+use Rattle.laws.specs.Core.{Space, has_segment}
 
 -- what a word at an address finds, modulo 65,536: the word, or, if it has the pc bit, what the machine does that fetches it with the pc
 -- after it

@@ -7,6 +7,7 @@ use Rattle.std.specs.Prelude.{◌≡◌, ℕ, ◌+◌, ◌*◌, true, false, if�
 use Rattle.std.specs.List.{AllByRecursion}
 use Rattle.aout_core.specs.{declared.symbol.Symbol.Symbol, declared.reloc.Reloc.Reloc, declared.reloc.Kind.Kind, Contents.Contents}
 use Rattle.aout_core.specs.{Contents.IsWord, WellFormed.kind_of, WellFormed.is_pc_relative}
+use Rattle.aout_core.specs.declared.reloc.Kind.TheVariants as kinds
 use Rattle.link_session.specs.Sessions.{IsObject}
 use Rattle.tool_options.specs.Choices.{Choices}
 use Rattle.link_out.specs.Results.{Outcome}
@@ -18,7 +19,6 @@ use Rattle.suspicions.specs.{declared.evidence.Evidence.Evidence, Trust.is_sure,
 use Rattle.suspicions.specs.{Suspicions.is_foreign, SureLaw.NoneIsSure}
 use Rattle.laws.specs.OperandPlaces.{addressing_of, kind_meant, HasOperand, IsOperand}
 use Rattle.laws.specs.{Instructions.KeepsLineAt, OperandWords.machine_value}
-use Rattle.aout_core.specs.declared.reloc.Kind.TheVariants as kinds
 
 -- what an operand word refers to: the kind of its relocation word. One that is not relocated is a distance within the text in modes 67 and
 -- 77, and else a number

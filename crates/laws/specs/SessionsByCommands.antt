@@ -5,8 +5,7 @@
 -- left after some lines are those that were added and not withdrawn, with the bytes that were read there. Nothing is assumed of the
 -- disk during the session, and files may change between the session and `ld`, but for those that are left.
 use Rattle.std.specs.Prelude.{◌≡◌, ◌≢◌, ◌⊎◌, ℕ, Bool, true, eqb, List, [], ◌∷◌, ◌++◌, map, Option, Some, None, Ok, String, codes, decimal}
-use Rattle.std.specs.Prelude.{string_bytes}
-use Rattle.std.specs.{declared.alloc.Global.Global, List.AllByRecursion}
+use Rattle.std.specs.{Prelude.string_bytes, declared.alloc.Global.Global, List.AllByRecursion}
 use Rattle.aout_core.specs.{declared.file.ReadFault.TheVariants.Device, Contents.Contents, Refusals.device_fault}
 use Rattle.link_session.specs.{Edits.without_last, Labelled.Labelled}
 use Rattle.link_out.specs.{function.Reports.line, Inputs.bad_file}
@@ -14,11 +13,10 @@ use Rattle.tool_options.specs.Choices.{Choices}
 use Rattle.surroundings.specs.Events.{Event, looked, opened, stored, written, Opened, opens, paths_of}
 use Rattle.surroundings.specs.{Emits.PutsUnless, declared.nodes.Node.Node, declared.office.Stored.Stored, declared.office.Stored.TheVariants.Kept}
 use Rattle.command_words.specs.Scripts.{Asked, to_add, to_withdraw, to_link}
-use Rattle.v7tools.specs.FaultTexts.{cause_text, fault_line, no_memory}
-use Rattle.v7tools.specs.SessionRuns.{Chains, RunsLines, events_of, lines_asked}
+use Rattle.v7tools.specs.{FaultTexts.{cause_text, fault_line, no_memory}, SessionRuns.{Chains, RunsLines, events_of, lines_asked}}
 use Rattle.v7tools.specs.{LineRuns.LineRun, LinkRuns.IsLinkRun, declared.fault.CliFault.CliFault}
-use Rattle.laws.specs.{Disks.Did, Disks.Disk, Disks.IsOn, Disks.Run, Disks.Writes}
 use Rattle.v7tools.specs.declared.fault.CliFault.TheVariants as faults
+use Rattle.laws.specs.{Disks.Did, Disks.Disk, Disks.IsOn, Disks.Run, Disks.Writes}
 
 -- ---- what is left
 

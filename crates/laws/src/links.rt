@@ -1,6 +1,5 @@
 //! Laws of loaded programs, lists and maps. Each law is the contract of a function with an empty body.
-ghost use Rattle.laws.specs.CoreLaws.{WordsAreLoaded, BssIsZero, CommonsAreZero};
-ghost use Rattle.laws.specs.Instructions.{InstructionsAreThere};
+ghost use Rattle.laws.specs.{CoreLaws.{WordsAreLoaded, BssIsZero, CommonsAreZero}, Instructions.InstructionsAreThere};
 ghost use Rattle.laws.specs.OperandPlaces.{OperandsAreThere, JumpsArrive, PointersToSegments, PointersToNames};
 ghost use Rattle.laws.specs.ReachedInstructions.{ReachedInstructionsAreKept, SurePlacesBegin};
 ghost use Rattle.laws.specs.CleanPrograms.{CleanObjectsMakeCleanPrograms};

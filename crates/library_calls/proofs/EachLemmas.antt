@@ -1,21 +1,18 @@
 -- Objects taken one by one, each from the bytes of its part.
 use Rattle.std.proofs.Common.{◌≡◌, ℕ, ◌+◌, ◌<◌, List, [], ◌∷◌, ◌++◌, length, take, drop, get_or, Option, Some, None, Result, Ok, Err, refl}
 use Rattle.std.proofs.Common.{sym, ap, ◌∙◌, subst, inl, inr, arith}
-use Rattle.std.proofs.lemmas.List.{drop_more, length-map, length-take-le, map-append, map_more}
-use Rattle.std.proofs.lemmas.List.{take-append-drop, take-map, get_or-map}
+use Rattle.std.proofs.lemmas.List.{drop_more, length-map, length-take-le, map-append, map_more, take-append-drop, take-map, get_or-map}
 use Rattle.std.specs.Prelude.{◌⊎◌, IsOk}
 use Rattle.aout_core.specs.{Contents.Contents, Decoding.decode}
 use Rattle.link_session.specs.{declared.entry.AddFault.AddFault, Labelled.Labelled, Labelled.objects, Limits.refusal}
-use Rattle.link_out.specs.Inputs.{at_path, kept_with, with_input, with_inputs}
-use Rattle.link_out.specs.Steps.{and_then, refused_as, unless}
+use Rattle.link_out.specs.{Inputs.{at_path, kept_with, with_input, with_inputs}, Steps.{and_then, refused_as, unless}}
+use Rattle.link_out.specs.Inputs as inputs
 use Rattle.link_maps.specs.Links.{read_inputs}
 use Rattle.library_calls.specs.LinkAnswers.{each_of, numbered, objects_in, refusal_of, taken_each}
-use Rattle.library_calls.specs.internal.Taken.{with_first, with_object, with_read}
-use Rattle.library_calls.specs.{declared.cause.Cause.Cause, declared.cause.Cause.TheVariants.NotAdded, declared.cause.Refusal.Refusal}
-use Rattle.library_calls.specs.declared.parts.ObjectBytes.{ObjectBytes}
-use Rattle.library_calls.specs.{Causes.at, Causes.cause_of_input, MapAnswers.objects_each, MemoryWanted.HasBody}
-use Rattle.library_calls.specs.{MemoryWanted.MayRunOutAt}
-use Rattle.link_out.specs.Inputs as inputs
+use Rattle.library_calls.specs.{internal.Taken.{with_first, with_object, with_read}, declared.cause.Cause.Cause}
+use Rattle.library_calls.specs.{declared.cause.Cause.TheVariants.NotAdded, declared.cause.Refusal.Refusal}
+use Rattle.library_calls.specs.{declared.parts.ObjectBytes.ObjectBytes, Causes.{at, cause_of_input}, MapAnswers.objects_each}
+use Rattle.library_calls.specs.MemoryWanted.{HasBody, MayRunOutAt}
 
 -- ---- inputs with their numbers
 

@@ -1,8 +1,7 @@
 -- What a withdrawal leaves, and the objects of further definitions once one object less is left.
 use Rattle.std.proofs.Common.{◌≡◌, ℕ, zero, suc, ◌+◌, ◌-◌, List, [], ◌∷◌, ◌++◌, length, take, replicate, reverse, Option, Some, None, refl}
 use Rattle.std.proofs.Common.{sym, ap, ◌∙◌, arith, append_assoc, add-one}
-use Rattle.std.proofs.lemmas.List.{take-map, length-append, replicate_more, reverse-append}
-use Rattle.std.proofs.Math.Seq.{take-append_seam}
+use Rattle.std.proofs.{lemmas.List.{take-map, length-append, replicate_more, reverse-append}, Math.Seq.take-append_seam}
 use Rattle.std.specs.{Prelude.IsNone, Prelude.IfSome, Prelude.String, declared.alloc.Global.Global}
 use Rattle.aout_core.specs.Contents.{Contents}
 use Rattle.link_session.specs.{Labelled.Labelled, Labelled.objects, Sessions.Withdraws, Sessions.labelled, Undo.Kept}

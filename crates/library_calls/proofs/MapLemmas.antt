@@ -1,10 +1,10 @@
 -- Objects read for a map, one after another, with what a session takes of them.
-use Rattle.std.proofs.Common.{◌≡◌, ℕ, List, [], ◌∷◌, ◌++◌, Result, Ok, Err, refl, sym, ap, ◌∙◌, subst, inr}
+use Rattle.std.proofs.{Common.{◌≡◌, ℕ, List, [], ◌∷◌, ◌++◌, Result, Ok, Err, refl, sym, ap, ◌∙◌, subst, inr}, lemmas.List.map-append}
 use Rattle.std.specs.Prelude.{IsOk, IsOkAnd}
-use Rattle.std.proofs.lemmas.List.{map-append}
 use Rattle.aout_core.specs.Contents.{Contents}
 use Rattle.link_session.specs.Labelled.{Labelled, objects}
 use Rattle.link_out.specs.Steps.{and_then, refused_as}
+use Rattle.link_out.specs.Inputs as inputs
 use Rattle.tool_options.specs.Choices.{Choices}
 use Rattle.link_maps.specs.{declared.members.Objects.Objects, Links.read_inputs, Members.all_of, Taking.split_of, Taking.with_object}
 use Rattle.link_maps.proofs.TakingLemmas.{all_more, split_more}
@@ -13,7 +13,6 @@ use Rattle.library_calls.specs.MapAnswers.{AreTaken, IsMapAnswer, IsMapped, MapM
 use Rattle.library_calls.specs.{declared.cause.Cause.Cause, declared.cause.Refusal.Refusal, declared.map_call.LinkOutput.LinkOutput}
 use Rattle.library_calls.specs.{MemoryWanted.MayRunOutInParts, declared.run_call.Wants.Wants}
 use Rattle.library_calls.specs.{Causes.at, FileAnswers.object_in, LinkAnswers.numbered, LinkAnswers.refusal_of, internal.Taken.with_read}
-use Rattle.link_out.specs.Inputs as inputs
 
 -- with one more object, whether it is kept or left
 module _ (old new : Objects) (e : Labelled) (taken : split_of new ≡ with_object old.session.forced (split_of old) e) where

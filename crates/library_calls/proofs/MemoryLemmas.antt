@@ -6,14 +6,11 @@ use Rattle.link_session.specs.{Labelled.Labelled, Labelled.objects, Undo.Kept}
 use Rattle.tool_options.specs.Choices.{Choices}
 use Rattle.link_out.specs.{declared.linked.LinkFault.LinkFault, function.Link.link, Inputs.with_inputs, Results.Outcome, Steps.and_then}
 use Rattle.link_out.specs.{Steps.refused_as}
-use Rattle.library_calls.specs.LinkAnswers.{numbered, objects_in, parts_linked, refusal_of, taken_each}
-use Rattle.library_calls.specs.declared.run_call.Wants.{Wants}
-use Rattle.library_calls.specs.RunAnswers.{RunOutput, objects_run, parts_run, run_output}
-use Rattle.library_calls.specs.MemoryWanted.{LinkMayRunOut, MayRunOutInLink}
-use Rattle.library_calls.specs.{declared.cause.Cause.Cause, declared.cause.Cause.TheVariants.Memory}
-use Rattle.library_calls.specs.{declared.cause.Cause.TheVariants.NotLinked, declared.cause.Refusal.Refusal, Causes.at}
-use Rattle.library_calls.specs.{LinkRequests.choices_in, LinkRequests.forced_in}
 use Rattle.link_out.specs.Inputs as inputs
+use Rattle.library_calls.specs.{LinkAnswers.{numbered, objects_in, parts_linked, refusal_of, taken_each}, declared.run_call.Wants.Wants}
+use Rattle.library_calls.specs.{RunAnswers.{RunOutput, objects_run, parts_run, run_output}, MemoryWanted.{LinkMayRunOut, MayRunOutInLink}}
+use Rattle.library_calls.specs.{declared.cause.Cause.Cause, declared.cause.Cause.TheVariants.{Memory, NotLinked}}
+use Rattle.library_calls.specs.{declared.cause.Refusal.Refusal, Causes.at, LinkRequests.{choices_in, forced_in}}
 
 -- a link was made, so there is one
 pub there_is_one : (r : Result Outcome LinkFault) (x : Outcome) → refused_as NotLinked r ≡ Ok x → IsOk r

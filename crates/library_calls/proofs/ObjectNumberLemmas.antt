@@ -1,13 +1,11 @@
 -- Numbers of objects by names, once an object more is put in.
-use Rattle.std.proofs.Common.{◌≡◌, ℕ, ◌+◌, ◌<◌, Bool, if◌then◌else◌, List, length, drop, get_or, Option, Some}
-use Rattle.std.proofs.Common.{sym, ap, ◌∙◌, subst}
+use Rattle.std.proofs.Common.{◌≡◌, ℕ, ◌+◌, ◌<◌, Bool, if◌then◌else◌, List, length, drop, get_or, Option, Some, sym, ap, ◌∙◌, subst}
 use Rattle.std.proofs.lemmas.List.{drop_more, get_or-map, length-map}
 use Rattle.std.specs.{List.list_any}
 use Rattle.indexmap.specs.IndexMap.{IndexMap}
 use Rattle.aout_core.specs.{declared.symbol.Symbol.Symbol, Contents.Contents}
 use Rattle.link_session.specs.Labelled.{Labelled, objects}
-use Rattle.library_calls.specs.FindingPlaces.{first_from, shows}
-use Rattle.library_calls.specs.internal.Numbered.{AreNumbers, PutsObject}
+use Rattle.library_calls.specs.{FindingPlaces.{first_from, shows}, internal.Numbered.{AreNumbers, PutsObject}}
 
 module _ {S : Type 0} (definitions : Bool) where
   -- the object before those that are put in

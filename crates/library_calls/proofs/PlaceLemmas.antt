@@ -5,8 +5,7 @@ use Rattle.aout_core.specs.Contents.{Contents}
 use Rattle.link_session.specs.Labelled.{Labelled, objects}
 use Rattle.link_out.specs.Results.{ReportNames}
 use Rattle.library_calls.specs.FindingPlaces.{finding_places, first_number, further_objects, places_with}
-use Rattle.library_calls.specs.internal.Numbered.{IsIndex, found}
-use Rattle.library_calls.specs.{declared.places.FindingPlace.FindingPlace, declared.places.Index.Index}
+use Rattle.library_calls.specs.{internal.Numbered.{IsIndex, found}, declared.places.FindingPlace.FindingPlace, declared.places.Index.Index}
 
 places_are : {E : Type 0} (index : Index) (os : List Contents) (forced : List (List ℕ)) (numbers : List ℕ) (f : ReportNames)
     (r : Result (Vec FindingPlace Global) E) → IsIndex index os → numbers ≡ further_objects forced os →

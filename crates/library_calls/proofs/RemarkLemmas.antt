@@ -5,8 +5,7 @@ use Rattle.aout_core.specs.{Contents.Contents, Decoding.decode, WellFormed.first
 use Rattle.aout_core.specs.declared.header.Header.{Header}
 use Rattle.findings.specs.{Found.Found, Found.all_found, Wrong.wrong_bytes, Wrong.wrong_in, declared.finding.Finding.Finding}
 use Rattle.suspicions.specs.{Suspicions.all_odd, declared.evidence.Evidence.TheVariants.Flow}
-use Rattle.library_calls.specs.{RemarkAnswers.IsRemarked, RemarkAnswers.IsRemarkedBy, RemarkAnswers.Output, RemarkAnswers.header_by}
-use Rattle.library_calls.specs.{RemarkAnswers.odd_by, RemarkAnswers.remarked_by, RemarkAnswers.remarks_in, RemarkAnswers.wrong_by}
+use Rattle.library_calls.specs.RemarkAnswers.{IsRemarked, IsRemarkedBy, Output, header_by, odd_by, remarked_by, remarks_in, wrong_by}
 use Rattle.library_calls.specs.{declared.remarks_call.RemarkRecord.RemarkRecord, declared.remarks_call.Remarks.Remarks}
 
 pub by_findings : (h : Option Header) (wrong odd : List Finding) (found more : List Found) (r : Result Remarks AllocError) →

@@ -1,7 +1,6 @@
 -- What a writer in memory took.
 use Rattle.std.proofs.Common.{◌≡◌, ℕ, List, [], ◌∷◌, ◌++◌, Some, Result, Ok, Err, IfOk, ap, subst, ◌∙◌}
-use Rattle.std.specs.Prelude.{IsOk, String, Vec, string_bytes}
-use Rattle.std.specs.declared.alloc.Global.{Global}
+use Rattle.std.specs.{Prelude.{IsOk, String, Vec, string_bytes}, declared.alloc.Global.Global}
 use Rattle.aout_core.specs.{Contents.Contents, Wires.Latched, Wires.Puts}
 use Rattle.symtools.specs.{Files.by_bytes, NmLists.nm_text, SizeLines.size_text}
 use Rattle.tool_options.specs.declared.nm_options.NmOptions.{NmOptions}

@@ -4,23 +4,22 @@
 -- one of these never come, and have the number 0.
 use Rattle.std.specs.Prelude.{ℕ, nat_lt, if◌then◌else◌, Result}
 use Rattle.aout_core.specs.declared.object.ObjectFault.{ObjectFault}
-use Rattle.gnu_objects.specs.declared.refusal.Size.{Size}
-use Rattle.gnu_objects.specs.declared.refusal.Size.TheVariants.{TextSize, DataSize, BssSize, SymbolSize}
+use Rattle.aout_core.specs.declared.file.ReadFault.TheVariants as reads
+use Rattle.aout_core.specs.declared.object.ObjectFault.TheVariants as objects
+use Rattle.gnu_objects.specs.{declared.refusal.Size.Size, declared.refusal.Size.TheVariants.{TextSize, DataSize, BssSize, SymbolSize}}
+use Rattle.gnu_objects.specs.declared.refusal.Refusal as gnu
+use Rattle.gnu_objects.specs.declared.refusal.Refusal.TheVariants as refusals
 use Rattle.link_session.specs.declared.entry.AddFault.{AddFault}
+use Rattle.link_session.specs.declared.entry.AddFault.TheVariants as adds
 use Rattle.link_out.specs.{declared.linked.LinkFault.LinkFault, Steps.refused_as}
+use Rattle.link_out.specs.declared.linked.LinkFault.TheVariants as links
+use Rattle.link_out.specs.Inputs as inputs
 use Rattle.listings.specs.{Reading.Mistakes, declared.fault.Reason.Reason}
+use Rattle.listings.specs.declared.fault.Reason.TheVariants as reasons
 use Rattle.library_calls.specs.declared.cause.Cause.TheVariants.{NoOption, Excluded, LongName, CutNames, ManyNames, TooLong}
 use Rattle.library_calls.specs.declared.cause.Cause.TheVariants.{ShortStruct, NoSession, NoWant, SessionOpen, NothingKept, NotKept}
 use Rattle.library_calls.specs.declared.cause.Cause.TheVariants.{BadFile, BadObject, NotAdded, NotLinked, BadListing, NotConverted, Memory}
 use Rattle.library_calls.specs.{declared.cause.Cause.Cause, declared.cause.Refusal.Refusal}
-use Rattle.aout_core.specs.declared.file.ReadFault.TheVariants as reads
-use Rattle.aout_core.specs.declared.object.ObjectFault.TheVariants as objects
-use Rattle.gnu_objects.specs.declared.refusal.Refusal as gnu
-use Rattle.gnu_objects.specs.declared.refusal.Refusal.TheVariants as refusals
-use Rattle.link_session.specs.declared.entry.AddFault.TheVariants as adds
-use Rattle.link_out.specs.declared.linked.LinkFault.TheVariants as links
-use Rattle.link_out.specs.Inputs as inputs
-use Rattle.listings.specs.declared.fault.Reason.TheVariants as reasons
 use Rattle.library_calls.specs.declared.cause.LongPart.TheVariants as parts
 
 abbrev pub cause_of_addition : AddFault → Cause

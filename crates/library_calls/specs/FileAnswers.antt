@@ -7,11 +7,11 @@ use Rattle.aout_core.specs.{Contents.Contents, Decoding.decode, Strip.stripped, 
 use Rattle.instructions.specs.declared.unix.Decoder.TheVariants.{Pdp11}
 use Rattle.disassemblies.specs.Columns.{disassembly, plain_disassembly}
 use Rattle.link_out.specs.Steps.{and_then, refused_as, unless}
+use Rattle.link_out.specs.Inputs as inputs
 use Rattle.tool_options.specs.declared.nm_options.NmOptions.{NmOptions}
 use Rattle.symtools.specs.{NmLists.nm_text, SizeLines.size_text}
 use Rattle.library_calls.specs.declared.cause.Cause.TheVariants.{NoOption, BadFile, BadObject}
 use Rattle.library_calls.specs.{declared.cause.Cause.Cause, Causes.cause_of_input}
-use Rattle.link_out.specs.Inputs as inputs
 
 -- the file that the bytes begin with
 abbrev pub file_in : List ℕ → Result Contents Cause

@@ -4,10 +4,8 @@
 -- else of the first that has a symbol of it. A name is multiply defined once for each definition that differs from the first, and each
 -- has the object of this further definition too.
 use Rattle.std.specs.Prelude.{ℕ, zero, suc, ◌+◌, ◌-◌, Bool, true, false, not, ◌&&◌, ◌||◌, eqb, if◌then◌else◌, bytes_eq, List, [], ◌∷◌, ◌++◌}
-use Rattle.std.specs.Prelude.{length, map, replicate, take, zip, Option, Some, None}
-use Rattle.std.specs.List.{list_any}
-use Rattle.aout_core.specs.WellFormed.{first_of, is_external, masked_type}
-use Rattle.aout_core.specs.{declared.symbol.Symbol.Symbol, Contents.Contents}
+use Rattle.std.specs.{Prelude.{length, map, replicate, take, zip, Option, Some, None}, List.list_any}
+use Rattle.aout_core.specs.{WellFormed.{first_of, is_external, masked_type}, declared.symbol.Symbol.Symbol, Contents.Contents}
 use Rattle.link_session.specs.{Labelled.no_object, Labelled.number_or_none, Mentions.mentions, States.multiple_names}
 use Rattle.link_out.specs.Results.{ReportNames}
 use Rattle.library_calls.specs.declared.places.FindingPlace.{FindingPlace}

@@ -3,10 +3,10 @@ use Rattle.std.specs.Prelude.{◌≡◌, ℕ, nat_lt, if◌then◌else◌, List,
 use Rattle.aout_core.specs.Encoding.{encoding}
 use Rattle.gnu_objects.specs.declared.options.Locals.TheVariants.{KeepAll, KeepNeeded, KeepNone}
 use Rattle.gnu_objects.specs.{Converted.converted, GnuRefusals.sizes_refusal, Places.place_of, declared.options.Options.Options}
+use Rattle.gnu_objects.specs.declared.refusal.Refusal as gnu
 use Rattle.link_out.specs.Steps.{and_then, refused_as}
 use Rattle.library_calls.specs.declared.cause.Cause.TheVariants.{NoOption, NotConverted}
 use Rattle.library_calls.specs.{declared.cause.Cause.Cause, declared.cause.Refusal.Refusal, Causes.at, FileAnswers.has_bit}
-use Rattle.gnu_objects.specs.declared.refusal.Refusal as gnu
 
 -- 1: -S, 2: -X, 4: -x, which wins over -X
 abbrev pub conversion_of : ℕ → Options

@@ -7,10 +7,9 @@ use Rattle.aout_core.specs.{Contents.Contents, Names.padded}
 use Rattle.link_session.specs.Labelled.{Labelled, objects}
 use Rattle.tool_options.specs.Choices.{Choices}
 use Rattle.link_out.specs.{function.Link.Outcome, Inputs.linked, Inputs.with_inputs, Steps.and_then, Steps.refused_as, Results.ReportNames}
-use Rattle.library_calls.specs.declared.cause.Cause.TheVariants.{NotLinked}
-use Rattle.library_calls.specs.{declared.cause.Refusal.Refusal, declared.parts.ObjectBytes.ObjectBytes}
-use Rattle.library_calls.specs.{declared.reported.ReportedName.ReportedName, Causes.cause_of_input}
 use Rattle.link_out.specs.Inputs as inputs
+use Rattle.library_calls.specs.{declared.cause.Cause.TheVariants.NotLinked, declared.cause.Refusal.Refusal}
+use Rattle.library_calls.specs.{declared.parts.ObjectBytes.ObjectBytes, declared.reported.ReportedName.ReportedName, Causes.cause_of_input}
 
 -- the bytes of each object
 abbrev pub each_of : List ObjectBytes → List (List ℕ)

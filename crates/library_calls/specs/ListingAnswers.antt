@@ -5,8 +5,7 @@ use Rattle.disassemblies.specs.Starts.{starts}
 use Rattle.explanations.specs.Said.{explained}
 use Rattle.instructions.specs.declared.unix.Decoder.TheVariants.{Unix}
 use Rattle.link_out.specs.Steps.{and_then, refused_as}
-use Rattle.listings.specs.declared.draft.Addresses.TheVariants.{Compared}
-use Rattle.listings.specs.{Listing.listing, MemoryWanted.ListingMayRunOut, Reading.read}
+use Rattle.listings.specs.{declared.draft.Addresses.TheVariants.Compared, Listing.listing, MemoryWanted.ListingMayRunOut, Reading.read}
 use Rattle.library_calls.specs.{declared.cause.Cause.Cause, declared.cause.Refusal.Refusal, Causes.first_mistake, FileAnswers.file_in}
 
 -- the listing with explanations, and without notes

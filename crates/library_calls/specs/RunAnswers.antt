@@ -5,12 +5,11 @@ use Rattle.aout_core.specs.{Contents.Contents, Encoding.encoding}
 use Rattle.tool_options.specs.Choices.{Choices}
 use Rattle.link_out.specs.{function.Link.Outcome, function.Link.link, function.Reports.report_text, function.Reports.status_of}
 use Rattle.link_out.specs.{Results.ReportNames, Steps.and_then, Steps.refused_as}
-use Rattle.library_calls.specs.{declared.places.FindingPlace.FindingPlace, FindingPlaces.finding_places}
-use Rattle.library_calls.specs.{declared.cause.Cause.Cause, declared.cause.Cause.TheVariants.NotLinked, declared.cause.Refusal.Refusal}
+use Rattle.library_calls.specs.{declared.places.FindingPlace.FindingPlace, FindingPlaces.finding_places, declared.cause.Cause.Cause}
+use Rattle.library_calls.specs.{declared.cause.Cause.TheVariants.NotLinked, declared.cause.Refusal.Refusal}
 use Rattle.library_calls.specs.{declared.reported.ReportedName.ReportedName, declared.run_call.RunResult.RunResult, Causes.at}
-use Rattle.library_calls.specs.declared.run_call.Wants.{Wants}
-use Rattle.library_calls.specs.{LinkAnswers.all_findings, LinkAnswers.parts_linked, LinkAnswers.taken_each, LinkRequests.choices_in}
-use Rattle.library_calls.specs.{LinkRequests.forced_in}
+use Rattle.library_calls.specs.{declared.run_call.Wants.Wants, LinkAnswers.{all_findings, parts_linked, taken_each}}
+use Rattle.library_calls.specs.LinkRequests.{choices_in, forced_in}
 
 -- the status, the bytes of the linked file, and what is wanted of its report: the bytes of its lines, a list, and the objects of what
 -- the list has

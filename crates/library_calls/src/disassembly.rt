@@ -3,8 +3,7 @@ ghost use Rattle.std.specs.Prelude.{◌≡◌, ◌≢◌, [], Ok, Err, IsOk, IfO
 ghost use Rattle.aout_core.specs.Refusals.{refused};
 ghost use Rattle.instructions.specs.declared.unix.Decoder.TheVariants.{Pdp11};
 ghost use Rattle.disassemblies.specs.Columns.{disassembly};
-ghost use Rattle.library_calls.specs.FileAnswers.{disassembled_in, words_shown};
-ghost use Rattle.library_calls.specs.declared.cause.Cause.TheVariants.{Memory};
+ghost use Rattle.library_calls.specs.{FileAnswers.{disassembled_in, words_shown}, declared.cause.Cause.TheVariants.Memory};
 
 use crate::cause::Cause;
 use crate::first::first_file;

@@ -1,10 +1,8 @@
 //! What is said of one file that comes as bytes.
 ghost use Rattle.std.specs.Prelude.{◌≡◌, ◌≢◌, ◌∷◌, [], Ok, Err, IsOk, IfOk, IfErr};
 ghost use Rattle.aout_core.specs.Refusals.{refused};
-ghost use Rattle.symtools.specs.NmLists.{nm_text};
-ghost use Rattle.symtools.specs.SizeLines.{size_text};
-ghost use Rattle.library_calls.specs.FileAnswers.{checked_in, names_in, sizes_in, stripped_in};
-ghost use Rattle.library_calls.specs.MemoryWanted.{HasBody};
+ghost use Rattle.symtools.specs.{NmLists.nm_text, SizeLines.size_text};
+ghost use Rattle.library_calls.specs.{FileAnswers.{checked_in, names_in, sizes_in, stripped_in}, MemoryWanted.HasBody};
 ghost use Rattle.library_calls.specs.declared.cause.Cause.TheVariants.{Memory};
 
 use crate::cause::Cause;

@@ -1,10 +1,7 @@
 //! The file and the object that bytes begin with.
 ghost use Rattle.std.specs.Prelude.{◌≡◌, ◌≢◌, Ok, Err, IfOk, IfErr};
-ghost use Rattle.aout_core.specs.Refusals.{refused};
-ghost use Rattle.aout_core.specs.Decoding.{decode};
-ghost use Rattle.aout_core.specs.Encoding.{file_length};
-ghost use Rattle.library_calls.specs.FileAnswers.{file_in, object_in, object_of};
-ghost use Rattle.library_calls.specs.MemoryWanted.{HasBody};
+ghost use Rattle.aout_core.specs.{Refusals.refused, Decoding.decode, Encoding.file_length};
+ghost use Rattle.library_calls.specs.{FileAnswers.{file_in, object_in, object_of}, MemoryWanted.HasBody};
 ghost use Rattle.library_calls.specs.declared.cause.Cause.TheVariants.{Memory};
 
 use crate::cause::Cause;

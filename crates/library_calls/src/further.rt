@@ -1,8 +1,6 @@
 //! The objects of further definitions, by what withdrawals take back.
 ghost use Rattle.std.specs.Prelude.{◌≡◌, ◌-◌, ◌++◌, length, replicate, take, IfOk, OnOk};
-ghost use Rattle.link_session.specs.Labelled.{objects};
-ghost use Rattle.link_session.specs.Mentions.{mentions};
-ghost use Rattle.link_session.specs.States.{multiple_names};
+ghost use Rattle.link_session.specs.{Labelled.objects, Mentions.mentions, States.multiple_names};
 ghost use Rattle.library_calls.specs.FindingPlaces.{differing, further_objects};
 
 use link_session::Session;

@@ -1,8 +1,7 @@
 //! Objects in GNU's form.
 ghost use Rattle.std.specs.Prelude.{◌≡◌, ◌≢◌, Ok, Err, IfOk, IfErr};
 ghost use Rattle.aout_core.specs.Refusals.{refused};
-ghost use Rattle.gnu_objects.specs.Converted.{converted};
-ghost use Rattle.gnu_objects.specs.GnuRefusals.{sizes_refusal};
+ghost use Rattle.gnu_objects.specs.{Converted.converted, GnuRefusals.sizes_refusal};
 ghost use Rattle.link_out.specs.Steps.{refused_as};
 ghost use Rattle.library_calls.specs.GnuAnswers.{ConversionMayRunOut, conversion_in, conversion_of, converted_in, refused_in};
 ghost use Rattle.library_calls.specs.declared.cause.Cause.TheVariants.{Memory};

@@ -1,11 +1,8 @@
 //! A session that is kept from one call to the next.
 ghost use Rattle.std.specs.Prelude.{◌≡◌, ◌≢◌, [], None, Ok, Err, IsOk, IfOk, IfErr, OnOk, OnErr};
 ghost use Rattle.aout_core.specs.Refusals.{refused};
-ghost use Rattle.link_session.specs.Labelled.{objects};
-ghost use Rattle.link_session.specs.Limits.{refusal};
-ghost use Rattle.link_session.specs.Sessions.{Adds};
-ghost use Rattle.link_out.specs.Steps.{unless};
-ghost use Rattle.link_out.specs.function.Link.{link};
+ghost use Rattle.link_session.specs.{Labelled.objects, Limits.refusal, Sessions.Adds};
+ghost use Rattle.link_out.specs.{Steps.unless, function.Link.link};
 ghost use Rattle.library_calls.specs.KeptAnswers.{AddsBytes, HasJournal, MayRunOutToAdd, MayRunOutToLink, TakesLast, begun_in, kept_run, kept_with, last_in, shown_in, taken_in};
 ghost use Rattle.library_calls.specs.RunAnswers.{results_of};
 ghost use Rattle.library_calls.specs.declared.cause.Cause.TheVariants.{Memory, NotAdded, NothingKept};

@@ -2,11 +2,8 @@
 ghost use Rattle.std.specs.Prelude.{◌≡◌, ◌≢◌, Ok, Err, IsOk, IfOk, IfErr};
 ghost use Rattle.aout_core.specs.Refusals.{refused};
 ghost use Rattle.link_out.specs.Steps.{refused_as};
-ghost use Rattle.listings.specs.MemoryWanted.{ListingMayRunOut};
-ghost use Rattle.listings.specs.Reading.{read};
-ghost use Rattle.listings.specs.declared.draft.Addresses.TheVariants.{Compared};
-ghost use Rattle.library_calls.specs.Causes.{first_mistake};
-ghost use Rattle.library_calls.specs.ListingAnswers.{DescribedMayRunOut, described_in, listed, listed_in};
+ghost use Rattle.listings.specs.{MemoryWanted.ListingMayRunOut, Reading.read, declared.draft.Addresses.TheVariants.Compared};
+ghost use Rattle.library_calls.specs.{Causes.first_mistake, ListingAnswers.{DescribedMayRunOut, described_in, listed, listed_in}};
 ghost use Rattle.library_calls.specs.declared.cause.Cause.TheVariants.{Memory};
 
 use crate::cause::{Cause, Refusal};

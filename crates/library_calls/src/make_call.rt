@@ -1,7 +1,6 @@
 //! Objects made of their parts.
 ghost use Rattle.std.specs.Prelude.{◌≡◌, ◌≢◌, ◌%◌, map, Ok, Err, IsOk, IfOk, IfErr};
-ghost use Rattle.aout_core.specs.Refusals.{refused};
-ghost use Rattle.aout_core.specs.Parts.{contents_of};
+ghost use Rattle.aout_core.specs.{Refusals.refused, Parts.contents_of};
 ghost use Rattle.library_calls.specs.ObjectParts.{contents_for, file_for, header_for, header_of, made_of, pieces, reloc_of, symbol_of};
 ghost use Rattle.library_calls.specs.declared.cause.Cause.TheVariants.{Memory};
 

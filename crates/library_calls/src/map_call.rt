@@ -2,13 +2,11 @@
 ghost use Rattle.std.specs.Prelude.{◌≡◌, ◌≢◌, ◌⊎◌, ℕ, List, length, Ok, Err, IfOk, IfErr, IsOk};
 ghost use Rattle.aout_core.specs.Refusals.{refused};
 ghost use Rattle.link_session.specs.Labelled.{objects};
-ghost use Rattle.link_maps.specs.Links.{read_inputs};
-ghost use Rattle.link_maps.specs.Members.{all_of, cause_of};
+ghost use Rattle.link_maps.specs.{Links.read_inputs, Members.{all_of, cause_of}};
 ghost use Rattle.library_calls.specs.LinkAnswers.{each_of};
-ghost use Rattle.library_calls.specs.MapAnswers.{AreTaken, HasNoMap, IsMapAnswer, IsMapped, MapMayRunOut, head_by, linked_head, made_head, map_asked, map_of_all, objects_each, placed_head, run_shown};
-ghost use Rattle.library_calls.specs.MemoryWanted.{HasBody, MayRunOutInParts};
-ghost use Rattle.library_calls.specs.RunAnswers.{results_of};
-ghost use Rattle.library_calls.specs.internal.Taken.{with_read};
+ghost use Rattle.library_calls.specs.MapAnswers.{AreTaken, HasNoMap, IsMapAnswer, IsMapped, MapMayRunOut, head_by, linked_head, made_head};
+ghost use Rattle.library_calls.specs.MapAnswers.{map_asked, map_of_all, objects_each, placed_head, run_shown};
+ghost use Rattle.library_calls.specs.{MemoryWanted.{HasBody, MayRunOutInParts}, RunAnswers.results_of, internal.Taken.with_read};
 ghost use Rattle.library_calls.specs.declared.cause.Cause.TheVariants.{Memory};
 
 use crate::cause::{Cause, Refusal};

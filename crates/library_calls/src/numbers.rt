@@ -1,8 +1,7 @@
 //! Numbers of objects by the names that they define or use.
 ghost use Rattle.std.specs.Prelude.{◌≡◌, IfOk, OnOk};
 ghost use Rattle.link_session.specs.Labelled.{objects};
-ghost use Rattle.library_calls.specs.FindingPlaces.{is_shown};
-ghost use Rattle.library_calls.specs.internal.Numbered.{AreNumbers, PutsObject, PutsSymbol};
+ghost use Rattle.library_calls.specs.{FindingPlaces.is_shown, internal.Numbered.{AreNumbers, PutsObject, PutsSymbol}};
 
 use aout_core::{Name, Segment, Symbol};
 use indexmap::IndexMap;

@@ -1,9 +1,7 @@
 //! The objects of the names of a report.
 ghost use Rattle.std.specs.Prelude.{◌≡◌, length, map, IfOk};
 ghost use Rattle.link_out.specs.Outcomes.{report_names};
-ghost use Rattle.link_session.specs.Labelled.{objects};
-ghost use Rattle.link_session.specs.Mentions.{mentions};
-ghost use Rattle.link_session.specs.States.{multiple_names};
+ghost use Rattle.link_session.specs.{Labelled.objects, Mentions.mentions, States.multiple_names};
 ghost use Rattle.library_calls.specs.FindingPlaces.{entry_places, finding_places, further_places, name_count, place_of, place_with, places_with};
 ghost use Rattle.library_calls.specs.internal.Numbered.{IsIndex, found};
 

@@ -1,10 +1,8 @@
 //! What is wrong and odd in a file, as records.
 ghost use Rattle.std.specs.Prelude.{◌≡◌, ◌∷◌, ◌<◌, ◌^◌, [], IfOk, IfErr, None, Some, true};
-ghost use Rattle.aout_core.specs.Refusals.{refused};
-ghost use Rattle.aout_core.specs.WellFormed.{first_object_fault};
+ghost use Rattle.aout_core.specs.{Refusals.refused, WellFormed.first_object_fault};
 ghost use Rattle.findings.specs.Wrong.{wrong_bytes, wrong_in};
-ghost use Rattle.suspicions.specs.Suspicions.{all_odd};
-ghost use Rattle.suspicions.specs.declared.evidence.Evidence.TheVariants.{Flow};
+ghost use Rattle.suspicions.specs.{Suspicions.all_odd, declared.evidence.Evidence.TheVariants.Flow};
 ghost use Rattle.library_calls.specs.RemarkAnswers.{IsRemarked, IsRemarkedBy, at_word, located_in, located_if, records_from, remarked_by, remarks_in, status_by, texts_of};
 ghost use Rattle.library_calls.specs.declared.cause.Cause.TheVariants.{Memory};
 

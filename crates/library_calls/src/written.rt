@@ -1,8 +1,7 @@
 //! The bytes of a file, and the lines of a report, as a writer in memory takes them.
 ghost use Rattle.std.specs.Prelude.{◌≡◌, IfOk, IsOk};
 ghost use Rattle.aout_core.specs.Encoding.{encoding};
-ghost use Rattle.link_out.specs.Outcomes.{report_names};
-ghost use Rattle.link_out.specs.function.Reports.{report_text};
+ghost use Rattle.link_out.specs.{Outcomes.report_names, function.Reports.report_text};
 
 use aout_core::{File, Wire, write_file};
 use link_out::Report;

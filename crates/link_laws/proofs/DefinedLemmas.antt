@@ -11,9 +11,8 @@ use Rattle.link_session.specs.{declared.state.State.TheVariants.Wanted, Starts.s
 use Rattle.tool_options.specs.{NameLists.is_among, declared.options.Keep.TheVariants.Nothing, Choices.Choices}
 use Rattle.link_session.proofs.AgreementLemmas.{AgreesIn, none_differ, agrees_with}
 use Rattle.link_session.proofs.{MentionLemmas.is_among-externals, UpdateLemmas.unmentioned}
-use Rattle.link_out.specs.function.Finals.{Final, final, final_by, type_of, bound_at}
-use Rattle.link_out.specs.{Layouts.base, function.Plans.Plan, function.Plans.plan, function.Tables.external_row}
-use Rattle.link_out.specs.{function.Reports.ReportNames, function.Link.Outcome, function.Link.linked_file, function.Link.link}
+use Rattle.link_out.specs.{function.Finals.{Final, final, final_by, type_of, bound_at}, Layouts.base, function.Plans.{Plan, plan}}
+use Rattle.link_out.specs.{function.Tables.external_row, function.Reports.ReportNames, function.Link.{Outcome, linked_file, link}}
 use Rattle.link_laws.specs.{WordsAndNames.IsDefined, relation.Relocated.move_in, relation.Relocated.external_type}
 use Rattle.link_laws.proofs.{SaidLemmas.of_entry, MoveLemmas.move_by_header, ExternalLemmas.entry_there}
 use Rattle.link_out.proofs.OutcomeLemmas.{made_file, made_report}

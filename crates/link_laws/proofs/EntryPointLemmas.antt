@@ -1,7 +1,6 @@
 -- The entry point of a linked file, by its own symbol table.
 use Rattle.std.proofs.Common.{◌≡◌, ◌≢◌, ℕ, Bool, true, false, cond, ◌&&◌, eqb, List, Option, Some, None, refl, sym, ◌∙◌, ap, subst, inl}
-use Rattle.std.proofs.Common.{inr, eqb-true}
-use Rattle.std.proofs.lemmas.Option.{same_Some}
+use Rattle.std.proofs.{Common.{inr, eqb-true}, lemmas.Option.same_Some}
 use Rattle.std.specs.Prelude.{bytes_eq, Ok}
 use Rattle.aout_core.specs.declared.symbol.Segment.TheVariants.{TextSeg, DataSeg, BssSeg}
 use Rattle.aout_core.specs.{declared.symbol.Symbol.Symbol, Contents.Contents, Words.plus}
@@ -9,9 +8,8 @@ use Rattle.link_session.specs.{declared.state.State.State, declared.state.State.
 use Rattle.link_session.specs.{declared.state.State.TheVariants.Wanted, Mentions.names_by_first_mention, States.state}
 use Rattle.tool_options.specs.{NameLists.is_among, declared.options.Keep.TheVariants.Nothing, Choices.Choices, Choices.lays_commons}
 use Rattle.link_out.specs.function.Finals.{final, final_by, type_of, bound_at, waiting, reserved_or_waiting, etext, edata, end_name}
-use Rattle.link_out.specs.{function.Plans.Plan, function.Plans.plan, function.Plans.common_offset, function.Tables.external_row}
-use Rattle.link_out.specs.{function.Tables.table, function.Reports.entry_word, function.Reports.entry_found_bad, function.Link.Outcome}
-use Rattle.link_out.specs.{function.Link.link}
+use Rattle.link_out.specs.{function.Plans.{Plan, plan, common_offset}, function.Tables.{external_row, table}}
+use Rattle.link_out.specs.{function.Reports.{entry_word, entry_found_bad}, function.Link.{Outcome, link}}
 use Rattle.link_laws.specs.relation.Relocated.{entry_of, IsEntry}
 use Rattle.link_out.proofs.OutcomeLemmas.{made}
 use Rattle.link_laws.proofs.ExternalLemmas.{entry_in_table}

@@ -1,18 +1,15 @@
 -- The external entries of a linked file, and the address that each gives.
 use Rattle.std.proofs.Common.{◌≡◌, ◌≢◌, ℕ, Bool, true, false, cond, ◌&&◌, ◌||◌, eqb, List, [], ◌∷◌, ◌++◌, map, Option, Some, None, refl}
-use Rattle.std.proofs.Common.{sym, ◌∙◌, ap, subst}
-use Rattle.std.proofs.lemmas.Slice.Eq.{bytes_eq-Decides}
+use Rattle.std.proofs.{Common.{sym, ◌∙◌, ap, subst}, lemmas.Slice.Eq.bytes_eq-Decides}
 use Rattle.std.specs.Prelude.{bytes_eq, filter, Ok}
 use Rattle.aout_core.specs.declared.symbol.Segment.TheVariants.{Undefined, TextSeg, DataSeg, BssSeg, Other}
 use Rattle.aout_core.specs.{declared.symbol.Symbol.Symbol, Contents.Contents, Words.plus, WellFormed.is_external}
-use Rattle.link_session.specs.Mentions.{mentions, names_by_first_mention, externals}
-use Rattle.link_session.specs.{declared.state.State.State, declared.state.State.TheVariants.Defined}
-use Rattle.link_session.specs.{declared.state.State.TheVariants.Wanted, States.state}
+use Rattle.link_session.specs.{Mentions.{mentions, names_by_first_mention, externals}, declared.state.State.State}
+use Rattle.link_session.specs.{declared.state.State.TheVariants.{Defined, Wanted}, States.state}
 use Rattle.tool_options.specs.{NameLists.is_among, declared.options.Keep.TheVariants.Nothing, Choices.Choices, Choices.lays_commons}
 use Rattle.link_out.specs.function.Plans.{Plan, plan, common_offset}
 use Rattle.link_out.specs.function.Finals.{Final, final, final_by, type_of, bound_at, waiting, reserved_or_waiting, etext, edata, end_name}
-use Rattle.link_out.specs.function.Tables.{local_rows, external_row, external_rows, table}
-use Rattle.link_out.specs.{Layouts.Bases, function.Link.Outcome, function.Link.link}
+use Rattle.link_out.specs.{function.Tables.{local_rows, external_row, external_rows, table}, Layouts.Bases, function.Link.{Outcome, link}}
 use Rattle.link_laws.specs.relation.Relocated.{entry_of, address_in}
 use Rattle.link_out.proofs.partial_links.PartialLemmas.{IsProper, state_is_proper, local_rows_inner, external_row_outer, externals_in_table}
 use Rattle.link_out.proofs.{RowLemmas.rows_kept-others, OutcomeLemmas.made_file}

@@ -2,18 +2,14 @@
 use Rattle.std.proofs.Common.{◌≡◌, ℕ, true, false, cond, List, [], ◌∷◌, ◌++◌, map, length, Some, None, refl, sym, ◌∙◌, ap, subst}
 use Rattle.std.proofs.Common.{append-nil}
 use Rattle.std.specs.{Prelude.nat_lt, Prelude.Ok, List.AllByRecursion}
-use Rattle.aout_core.specs.declared.symbol.Segment.TheVariants.{TextSeg, DataSeg, BssSeg}
-use Rattle.aout_core.specs.{Contents.Contents, WellFormed.IsWellFormed}
+use Rattle.aout_core.specs.{declared.symbol.Segment.TheVariants.{TextSeg, DataSeg, BssSeg}, Contents.Contents, WellFormed.IsWellFormed}
 use Rattle.tool_options.specs.{NameLists.is_among, declared.options.Keep.Keep, Choices.Choices}
 use Rattle.link_session.specs.Mentions.{Mention, mentions, mentions_in, forced_mention, names_by_first_mention}
-use Rattle.link_session.specs.States.{definition_by, first_definition, state, multiple_names}
-use Rattle.link_session.specs.Limits.{limit_passed}
+use Rattle.link_session.specs.{States.{definition_by, first_definition, state, multiple_names}, Limits.limit_passed}
 use Rattle.link_session.specs.declared.entry.AddFault.TheVariants.{TextFull, DataFull, BssFull, NamesFull}
-use Rattle.link_session.proofs.NeighbourLemmas.{AreAsLong, as_long_append, as_long_self}
-use Rattle.link_session.proofs.{ListLemmas.all_append, ListLemmas.all_split, UpdateLemmas.definition_of, AgreementLemmas.AgreesIn}
-use Rattle.link_session.proofs.{AgreementLemmas.no_multiples, AgreementLemmas.own_again}
-use Rattle.link_out.specs.function.Link.{Outcome, link}
-use Rattle.link_out.specs.laws.PartialLinks.{KeepsNoMore, IsPartialLink, IsPart, DefinesNoMultiple}
+use Rattle.link_session.proofs.{NeighbourLemmas.{AreAsLong, as_long_append, as_long_self}, ListLemmas.{all_append, all_split}}
+use Rattle.link_session.proofs.{UpdateLemmas.definition_of, AgreementLemmas.{AgreesIn, no_multiples, own_again}}
+use Rattle.link_out.specs.{function.Link.{Outcome, link}, laws.PartialLinks.{KeepsNoMore, IsPartialLink, IsPart, DefinesNoMultiple}}
 use Rattle.link_laws.specs.PartialLinksAmongOthers.{IsGrouped, ungrouped, grouped}
 use Rattle.link_out.proofs.partial_links.PartialNames.{HasTable, has_table, final_mention, final_alone}
 use Rattle.link_out.proofs.partial_links.NeighbourMentions.{partial_as_long, states_same}

@@ -1,12 +1,10 @@
 -- What the mentions make of a name, told by the mentions alone, is its state.
 use Rattle.std.proofs.Common.{◌≡◌, ℕ, ◌≤◌, max, Bool, true, false, cond, List, [], ◌∷◌, Option, Some, None, refl, sym, ◌∙◌, ap, inl, inr}
-use Rattle.std.proofs.Common.{arith, rules}
-use Rattle.std.proofs.lemmas.Slice.Eq.{bytes_eq-Decides}
+use Rattle.std.proofs.{Common.{arith, rules}, lemmas.Slice.Eq.bytes_eq-Decides}
 use Rattle.std.specs.{Prelude.bytes_eq, List.AllByRecursion}
 use Rattle.aout_core.specs.{declared.symbol.Segment.Segment, WellFormed.first_of}
 use Rattle.link_session.specs.States.{Definition, definition_by, size_wanted_by, first_definition, wanted_size, state_by, state}
-use Rattle.link_session.specs.{declared.state.State.State, declared.state.State.TheVariants.Defined}
-use Rattle.link_session.specs.{declared.state.State.TheVariants.Wanted, Mentions.Mention}
+use Rattle.link_session.specs.{declared.state.State.State, declared.state.State.TheVariants.{Defined, Wanted}, Mentions.Mention}
 use Rattle.link_laws.specs.relation.NameStates.{LeavesOpen, IsFirst, WantsAtMost, HasState}
 
 -- the first definition that is computed is the first among the mentions

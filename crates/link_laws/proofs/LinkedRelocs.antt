@@ -2,12 +2,12 @@
 use Rattle.std.proofs.Common.{◌≡◌, ℕ, zero, suc, ◌+◌, ◌*◌, ◌/◌, ◌%◌, ◌≤◌, Bool, true, false, cond, ◌&&◌, ◌||◌, eqb, List, [], ◌∷◌, ◌++◌}
 use Rattle.std.proofs.Common.{map, length, Option, Some, None, refl, sym, ◌∙◌, ap, subst, arith, append_assoc, rules}
 use Rattle.std.proofs.{lemmas.Bool.ltb-false, lemmas.Bool.ltb-true, lemmas.Bool.or_parts, lemmas.List.Folds.list_any-append, lemmas.Option.same_Some}
-use Rattle.std.specs.Prelude.{bytes_eq, filter, slice_get, nat_lt}
-use Rattle.std.specs.List.{flat_map, list_any, AllByRecursion}
+use Rattle.std.specs.{Prelude.{bytes_eq, filter, slice_get, nat_lt}, List.{flat_map, list_any, AllByRecursion}}
 use Rattle.aout_core.specs.declared.symbol.Segment.TheVariants.{Undefined, TextSeg, DataSeg, BssSeg, Other}
 use Rattle.aout_core.specs.WellFormed.{segment_of, kind_of, symbol_number, is_wanted, kind_fault}
 use Rattle.aout_core.specs.{declared.symbol.Symbol.Symbol, declared.symbol.Segment.Segment, declared.reloc.Reloc.Reloc}
 use Rattle.aout_core.specs.{declared.reloc.Kind.Kind, declared.object.ObjectFault.ObjectFault, Contents.Contents, Words.plus}
+use Rattle.aout_core.specs.declared.reloc.Kind.TheVariants as kinds
 use Rattle.link_session.specs.Mentions.{mentions, names_of, names_by_first_mention, place_of}
 use Rattle.link_session.specs.Cells.{referent, referent_by, name_in, words_of, segment_relocs}
 use Rattle.link_session.specs.{declared.state.State.State, declared.state.State.TheVariants.Defined}
@@ -17,15 +17,12 @@ use Rattle.link_session.proofs.{CellLemmas.RefersAmong, MentionLemmas.is_among-e
 use Rattle.link_out.specs.function.Finals.{final, final_by, type_of, bound_at, waiting, etext, edata, end_name}
 use Rattle.link_out.specs.function.Tables.{is_kept_local, moved_value, moved_local, local_rows, external_row, external_rows, row_of}
 use Rattle.link_out.specs.function.Tables.{name_bits, referent_bits, final_reloc, final_relocs, number_too_large, needs_too_large}
-use Rattle.link_out.specs.function.Tables.{has_too_large_in}
-use Rattle.link_out.specs.{function.Plans.Plan, function.Plans.plan, function.Plans.common_offset, function.Link.linked_header}
-use Rattle.link_laws.specs.relation.Relocated.{entry_of}
-use Rattle.link_laws.specs.relation.LinkedTable.{moved_value_in, moved_local_in, moved_locals_in}
+use Rattle.link_out.specs.{function.Tables.has_too_large_in, function.Plans.{Plan, plan, common_offset}, function.Link.linked_header}
+use Rattle.link_laws.specs.{relation.Relocated.entry_of, relation.LinkedTable.{moved_value_in, moved_local_in, moved_locals_in}}
 use Rattle.link_laws.specs.relation.LinkedWords.{row_bits, IsNamedBy, AreBits, AreKept}
 use Rattle.link_out.proofs.partial_links.PartialLemmas.{IsProper, state_is_proper}
 use Rattle.link_laws.proofs.SegmentLemmas.{HasWords, made_found, made_whole, words_back, front_objects, word_at}
 use Rattle.link_laws.proofs.{MoveLemmas.move_by_header, ExternalLemmas.names_of_rows, ExternalLemmas.entry_among}
-use Rattle.aout_core.specs.declared.reloc.Kind.TheVariants as kinds
 
 -- locals
 

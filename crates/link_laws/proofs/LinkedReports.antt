@@ -1,17 +1,14 @@
 -- The report of a link is the one that the relation of linking tells, and no other.
 use Rattle.std.proofs.Common.{◌≡◌, ℕ, Bool, true, false, cond, not, ◌&&◌, List, [], ◌∷◌, Option, Some, None, refl, sym, ◌∙◌, ap, subst, inl}
-use Rattle.std.proofs.Common.{inr, eqb-true, rules}
-use Rattle.std.proofs.lemmas.Bool.{and_parts, not-true}
+use Rattle.std.proofs.{Common.{inr, eqb-true, rules}, lemmas.Bool.{and_parts, not-true}}
 use Rattle.std.specs.{Prelude.bytes_eq, Prelude.filter, List.AllByRecursion}
-use Rattle.link_session.specs.States.{Definition, definition_by, first_definition, differs, state}
-use Rattle.link_session.specs.{declared.state.State.State, declared.state.State.TheVariants.Defined}
-use Rattle.link_session.specs.{declared.state.State.TheVariants.Wanted, Mentions.Mention}
+use Rattle.link_session.specs.{States.{Definition, definition_by, first_definition, differs, state}, declared.state.State.State}
+use Rattle.link_session.specs.{declared.state.State.TheVariants.{Defined, Wanted}, Mentions.Mention}
 use Rattle.tool_options.specs.NameLists.{is_among}
 use Rattle.link_session.proofs.AgreementLemmas.{none_defines, of_each_name, agrees_with, own_again}
 use Rattle.link_session.proofs.{ListLemmas.all_map, UpdateLemmas.own_name}
 use Rattle.link_out.specs.function.Reports.{is_undefined, reserved_names, reserved_taken}
-use Rattle.link_laws.specs.relation.Reported.{ArePicked, IsOther}
-use Rattle.link_laws.specs.relation.NameStates.{HasState, IsWanted}
+use Rattle.link_laws.specs.{relation.Reported.{ArePicked, IsOther}, relation.NameStates.{HasState, IsWanted}}
 use Rattle.link_laws.proofs.HasStateLemmas.{first_is, has_first, has_state, state_is}
 
 -- what a test picks

@@ -1,11 +1,9 @@
 -- The relation of linking holds exactly of what a link answers, and of one file and report at most.
 use Rattle.std.proofs.Common.{◌≡◌, ◌↔◌, ℕ, ◌+◌, ◌-◌, ◌*◌, ◌≤◌, Bool, true, false, cond, ◌&&◌, List, [], ◌∷◌, ◌++◌, map, length, Option}
-use Rattle.std.proofs.Common.{Some, None, refl, sym, ◌∙◌, ap, subst, arith, rules}
-use Rattle.std.proofs.lemmas.Bool.{ltb-false, or_parts}
+use Rattle.std.proofs.{Common.{Some, None, refl, sym, ◌∙◌, ap, subst, arith, rules}, lemmas.Bool.{ltb-false, or_parts}}
 use Rattle.std.specs.{Prelude.Result, Prelude.Ok, List.AllByRecursion}
-use Rattle.aout_core.specs.declared.symbol.Segment.TheVariants.{TextSeg, DataSeg, BssSeg}
-use Rattle.aout_core.specs.{declared.header.Header.Header, declared.symbol.Symbol.Symbol, declared.reloc.Reloc.Reloc, Contents.Contents}
-use Rattle.aout_core.specs.{Addresses.data_start_in}
+use Rattle.aout_core.specs.{declared.symbol.Segment.TheVariants.{TextSeg, DataSeg, BssSeg}, declared.header.Header.Header}
+use Rattle.aout_core.specs.{declared.symbol.Symbol.Symbol, declared.reloc.Reloc.Reloc, Contents.Contents, Addresses.data_start_in}
 use Rattle.link_session.specs.Mentions.{Mention, mentions, names_by_first_mention, externals}
 use Rattle.link_session.specs.{Starts.total, Sessions.IsObject, States.state}
 use Rattle.tool_options.specs.{NameLists.is_among, Choices.Choices}
@@ -13,23 +11,19 @@ use Rattle.link_out.specs.function.Plans.{Plan, plan, commons_laid}
 use Rattle.link_out.specs.function.Tables.{local_rows, external_row, external_rows, rows_kept, table, final_reloc, final_relocs}
 use Rattle.link_out.specs.function.Tables.{has_too_large_in, has_number_too_large}
 use Rattle.link_out.specs.function.Reports.{report_of, reserved_names, undefined_names, entry_word, entry_found_bad}
-use Rattle.link_out.specs.internal.InOrder.{finals_from, commons_size_in}
-use Rattle.link_out.specs.function.Link.{Outcome, linked_header, linked_file, link}
+use Rattle.link_out.specs.{internal.InOrder.{finals_from, commons_size_in}, function.Link.{Outcome, linked_header, linked_file, link}}
 use Rattle.link_out.specs.{declared.linked.LinkFault.LinkFault, function.Words.final_words}
-use Rattle.link_laws.specs.{relation.Relocated.base_in, relation.Relocated.IsEntry, relation.LinkedTable.AreRows}
-use Rattle.link_laws.specs.{relation.LinkedTable.moved_locals_in, relation.LinkedWords.AreRelocated, relation.LinkedWords.AreKept}
-use Rattle.link_laws.specs.{relation.Reported.ArePicked, relation.Reported.IsReported, relation.LinkedFrom.IsLinkedFrom}
-use Rattle.link_laws.specs.{relation.NameStates.IsWanted}
-use Rattle.link_out.proofs.partial_links.PartialLemmas.{IsProper, state_is_proper}
-use Rattle.link_out.proofs.OutcomeLemmas.{IsMade, made, is_made, not_over}
+use Rattle.link_laws.specs.{relation.Relocated.{base_in, IsEntry}, relation.LinkedTable.{AreRows, moved_locals_in}}
+use Rattle.link_laws.specs.{relation.LinkedWords.{AreRelocated, AreKept}, relation.Reported.{ArePicked, IsReported}}
+use Rattle.link_laws.specs.{relation.LinkedFrom.IsLinkedFrom, relation.NameStates.IsWanted}
+use Rattle.link_out.proofs.{partial_links.PartialLemmas.{IsProper, state_is_proper}, OutcomeLemmas.{IsMade, made, is_made, not_over}}
 use Rattle.link_out.proofs.InOrderLemmas.{named_by, finals-in_order, commons_size-all}
 use Rattle.link_laws.proofs.RelocatedLemmas.{AreThere, relocated_at, relocated_whole, file_filled}
 use Rattle.link_laws.proofs.LinkedRows.{GivesBases, IsLaid, are_rows, rows_are, rows_end, rows_at, rows_for_finals}
 use Rattle.link_laws.proofs.LinkedReports.{others_of, others_picked, others_are, reserved_picked, reserved_are, undefined_picked}
-use Rattle.link_laws.proofs.LinkedReports.{undefined_are}
-use Rattle.link_laws.proofs.{MoveLemmas.data_begun, MoveLemmas.rest_back, ExternalLemmas.names_of_rows, ExternalLemmas.entry_among}
-use Rattle.link_laws.proofs.{EntryPointLemmas.entry_made, EntryPointLemmas.entry_once, SegmentLemmas.made_length, LinkedRelocs.locals_same}
-use Rattle.link_laws.proofs.{LinkedRelocs.kept_by, LinkedRelocs.kept_whole}
+use Rattle.link_laws.proofs.{LinkedReports.undefined_are, MoveLemmas.{data_begun, rest_back}, ExternalLemmas.{names_of_rows, entry_among}}
+use Rattle.link_laws.proofs.{EntryPointLemmas.{entry_made, entry_once}, SegmentLemmas.made_length}
+use Rattle.link_laws.proofs.LinkedRelocs.{locals_same, kept_by, kept_whole}
 
 module _ (forced : List (List ℕ)) (os : List Contents) (o : Choices) where
   abbrev p : Plan

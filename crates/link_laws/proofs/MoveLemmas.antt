@@ -1,13 +1,10 @@
 -- How far the segments of objects are moved.
 use Rattle.std.proofs.Common.{◌≡◌, ℕ, ◌+◌, ◌-◌, List, refl, ◌∙◌, ap, arith, rules}
-use Rattle.aout_core.specs.declared.symbol.Segment.TheVariants.{TextSeg, DataSeg, BssSeg}
-use Rattle.aout_core.specs.Addresses.{data_start, data_start_in}
-use Rattle.aout_core.specs.{declared.symbol.Segment.Segment, Contents.Contents, Words.plus, Words.minus}
+use Rattle.aout_core.specs.{declared.symbol.Segment.TheVariants.{TextSeg, DataSeg, BssSeg}, Addresses.{data_start, data_start_in}}
+use Rattle.aout_core.specs.{declared.symbol.Segment.Segment, Contents.Contents, Words.{plus, minus}}
 use Rattle.link_session.specs.{Starts.total, Starts.own}
-use Rattle.tool_options.specs.{declared.options.Layout.Layout, declared.options.Layout.TheVariants.Plain}
-use Rattle.tool_options.specs.{declared.options.Layout.TheVariants.Pure, declared.options.Layout.TheVariants.Split, Choices.Choices}
-use Rattle.link_out.specs.Layouts.{data_base, magic_of}
-use Rattle.link_out.specs.{function.Plans.plan, function.Words.move, function.Link.linked_file}
+use Rattle.tool_options.specs.{declared.options.Layout.Layout, declared.options.Layout.TheVariants.{Plain, Pure, Split}, Choices.Choices}
+use Rattle.link_out.specs.{Layouts.{data_base, magic_of}, function.Plans.plan, function.Words.move, function.Link.linked_file}
 use Rattle.link_laws.specs.relation.Relocated.{move_in}
 
 sum_moved : (b t n : ℕ) → plus b (minus t n) ≡ minus (b + t) n

@@ -1,15 +1,14 @@
 -- A link is refused exactly where an end, a count or a number is too large.
 use Rattle.std.proofs.Common.{◌≡◌, ◌↔◌, ℕ, zero, suc, ◌+◌, ◌<◌, ◌≤◌, Bool, true, false, cond, ◌&&◌, ◌||◌, eqb, eqb-true, List, [], ◌∷◌}
 use Rattle.std.proofs.Common.{◌++◌, map, length, Option, Some, None, refl, sym, ◌∙◌, ap, subst, arith, inl, inr, ◌⊎◌, length-append, rules}
-use Rattle.std.proofs.{lemmas.Bool.ltb-false, lemmas.Bool.ltb-true, lemmas.Bool.lt-ltb, lemmas.Bool.or_right, lemmas.List.length-map}
-use Rattle.std.proofs.lemmas.List.Folds.{list_any-append}
+use Rattle.std.proofs.{lemmas.Bool.{ltb-false, ltb-true, lt-ltb, or_right}, lemmas.List.length-map, lemmas.List.Folds.list_any-append}
 use Rattle.std.proofs.lemmas.Map.Keys.{any_passes_from_place}
-use Rattle.std.specs.Prelude.{filter, slice_get, nat_lt, Result, Ok, Err}
-use Rattle.std.specs.List.{flat_map, list_any, AllByRecursion}
+use Rattle.std.specs.{Prelude.{filter, slice_get, nat_lt, Result, Ok, Err}, List.{flat_map, list_any, AllByRecursion}}
 use Rattle.aout_core.specs.declared.symbol.Segment.TheVariants.{TextSeg, DataSeg, BssSeg}
 use Rattle.aout_core.specs.WellFormed.{kind_of, symbol_number, is_wanted, kind_fault}
 use Rattle.aout_core.specs.{declared.symbol.Symbol.Symbol, declared.symbol.Segment.Segment, declared.reloc.Reloc.Reloc}
 use Rattle.aout_core.specs.{declared.reloc.Kind.Kind, declared.object.ObjectFault.ObjectFault, Contents.Contents, Words.plus}
+use Rattle.aout_core.specs.declared.reloc.Kind.TheVariants as kinds
 use Rattle.link_session.specs.Mentions.{Mention, mentions, names_by_first_mention, externals, place_of}
 use Rattle.link_session.specs.Cells.{referent, referent_by, name_in, words_of, segment_words, segment_relocs}
 use Rattle.link_session.specs.{declared.state.State.State, declared.state.State.TheVariants.Defined}
@@ -18,18 +17,14 @@ use Rattle.link_out.specs.declared.linked.LinkFault.TheVariants.{DoesNotFit, Too
 use Rattle.link_out.specs.function.Finals.{final, final_by, bound_at, waiting, reserved_or_waiting}
 use Rattle.link_out.specs.function.Tables.{is_kept_local, rows_kept, moved_local, local_rows, external_row, external_rows, table, row_of}
 use Rattle.link_out.specs.function.Tables.{number_too_large, needs_too_large, has_too_large_in, has_number_too_large}
-use Rattle.link_out.specs.{declared.linked.LinkFault.LinkFault, Layouts.data_base, function.Plans.Plan, function.Plans.plan}
-use Rattle.link_out.specs.{function.Plans.common_size, function.Plans.common_offset, function.Reports.report_of}
-use Rattle.link_out.specs.{internal.InOrder.commons_size_in, function.Link.Outcome, function.Link.linked_file, function.Link.link}
-use Rattle.tool_options.specs.declared.options.Keep.{Keep}
-use Rattle.tool_options.specs.declared.options.Keep.TheVariants.{All, NotL, Externals, Nothing}
+use Rattle.link_out.specs.{declared.linked.LinkFault.LinkFault, Layouts.data_base, function.Plans.{Plan, plan, common_size, common_offset}}
+use Rattle.link_out.specs.{function.Reports.report_of, internal.InOrder.commons_size_in, function.Link.{Outcome, linked_file, link}}
+use Rattle.tool_options.specs.{declared.options.Keep.Keep, declared.options.Keep.TheVariants.{All, NotL, Externals, Nothing}}
 use Rattle.tool_options.specs.Choices.{Choices, lays_commons}
 use Rattle.link_laws.specs.relation.Refusals.{CommonsTake, EndsAt, kept_locals, entries, entry_count, HasNumberTooLarge, IsRefused}
 use Rattle.link_laws.specs.{relation.NameStates.HasState, relation.NameStates.IsWanted, relation.LinkedTable.space_for}
 use Rattle.link_out.proofs.{InOrderLemmas.named_by, InOrderLemmas.commons_size-all, OutcomeLemmas.not_over}
-use Rattle.link_laws.proofs.{HasStateLemmas.has_state, HasStateLemmas.state_is, SegmentLemmas.words_back, SegmentLemmas.word_at}
-use Rattle.link_laws.proofs.{LinkedRows.space_laid}
-use Rattle.aout_core.specs.declared.reloc.Kind.TheVariants as kinds
+use Rattle.link_laws.proofs.{HasStateLemmas.{has_state, state_is}, SegmentLemmas.{words_back, word_at}, LinkedRows.space_laid}
 
 -- no two of these are equal
 

@@ -1,26 +1,23 @@
 -- The words of a linked file are those of its objects, relocated.
 use Rattle.std.proofs.Common.{◌≡◌, ◌≢◌, ℕ, ◌+◌, ◌*◌, ◌/◌, ◌≤◌, true, cond, List, [], ◌∷◌, ◌++◌, length, Option, Some, None, refl, sym, ◌∙◌}
-use Rattle.std.proofs.Common.{ap, subst, arith}
-use Rattle.std.proofs.lemmas.Option.{same_Some}
+use Rattle.std.proofs.{Common.{ap, subst, arith}, lemmas.Option.same_Some}
 use Rattle.std.specs.{Prelude.slice_get, Prelude.Ok, List.AllByRecursion}
 use Rattle.aout_core.specs.declared.symbol.Segment.TheVariants.{TextSeg, DataSeg, BssSeg}
-use Rattle.aout_core.specs.WellFormed.{kind_of, is_pc_relative, symbol_number, is_wanted, kind_fault}
-use Rattle.aout_core.specs.{declared.symbol.Symbol.Symbol, declared.symbol.Segment.Segment, declared.reloc.Reloc.Reloc}
-use Rattle.aout_core.specs.{declared.reloc.Kind.Kind, declared.object.ObjectFault.ObjectFault, Contents.Contents, Words.plus, Words.minus}
-use Rattle.aout_core.specs.{declared.header.Header.Header}
+use Rattle.aout_core.specs.{WellFormed.{kind_of, is_pc_relative, symbol_number, is_wanted, kind_fault}, declared.symbol.Symbol.Symbol}
+use Rattle.aout_core.specs.{declared.symbol.Segment.Segment, declared.reloc.Reloc.Reloc, declared.reloc.Kind.Kind}
+use Rattle.aout_core.specs.{declared.object.ObjectFault.ObjectFault, Contents.Contents, Words.{plus, minus}, declared.header.Header.Header}
+use Rattle.aout_core.specs.declared.reloc.Kind.TheVariants as kinds
 use Rattle.link_session.specs.Cells.{referent, referent_by, name_in, segment_words, segment_relocs}
 use Rattle.link_session.specs.{Starts.total, Sessions.IsObject, Mentions.mentions, Mentions.names_of, Mentions.names_by_first_mention}
 use Rattle.tool_options.specs.{NameLists.is_among, declared.options.Keep.TheVariants.Nothing, Choices.Choices}
 use Rattle.link_session.proofs.{CellLemmas.RefersAmong, MentionLemmas.is_among-externals}
-use Rattle.link_out.specs.function.Link.{Outcome, linked_file, link, linked_header}
-use Rattle.link_out.specs.{function.Plans.Plan, function.Plans.plan, function.Plans.commons_laid, function.Finals.final}
-use Rattle.link_out.specs.{function.Words.referent_move, function.Words.final_word, function.Words.final_words}
-use Rattle.link_out.specs.{function.Tables.external_row, function.Tables.table}
+use Rattle.link_out.specs.{function.Link.{Outcome, linked_file, link, linked_header}, function.Plans.{Plan, plan, commons_laid}}
+use Rattle.link_out.specs.{function.Finals.final, function.Words.{referent_move, final_word, final_words}}
+use Rattle.link_out.specs.function.Tables.{external_row, table}
 use Rattle.link_laws.specs.relation.Relocated.{move_in, IsAddressOf, IsAdded, IsRelocated, HoldsObjects, entry_of, address_in}
 use Rattle.link_out.proofs.OutcomeLemmas.{made_file}
 use Rattle.link_laws.proofs.SegmentLemmas.{HasWords, made_length, made_found, made_whole, IsWord, words_back, front_objects, word_at}
 use Rattle.link_laws.proofs.{MoveLemmas.move_by_header, ExternalLemmas.entry_there, ExternalLemmas.row_address}
-use Rattle.aout_core.specs.declared.reloc.Kind.TheVariants as kinds
 
 module _ (forced : List (List ℕ)) (os : List Contents) (o : Choices) where
   abbrev p : Plan

@@ -1,13 +1,11 @@
 -- What the entries of objects say of names, and the mentions that they make: multiples are definitions that differ.
 use Rattle.std.proofs.Common.{◌≡◌, ◌↔◌, ℕ, zero, suc, ◌+◌, Bool, true, false, cond, ◌||◌, List, [], ◌∷◌, ◌++◌, map, length, Option, Some}
-use Rattle.std.proofs.Common.{None, refl, sym, ◌∙◌, ap, subst, append_assoc, rules}
-use Rattle.std.proofs.lemmas.Slice.Eq.{bytes_eq-Decides}
+use Rattle.std.proofs.{Common.{None, refl, sym, ◌∙◌, ap, subst, append_assoc, rules}, lemmas.Slice.Eq.bytes_eq-Decides}
 use Rattle.std.specs.{Prelude.bytes_eq, Prelude.filter, Prelude.slice_get, Prelude.Ok, List.AllByRecursion}
 use Rattle.aout_core.specs.WellFormed.{is_external, segment_of, first_of}
 use Rattle.aout_core.specs.{declared.symbol.Symbol.Symbol, declared.symbol.Segment.Segment, Contents.Contents}
 use Rattle.aout_core.proofs.AlikeLemmas.{slice_get_after}
-use Rattle.link_session.specs.declared.state.State.{State}
-use Rattle.link_session.specs.declared.state.State.TheVariants.{Defined, Wanted}
+use Rattle.link_session.specs.{declared.state.State.State, declared.state.State.TheVariants.{Defined, Wanted}}
 use Rattle.link_session.specs.Mentions.{Mention, mention, mentions, mentions_in, forced_mention, statement}
 use Rattle.link_session.specs.States.{Definition, definition_by, first_definition, differs, multiple_names}
 use Rattle.tool_options.specs.{NameLists.is_among, Choices.Choices}

@@ -3,8 +3,7 @@ use Rattle.std.proofs.Common.{◌≡◌, ℕ, zero, suc, ◌+◌, ◌*◌, ◌/�
 use Rattle.std.proofs.Common.{subst, arith, append-nil, inl, inr, ◌⊎◌, rules}
 use Rattle.std.proofs.{lemmas.Grind.common_steps, lemmas.List.length-map, lemmas.List.Sums.sum_by-append}
 use Rattle.std.specs.{Prelude.slice_get, List.AllByRecursion}
-use Rattle.aout_core.specs.declared.symbol.Segment.TheVariants.{TextSeg, DataSeg}
-use Rattle.aout_core.specs.WellFormed.{word_fault, first_of, first_bad_word}
+use Rattle.aout_core.specs.{declared.symbol.Segment.TheVariants.{TextSeg, DataSeg}, WellFormed.{word_fault, first_of, first_bad_word}}
 use Rattle.aout_core.specs.{declared.symbol.Symbol.Symbol, declared.symbol.Segment.Segment, declared.reloc.Reloc.Reloc}
 use Rattle.aout_core.specs.{declared.object.ObjectFault.ObjectFault, Contents.Contents}
 use Rattle.aout_core.proofs.AlikeLemmas.{slice_get_after}

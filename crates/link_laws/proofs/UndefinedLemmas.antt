@@ -1,7 +1,6 @@
 -- The undefined names of a linked file: those that are reported have no address, and where none is each has one.
 use Rattle.std.proofs.Common.{◌≡◌, ◌≢◌, ℕ, ◌%◌, Bool, true, false, cond, not, ◌&&◌, ◌||◌, eqb, List, [], ◌∷◌, Some, None, refl, sym, ◌∙◌}
-use Rattle.std.proofs.Common.{ap, rules}
-use Rattle.std.proofs.{lemmas.Option.same_Some, lemmas.Slice.Eq.bytes_eq-Decides}
+use Rattle.std.proofs.{Common.{ap, rules}, lemmas.Option.same_Some, lemmas.Slice.Eq.bytes_eq-Decides}
 use Rattle.std.specs.Prelude.{bytes_eq, filter, Ok}
 use Rattle.aout_core.specs.declared.symbol.Segment.TheVariants.{Undefined, TextSeg, DataSeg, BssSeg, Other}
 use Rattle.aout_core.specs.{declared.symbol.Symbol.Symbol, Contents.Contents, Words.plus, WellFormed.masked_type}
@@ -13,8 +12,7 @@ use Rattle.link_out.specs.function.Finals.{Final, final, final_by, type_of, boun
 use Rattle.link_out.specs.function.Reports.{ReportNames, is_undefined, undefined_names, reserved_names}
 use Rattle.link_out.specs.{Layouts.Bases, function.Tables.external_row, function.Link.Outcome, function.Link.link}
 use Rattle.link_laws.specs.relation.Relocated.{entry_of}
-use Rattle.link_out.proofs.partial_links.PartialLemmas.{IsProper, state_is_proper}
-use Rattle.link_out.proofs.OutcomeLemmas.{made_file, made_report}
+use Rattle.link_out.proofs.{partial_links.PartialLemmas.{IsProper, state_is_proper}, OutcomeLemmas.{made_file, made_report}}
 use Rattle.link_laws.proofs.ExternalLemmas.{entry_in_table, entry_there}
 
 none_filtered : (t : List ℕ → Bool) (names : List (List ℕ)) (name : List ℕ) → filter t names ≡ [] →

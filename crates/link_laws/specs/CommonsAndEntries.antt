@@ -1,16 +1,13 @@
 -- What a linked file means, for its commons, entry word and undefined names, and as an object. (ld(1))
 --
 -- Like the laws of WordsAndNames, each answers one question and follows from the relation of LinkedFrom. No other proof rests on it.
-use Rattle.std.specs.Prelude.{◌≡◌, ◌≢◌, ℕ, ◌+◌, ◌≤◌, ◌⊎◌, true, false, eqb, List, Some, None, Ok, bytes_eq}
-use Rattle.std.specs.List.{AllByRecursion}
+use Rattle.std.specs.{Prelude.{◌≡◌, ◌≢◌, ℕ, ◌+◌, ◌≤◌, ◌⊎◌, true, false, eqb, List, Some, None, Ok, bytes_eq}, List.AllByRecursion}
 use Rattle.aout_core.specs.{declared.symbol.Symbol.Symbol, declared.symbol.Segment.TheVariants.BssSeg, Contents.Contents}
 use Rattle.aout_core.specs.{Addresses.data_start_in}
 use Rattle.link_session.specs.{Starts.total, Sessions.IsObject, Mentions.mentions}
-use Rattle.tool_options.specs.Choices.{Choices, lays_commons, option_fault}
-use Rattle.tool_options.specs.{NameLists.is_among, declared.options.Keep.TheVariants.Nothing}
+use Rattle.tool_options.specs.{Choices.{Choices, lays_commons, option_fault}, NameLists.is_among, declared.options.Keep.TheVariants.Nothing}
 use Rattle.link_out.specs.function.Link.{Outcome, link}
-use Rattle.link_laws.specs.relation.NameStates.{IsWanted}
-use Rattle.link_laws.specs.relation.Relocated.{base_in, entry_of, IsEntry}
+use Rattle.link_laws.specs.{relation.NameStates.IsWanted, relation.Relocated.{base_in, entry_of, IsEntry}}
 
 -- a name that no object defines, and that they want at this size, which is not 0
 pub record IsCommon (forced : List (List ℕ)) (os : List Contents) (name : List ℕ) (size : ℕ) : Type 0 where

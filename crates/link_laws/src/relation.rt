@@ -1,6 +1,5 @@
 //! What linking is, over definitions alone. The law is the contract of a function with an empty body.
-ghost use Rattle.link_laws.specs.relation.LinkedFrom.{LinkedExactly, LinkedOnce};
-ghost use Rattle.link_laws.specs.relation.Refusals.{RefusedExactly};
+ghost use Rattle.link_laws.specs.{relation.LinkedFrom.{LinkedExactly, LinkedOnce}, relation.Refusals.RefusedExactly};
 
 /// What linking is: the relation `IsLinkedFrom` of specs/relation/LinkedFrom holds of what a link gives, and of nothing else. It is
 /// stated over the objects, the forced names, the options, the file and the report alone. (ld(1), a.out(5))

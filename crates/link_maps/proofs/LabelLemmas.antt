@@ -1,15 +1,12 @@
 -- The nearest label, found among the labels of its segment.
 use Rattle.std.proofs.Common.{◌≡◌, ℕ, zero, suc, Bool, true, false, ◌&&◌, cond, List, [], ◌∷◌, filter, get_or, slice_get, nat_lt, nat_le}
-use Rattle.std.proofs.Common.{◌==◌, if◌then◌else◌, Option, Some, None, refl, sym, ◌∙◌, ap, arith}
-use Rattle.std.proofs.lemmas.Bool.Decides.{nat_tests}
+use Rattle.std.proofs.{Common.{◌==◌, if◌then◌else◌, Option, Some, None, refl, sym, ◌∙◌, ap, arith}, lemmas.Bool.Decides.nat_tests}
 use Rattle.std.proofs.lemmas.List.Sorted.{IsStrictWeakOrder-flip, IsStrictWeakOrder-by_number, sorted_far}
-use Rattle.std.specs.declared.cmp.Ordering.TheVariants.{Less, Equal, Greater}
-use Rattle.std.specs.List.Sorted.{IsSortedBy, IsPartitionedBy, IsPartitionPoint}
-use Rattle.std.specs.{Cmp.IsStrictWeakOrder, Ordering.nat_cmp, Ordering.is_lt, declared.cmp.Ordering.Ordering}
+use Rattle.std.specs.{declared.cmp.Ordering.TheVariants.{Less, Equal, Greater}, List.Sorted.{IsSortedBy, IsPartitionedBy, IsPartitionPoint}}
+use Rattle.std.specs.{Cmp.IsStrictWeakOrder, Ordering.{nat_cmp, is_lt}, declared.cmp.Ordering.Ordering}
 use Rattle.aout_core.specs.{declared.symbol.Symbol.Symbol, declared.symbol.Segment.Segment}
 use Rattle.symtools.specs.NmLists.{inserted, in_order}
-use Rattle.link_maps.specs.References.{is_nearer, nearer, nearest}
-use Rattle.link_maps.specs.internal.Labels.{is_of, is_higher, AreLabels, first_from}
+use Rattle.link_maps.specs.{References.{is_nearer, nearer, nearest}, internal.Labels.{is_of, is_higher, AreLabels, first_from}}
 
 -- the nearer of two labels, and the first of two at one address
 abbrev either : Option Symbol → Option Symbol → Option Symbol

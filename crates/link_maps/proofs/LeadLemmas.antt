@@ -1,6 +1,5 @@
 -- The words of a part that lead somewhere, to the last of them.
-use Rattle.std.proofs.Common.{◌≡◌, ℕ, Bool, ◌⊎◌, inl, inr, List, [], ◌∷◌, ◌++◌, refl, sym, ap, ◌∙◌}
-use Rattle.std.proofs.lemmas.List.{append-nil}
+use Rattle.std.proofs.{Common.{◌≡◌, ℕ, Bool, ◌⊎◌, inl, inr, List, [], ◌∷◌, ◌++◌, refl, sym, ap, ◌∙◌}, lemmas.List.append-nil}
 use Rattle.aout_core.specs.{Contents.Contents, declared.part.Part.Part, declared.reloc.Reloc.Reloc}
 use Rattle.link_maps.specs.{Leads.leads_in, declared.leads.Lead.Lead}
 

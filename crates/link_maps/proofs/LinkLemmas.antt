@@ -1,7 +1,6 @@
 -- What a session keeps of the objects of a map is what it keeps of the inputs from which they were read.
-use Rattle.std.proofs.Common.{◌≡◌, ◌≢◌, ℕ, zero, suc, ◌+◌, not, is_some, List, [], ◌∷◌, ◌++◌, length, Option, Some}
-use Rattle.std.proofs.Common.{None, Result, Ok, Err, refl, sym, ap, ◌∙◌, subst, arith}
-use Rattle.std.proofs.lemmas.List.{length-append, map-append}
+use Rattle.std.proofs.Common.{◌≡◌, ◌≢◌, ℕ, zero, suc, ◌+◌, not, is_some, List, [], ◌∷◌, ◌++◌, length, Option, Some, None, Result, Ok, Err}
+use Rattle.std.proofs.{Common.{refl, sym, ap, ◌∙◌, subst, arith}, lemmas.List.{length-append, map-append}}
 use Rattle.std.specs.Prelude.{IfSome}
 use Rattle.aout_core.specs.{Contents.Contents, Decoding.decode, Refusals.refused, WellFormed.first_of}
 use Rattle.link_session.specs.{declared.entry.AddFault.AddFault, Labelled.Labelled, Labelled.objects, Limits.refusal}
@@ -9,10 +8,9 @@ use Rattle.tool_options.specs.Choices.{Choices}
 use Rattle.link_out.specs.Inputs.{Cause, Refusal, of_input, not_added, not_linked, at_path, kept_with, linked, object_in, with_inputs}
 use Rattle.link_out.specs.{declared.linked.Linked.Linked, declared.linked.LinkFault.LinkFault, declared.linked.LinkFault.TheVariants.Memory}
 use Rattle.link_out.specs.{function.Link.link, Outcomes.IsLinkOf, Results.Outcome as Linkage, Steps.and_then, Steps.refused_as, Steps.unless}
-use Rattle.link_maps.specs.Links.{ShowsLink, link_shown, path_at, read_inputs}
-use Rattle.link_maps.specs.Taking.{Split, split, split_by, split_from, split_of}
+use Rattle.link_maps.specs.{Links.{ShowsLink, link_shown, path_at, read_inputs}, Taking.{Split, split, split_by, split_from, split_of}}
 use Rattle.link_maps.specs.{declared.members.Objects.Objects, declared.members.Refused.Refused, declared.outcome.Outcome.Outcome}
-use Rattle.link_maps.specs.{Members.all_of, Members.cause_of, Rows.IsOutcome}
+use Rattle.link_maps.specs.{Members.{all_of, cause_of}, Rows.IsOutcome}
 
 abbrev kept_so_far : List Labelled → Split
 kept_so_far kept = record { kept = kept; cause = None; left = [] }

@@ -1,10 +1,8 @@
 -- The uses of each name, cut off one name after another.
-use Rattle.std.proofs.Common.{◌≡◌, ℕ, suc, ◌+◌, ◌≤◌, ◌<◌, Bool, true, false, if◌then◌else◌, List, [], ◌∷◌, ◌++◌, take, drop, get_or}
-use Rattle.std.proofs.Common.{length, refl, sym, ap, ◌∙◌, arith, append_assoc, length-drop}
-use Rattle.std.proofs.lemmas.List.{drop_more, map-append}
+use Rattle.std.proofs.Common.{◌≡◌, ℕ, suc, ◌+◌, ◌≤◌, ◌<◌, Bool, true, false, if◌then◌else◌, List, [], ◌∷◌, ◌++◌, take, drop, get_or, length}
+use Rattle.std.proofs.{Common.{refl, sym, ap, ◌∙◌, arith, append_assoc, length-drop}, lemmas.List.{drop_more, map-append}}
 use Rattle.std.specs.Borrow.{Bor}
-use Rattle.link_maps.specs.Records.{by_name, is_same_name, more_of_name, uses_of_name, with_use}
-use Rattle.link_maps.specs.{Uses.Use, Groups.groups_of}
+use Rattle.link_maps.specs.{Records.{by_name, is_same_name, more_of_name, uses_of_name, with_use}, Uses.Use, Groups.groups_of}
 
 -- one more use before the first name, whether it is of that name or not
 cut_step : (u v : Use) (vs : List Use) (b : Bool) →

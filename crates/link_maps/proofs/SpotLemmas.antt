@@ -1,6 +1,5 @@
 -- An object without places has nothing at an address.
-use Rattle.std.proofs.Common.{◌≡◌, ℕ, List, ◌++◌, Option, None, sym, ap, ◌∙◌}
-use Rattle.std.proofs.lemmas.List.{append-nil}
+use Rattle.std.proofs.{Common.{◌≡◌, ℕ, List, ◌++◌, Option, None, sym, ap, ◌∙◌}, lemmas.List.append-nil}
 use Rattle.aout_core.specs.declared.header.Header.{Header}
 use Rattle.link_maps.specs.{Spots.spots_by, declared.places.Places.Places, declared.spots.Spot.Spot}
 

@@ -1,6 +1,5 @@
 -- Objects as a session takes them, one after another.
-use Rattle.std.proofs.Common.{◌≡◌, ℕ, List, [], ◌∷◌, ◌++◌, Option, Some, None, refl, sym, ap, ◌∙◌}
-use Rattle.std.proofs.lemmas.List.{append-nil, append_assoc}
+use Rattle.std.proofs.{Common.{◌≡◌, ℕ, List, [], ◌∷◌, ◌++◌, Option, Some, None, refl, sym, ap, ◌∙◌}, lemmas.List.{append-nil, append_assoc}}
 use Rattle.aout_core.specs.WellFormed.{first_of}
 use Rattle.link_session.specs.{declared.entry.AddFault.AddFault, Labelled.Labelled, Labelled.objects, Limits.refusal, Sessions.nothing_kept}
 use Rattle.link_session.specs.{Undo.Kept}

@@ -5,12 +5,10 @@
 -- the pc. A word leads to a symbol by its number, or if the symbol is at that address of that segment.
 use Rattle.std.specs.Prelude.{ℕ, ◌-◌, ◌/◌, Bool, false, ◌&&◌, eqb, if◌then◌else◌, List, [], ◌∷◌, ◌++◌, Option, Some, None, slice_get}
 use Rattle.std.specs.List.{flat_map}
-use Rattle.aout_core.specs.WellFormed.{first_of, kind_of, symbol_number}
-use Rattle.aout_core.specs.{declared.symbol.Symbol.Symbol, declared.symbol.Segment.TheVariants.TextSeg}
-use Rattle.aout_core.specs.{declared.symbol.Segment.TheVariants.DataSeg, declared.symbol.Segment.TheVariants.BssSeg}
-use Rattle.aout_core.specs.{declared.reloc.Reloc.Reloc, declared.reloc.Kind.Kind, Addresses.pc_target, Addresses.target}
-use Rattle.aout_core.specs.{Contents.Contents, Words.plus, declared.part.Part.Part}
-use Rattle.aout_core.specs.{declared.part.Part.TheVariants.Text, declared.part.Part.TheVariants.Data}
+use Rattle.aout_core.specs.{WellFormed.{first_of, kind_of, symbol_number}, declared.symbol.Symbol.Symbol}
+use Rattle.aout_core.specs.{declared.symbol.Segment.TheVariants.{TextSeg, DataSeg, BssSeg}, declared.reloc.Reloc.Reloc}
+use Rattle.aout_core.specs.{declared.reloc.Kind.Kind, Addresses.{pc_target, target}, Contents.Contents, Words.plus, declared.part.Part.Part}
+use Rattle.aout_core.specs.declared.part.Part.TheVariants.{Text, Data}
 use Rattle.aout_core.specs.declared.reloc.Kind.TheVariants as kinds
 use Rattle.instructions.specs.{declared.mode.Addressing.Addressing, declared.operand.Operand.Operand}
 use Rattle.instructions.specs.declared.operand.Operand.TheVariants.{General, Forward, Backward}

@@ -6,8 +6,8 @@ use Rattle.aout_core.specs.{Contents.Contents, Decoding.decode}
 use Rattle.tool_options.specs.Choices.{Choices}
 use Rattle.link_out.specs.Inputs.{Refusal, of_input, not_added, not_linked, at_path, linked, object_in}
 use Rattle.link_out.specs.{declared.linked.Linked.Linked, declared.linked.LinkFault.LinkFault, Outcomes.outcome_of, Steps.and_then}
-use Rattle.link_maps.specs.{declared.members.Objects.Objects, declared.outcome.Outcome.Outcome}
 use Rattle.link_out.specs.Results as results
+use Rattle.link_maps.specs.{declared.members.Objects.Objects, declared.outcome.Outcome.Outcome}
 
 -- the objects of all inputs, or the first that is not one
 abbrev pub read_inputs : List (List ℕ × List ℕ) → Result (List Contents) Refusal

@@ -3,8 +3,7 @@
 -- A session takes the objects in order, up to the first that passes a limit. That one and those after it are left, but the
 -- map shows them too.
 use Rattle.std.specs.Prelude.{ℕ, ◌+◌, ◌-◌, ◌^◌, min, List, [], ◌∷◌, ◌++◌, length, Option, Some, None}
-use Rattle.aout_core.specs.{declared.header.Header.Header, declared.part.Part.Part, declared.part.Part.TheVariants.Text}
-use Rattle.aout_core.specs.{declared.part.Part.TheVariants.Data}
+use Rattle.aout_core.specs.{declared.header.Header.Header, declared.part.Part.Part, declared.part.Part.TheVariants.{Text, Data}}
 use Rattle.link_session.specs.{declared.entry.AddFault.AddFault, Labelled.Labelled}
 use Rattle.link_out.specs.Layouts.{Bases}
 use Rattle.link_maps.specs.{declared.members.Refused.Refused, declared.members.Objects.Objects, declared.places.Places.Places}

@@ -2,14 +2,12 @@
 --
 -- Objects and names are numbered from 0, names in their order. The uses of a name are one after another, and after each the words
 -- of its object that refer to the name.
-use Rattle.std.specs.Prelude.{ℕ, suc, ◌+◌, Bool, not, ◌&&◌, is_some, if◌then◌else◌, Option, Some, None, List, []}
-use Rattle.std.specs.Prelude.{◌∷◌, ◌++◌, drop, map, replicate, zip, bytes_eq, position, slice_get}
-use Rattle.std.specs.List.{flat_map}
+use Rattle.std.specs.Prelude.{ℕ, suc, ◌+◌, Bool, not, ◌&&◌, is_some, if◌then◌else◌, Option, Some, None, List, [], ◌∷◌, ◌++◌, drop, map}
+use Rattle.std.specs.{Prelude.{replicate, zip, bytes_eq, position, slice_get}, List.flat_map}
 use Rattle.aout_core.specs.{Names.padded, declared.symbol.Symbol.Symbol, declared.part.Part.Part, declared.part.Part.TheVariants.Text}
 use Rattle.aout_core.specs.{declared.part.Part.TheVariants.Data}
 use Rattle.link_session.specs.{Labelled.number_or_none, Undo.Kept}
-use Rattle.link_maps.specs.Members.{Member, capped, start_in}
-use Rattle.link_maps.specs.Uses.{Use, is_common, is_definition, name_of, stays_undefined}
+use Rattle.link_maps.specs.{Members.{Member, capped, start_in}, Uses.{Use, is_common, is_definition, name_of, stays_undefined}}
 use Rattle.link_maps.specs.{declared.outcome.Outcome.Outcome, declared.places.Places.Places, declared.name_records.NameRecord.NameRecord}
 use Rattle.link_maps.specs.{declared.records.ObjectRecord.ObjectRecord, declared.records.UseRecord.UseRecord}
 use Rattle.link_maps.specs.{declared.references.Before.Before, declared.references.ReferringWord.ReferringWord}

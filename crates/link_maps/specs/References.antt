@@ -5,12 +5,10 @@
 -- the first of the table. In text the labels of functions come first: the other labels count if none of those is before the line.
 use Rattle.std.specs.Prelude.{ℕ, ◌-◌, ◌*◌, ◌/◌, Bool, true, false, ◌&&◌, ◌||◌, eqb, nat_lt, nat_le, if◌then◌else◌, List, [], ◌∷◌}
 use Rattle.std.specs.Prelude.{length, filter, Option, Some, None}
-use Rattle.aout_core.specs.WellFormed.{first_of, is_external, segment_of, segment_number}
-use Rattle.aout_core.specs.{declared.symbol.Symbol.Symbol, declared.symbol.Segment.Segment, declared.symbol.Segment.TheVariants.TextSeg}
-use Rattle.aout_core.specs.{declared.symbol.Segment.TheVariants.DataSeg, declared.symbol.Segment.TheVariants.BssSeg}
-use Rattle.aout_core.specs.{declared.reloc.Reloc.Reloc}
-use Rattle.aout_core.specs.{Contents.Contents, Words.plus, declared.part.Part.Part}
-use Rattle.aout_core.specs.{declared.part.Part.TheVariants.Text, declared.part.Part.TheVariants.Data}
+use Rattle.aout_core.specs.{WellFormed.{first_of, is_external, segment_of, segment_number}, declared.symbol.Symbol.Symbol}
+use Rattle.aout_core.specs.{declared.symbol.Segment.Segment, declared.symbol.Segment.TheVariants.{TextSeg, DataSeg, BssSeg}}
+use Rattle.aout_core.specs.{declared.reloc.Reloc.Reloc, Contents.Contents, Words.plus, declared.part.Part.Part}
+use Rattle.aout_core.specs.declared.part.Part.TheVariants.{Text, Data}
 use Rattle.instructions.specs.declared.unix.Decoder.TheVariants.{Unix}
 use Rattle.disassemblies.specs.{Lines.line_text_in, Starts.line_start}
 use Rattle.link_session.specs.Starts.{own}

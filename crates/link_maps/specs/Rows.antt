@@ -1,10 +1,8 @@
 -- What becomes of a link, and the row that its table has for a name. (ld(1))
 use Rattle.std.specs.Prelude.{◌≡◌, ◌≢◌, ◌↔◌, ℕ, ◌<◌, max, cond, Bool, ◌||◌, List, [], ◌∷◌, Option, Some, None, Result, Ok, Err, Vec}
-use Rattle.std.specs.Prelude.{bytes_eq, position, slice_get, IfSome, IsNone}
-use Rattle.std.specs.declared.alloc.Global.{Global}
-use Rattle.aout_core.specs.WellFormed.{kind_of, symbol_number}
-use Rattle.aout_core.specs.{declared.symbol.Symbol.Symbol, declared.reloc.Reloc.Reloc, declared.reloc.Kind.Kind}
-use Rattle.aout_core.specs.{declared.reloc.Kind.TheVariants.External, Contents.Contents, Refusals.refused}
+use Rattle.std.specs.{Prelude.{bytes_eq, position, slice_get, IfSome, IsNone}, declared.alloc.Global.Global}
+use Rattle.aout_core.specs.{WellFormed.{kind_of, symbol_number}, declared.symbol.Symbol.Symbol, declared.reloc.Reloc.Reloc}
+use Rattle.aout_core.specs.{declared.reloc.Kind.Kind, declared.reloc.Kind.TheVariants.External, Contents.Contents, Refusals.refused}
 use Rattle.link_session.specs.{Labelled.objects, Mentions.externals, Undo.Kept, Undo.image_of}
 use Rattle.tool_options.specs.{NameLists.is_among, Choices.Choices}
 use Rattle.link_out.specs.{declared.linked.Linked.Linked, declared.linked.LinkFault.LinkFault}

@@ -3,12 +3,10 @@
 -- With separate spaces text has the addresses of data and bss too, and if an object is refused the addresses of each segment count from 0:
 -- then an address has several spots.
 use Rattle.std.specs.Prelude.{ℕ, ◌+◌, ◌-◌, ◌&&◌, nat_le, nat_lt, if◌then◌else◌, List, [], ◌∷◌, ◌++◌, Option, Some, None, slice_get}
-use Rattle.aout_core.specs.{declared.header.Header.Header, declared.part.Part.Part, declared.part.Part.TheVariants.Text}
-use Rattle.aout_core.specs.{declared.part.Part.TheVariants.Data}
+use Rattle.aout_core.specs.{declared.header.Header.Header, declared.part.Part.Part, declared.part.Part.TheVariants.{Text, Data}}
 use Rattle.link_out.specs.Layouts.{Bases}
 use Rattle.link_maps.specs.{Members.Member, Rows.bases_of, declared.map.LinkMap.LinkMap, declared.places.Places.Places}
-use Rattle.link_maps.specs.declared.spots.Spot.{Spot}
-use Rattle.link_maps.specs.declared.spots.Spot.TheVariants.{Word, Bss, Common}
+use Rattle.link_maps.specs.{declared.spots.Spot.Spot, declared.spots.Spot.TheVariants.{Word, Bss, Common}}
 
 -- how many bytes an address is after the first of a segment that has it
 abbrev pub offset_in : ℕ → ℕ → ℕ → Option ℕ

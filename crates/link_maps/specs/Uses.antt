@@ -4,8 +4,7 @@
 -- name is used by no object. The map has the uses in the order of their names; those of one name stay in the order of the
 -- objects, forced ones first.
 use Rattle.std.specs.Prelude.{ℕ, ◌+◌, Bool, false, not, ◌&&◌, eqb, if◌then◌else◌, List, [], ◌∷◌, ◌++◌, map, Option, Some, None, position}
-use Rattle.std.specs.Prelude.{slice_get, unwrap_or}
-use Rattle.std.specs.{List.list_any, Cmp.Lexicographic.slice_cmp, Ordering.nat_cmp, Ordering.is_lt}
+use Rattle.std.specs.{Prelude.{slice_get, unwrap_or}, List.list_any, Cmp.Lexicographic.slice_cmp, Ordering.{nat_cmp, is_lt}}
 use Rattle.aout_core.specs.{declared.symbol.Symbol.Symbol, Contents.Contents, WellFormed.is_external, WellFormed.masked_type}
 use Rattle.instructions.specs.declared.unix.Decoder.TheVariants.{Unix}
 use Rattle.disassemblies.specs.Starts.{starts}

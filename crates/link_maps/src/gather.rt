@@ -1,8 +1,7 @@
 //! The objects of a map and the uses of names in them, gathered.
 ghost use Rattle.std.specs.Prelude.{◌≡◌, ◌++◌, ◌∷◌, [], length, map, IfOk, OnOk};
 ghost use Rattle.link_session.specs.Labelled.{objects};
-ghost use Rattle.link_maps.specs.Members.{all_of, member_of};
-ghost use Rattle.link_maps.specs.Uses.{uses_in, uses_from, uses_in_order};
+ghost use Rattle.link_maps.specs.{Members.{all_of, member_of}, Uses.{uses_in, uses_from, uses_in_order}};
 
 use crate::members::{Listed, Member, Objects, put_member};
 use crate::uses::{Use, put_forced, put_uses, sort_by_name};

@@ -1,7 +1,6 @@
 //! The uses of each name.
 ghost use Rattle.std.specs.Prelude.{◌≡◌, ◌<◌, ◌≤◌, length, IfOk};
-ghost use Rattle.link_maps.specs.Records.{by_name, is_same_name, uses_of_name};
-ghost use Rattle.link_maps.specs.Groups.{groups_of};
+ghost use Rattle.link_maps.specs.{Records.{by_name, is_same_name, uses_of_name}, Groups.groups_of};
 
 use crate::uses::Use;
 use std::alloc::{AllocError, Global};

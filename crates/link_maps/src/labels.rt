@@ -1,6 +1,5 @@
 //! The labels of an object by their addresses.
-ghost use Rattle.std.specs.Prelude.{◌≡◌, None, nat_lt, filter, slice_get, IfOk, OnOk};
-ghost use Rattle.std.specs.List.Sorted.{IsSortedBy};
+ghost use Rattle.std.specs.{Prelude.{◌≡◌, None, nat_lt, filter, slice_get, IfOk, OnOk}, List.Sorted.IsSortedBy};
 ghost use Rattle.symtools.specs.NmLists.{in_order};
 ghost use Rattle.aout_core.specs.declared.symbol.Segment.TheVariants.{TextSeg, DataSeg, BssSeg};
 ghost use Rattle.link_maps.specs.References.{is_function, label_before, nearest, nearest_in};

@@ -1,11 +1,8 @@
 //! The whole map.
 ghost use Rattle.std.specs.Prelude.{◌≡◌, is_some, not, map, option_copied, IfOk, IfSome};
 ghost use Rattle.link_session.specs.Labelled.{objects};
-ghost use Rattle.link_maps.specs.Uses.{uses_in_order};
-ghost use Rattle.link_maps.specs.Members.{all_of, first_places, member_of, places_from};
-ghost use Rattle.link_maps.specs.Records.{by_name};
-ghost use Rattle.link_maps.specs.Groups.{groups_of};
-ghost use Rattle.link_maps.specs.Rows.{IsOutcome, bases_of, is_multiple_in, linked_in, reserved_by, row_among, rows_in};
+ghost use Rattle.link_maps.specs.{Uses.uses_in_order, Members.{all_of, first_places, member_of, places_from}, Records.by_name};
+ghost use Rattle.link_maps.specs.{Groups.groups_of, Rows.{IsOutcome, bases_of, is_multiple_in, linked_in, reserved_by, row_among, rows_in}};
 ghost use Rattle.tool_options.specs.NameLists.{is_among};
 
 use crate::gather::{Gathered, gather};

@@ -1,7 +1,6 @@
 //! The whole map as records.
 ghost use Rattle.std.specs.Prelude.{◌≡◌, map, IfOk};
-ghost use Rattle.link_maps.specs.MapLimits.{map_limits};
-ghost use Rattle.link_maps.specs.Records.{by_name, object_records, record_of, records_from};
+ghost use Rattle.link_maps.specs.{MapLimits.map_limits, Records.{by_name, object_records, record_of, records_from}};
 
 use crate::limit_records::{LimitRecord, limits_of};
 use crate::map::LinkMap;

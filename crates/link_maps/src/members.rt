@@ -1,8 +1,7 @@
 //! The objects of a link: those that a session takes, and those that are left if it refuses one.
 ghost use Rattle.std.specs.Prelude.{◌≡◌, ◌++◌, ◌∷◌, [], None, IfOk, IsOk, OnOk};
 ghost use Rattle.link_session.specs.Sessions.{labelled, nothing_kept};
-ghost use Rattle.link_maps.specs.Members.{all_of, cause_of, left_of, member_of};
-ghost use Rattle.link_maps.specs.Taking.{split_of, split_with, with_object};
+ghost use Rattle.link_maps.specs.{Members.{all_of, cause_of, left_of, member_of}, Taking.{split_of, split_with, with_object}};
 
 use aout_core::{File, Header, Object};
 use link_session::{AddFault, Forced, Session};

@@ -1,6 +1,5 @@
 //! What the uses of a name say of it.
-ghost use Rattle.std.specs.Prelude.{◌≡◌, position, slice_get};
-ghost use Rattle.std.specs.List.{list_any};
+ghost use Rattle.std.specs.{Prelude.{◌≡◌, position, slice_get}, List.list_any};
 ghost use Rattle.link_maps.specs.Uses.{is_definition, is_common, telling_place, telling, is_missing_in, stays_undefined};
 
 use crate::uses::Use;

@@ -1,14 +1,10 @@
 //! What becomes of a link: its file and its report, or why it is refused; and the rows of its externals.
 ghost use Rattle.std.specs.Prelude.{◌≡◌, ◌≢◌, Err, bytes_eq, position, IfOk};
 ghost use Rattle.aout_core.specs.Refusals.{refused};
-ghost use Rattle.link_session.specs.Labelled.{objects};
-ghost use Rattle.link_session.specs.Mentions.{externals};
+ghost use Rattle.link_session.specs.{Labelled.objects, Mentions.externals};
 ghost use Rattle.tool_options.specs.Choices.{Choices};
-ghost use Rattle.link_out.specs.declared.linked.LinkFault.TheVariants.{Memory};
-ghost use Rattle.link_out.specs.Outcomes.{IsLinkOf};
-ghost use Rattle.link_out.specs.function.Link.{link};
-ghost use Rattle.link_out.specs.function.Plans.{plan_of};
-ghost use Rattle.link_out.specs.function.Tables.{external_rows};
+ghost use Rattle.link_out.specs.{declared.linked.LinkFault.TheVariants.Memory, Outcomes.IsLinkOf, function.Link.link};
+ghost use Rattle.link_out.specs.{function.Plans.plan_of, function.Tables.external_rows};
 ghost use Rattle.link_maps.specs.Rows.{IsOutcome, row_at, row_of, number_in, largest_in, largest_number};
 
 use aout_core::{File, Kind, Name, Reloc, Symbol};

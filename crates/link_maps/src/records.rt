@@ -1,6 +1,5 @@
 //! The map of a link as lists of records that have no lists of their own: objects, and the uses of names.
-ghost use Rattle.std.specs.Prelude.{◌≡◌, ◌++◌, map, IfOk, OnOk};
-ghost use Rattle.std.specs.List.{flat_map};
+ghost use Rattle.std.specs.{Prelude.{◌≡◌, ◌++◌, map, IfOk, OnOk}, List.flat_map};
 ghost use Rattle.aout_core.specs.Names.{padded};
 ghost use Rattle.link_session.specs.Labelled.{number_or_none};
 ghost use Rattle.link_maps.specs.Records.{beyond_label, label_shown, object_record, object_records, places_in, records_from, use_kind, use_record, use_records, word_kind, word_record};

@@ -1,8 +1,6 @@
 //! The words of an object that lead to a symbol, each with its line and the label before that.
-ghost use Rattle.std.specs.Prelude.{◌≡◌, ◌++◌, ◌∷◌, [], IfOk, OnOk};
-ghost use Rattle.std.specs.List.{flat_map};
+ghost use Rattle.std.specs.{Prelude.{◌≡◌, ◌++◌, ◌∷◌, [], IfOk, OnOk}, List.flat_map, List.Sorted.IsSortedBy};
 ghost use Rattle.texts.specs.Texts.{Puts};
-ghost use Rattle.std.specs.List.Sorted.{IsSortedBy};
 ghost use Rattle.disassemblies.specs.Starts.{starts};
 ghost use Rattle.instructions.specs.declared.unix.Decoder.TheVariants.{Unix};
 ghost use Rattle.link_session.specs.Starts.{own};

@@ -8,16 +8,15 @@ use Rattle.link_session.specs.{declared.cell.Cell.Cell, Labelled.objects, Undo.K
 use Rattle.link_session.proofs.{AdditionLemmas.well_formed, WellFormedLemmas.objects_refer}
 use Rattle.tool_options.specs.Choices.{Choices}
 use Rattle.link_out.specs.internal.FromCells.{finals, word_of_cell, reloc_of_cell, target_too_large}
-use Rattle.link_out.specs.function.Link.{Outcome, linked_header, linked_file, link_by, link}
-use Rattle.link_out.specs.{Layouts.Bases, function.Plans.Plan, function.Words.final_words}
-use Rattle.link_out.specs.{function.Finals.Final, internal.Headers.header_of, internal.InOrder.finals_from, function.Tables.table}
-use Rattle.link_out.specs.{function.Tables.final_relocs, function.Tables.has_too_large_in, function.Reports.entry_word}
-use Rattle.link_out.specs.{function.Reports.report_of, internal.Passes.IsPassed, internal.Planned.plan_in, internal.Planned.objects_in}
-use Rattle.link_out.specs.{internal.Planned.AreShort, Outcomes.IsLinkOf, Outcomes.outcome_of, Outcomes.report_names}
-use Rattle.link_out.specs.{declared.linked.Linked.Linked, declared.linked.LinkFault.LinkFault, declared.linked.LinkFault.TheVariants.Memory}
+use Rattle.link_out.specs.{function.Link.{Outcome, linked_header, linked_file, link_by, link}, Layouts.Bases, function.Plans.Plan}
+use Rattle.link_out.specs.{function.Words.final_words, function.Finals.Final, internal.Headers.header_of, internal.InOrder.finals_from}
+use Rattle.link_out.specs.{function.Tables.{table, final_relocs, has_too_large_in}, function.Reports.{entry_word, report_of}}
+use Rattle.link_out.specs.{internal.Passes.IsPassed, internal.Planned.{plan_in, objects_in, AreShort}}
+use Rattle.link_out.specs.{Outcomes.{IsLinkOf, outcome_of, report_names}, declared.linked.Linked.Linked}
+use Rattle.link_out.specs.{declared.linked.LinkFault.LinkFault, declared.linked.LinkFault.TheVariants.Memory}
+use Rattle.link_out.specs.declared.plan.Plan as code
 use Rattle.link_out.proofs.CellRelocLemmas.{final_relocs-cells, has_too_large_in-cells}
 use Rattle.link_out.proofs.{InOrderLemmas.finals-in_order, CellWordLemmas.final_words-cells, ObjectLemmas.linked_object}
-use Rattle.link_out.specs.declared.plan.Plan as code
 
 -- the parts of a file are those of the link
 pub linked_parts : (p : Plan) (os : List Contents) (c : Contents) → c.header ≡ linked_header p os →

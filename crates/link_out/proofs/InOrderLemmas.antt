@@ -1,16 +1,14 @@
 -- Commons, final names and undefined names, name by name.
 use Rattle.std.proofs.lemmas.Grind.{common_steps}
 use Rattle.std.proofs.Common.{◌≡◌, ℕ, ◌+◌, Bool, true, false, cond, ◌||◌, List, [], ◌∷◌, ◌++◌, map, length, refl, sym, ◌∙◌, ap, arith}
-use Rattle.std.proofs.Common.{append_assoc, rules}
-use Rattle.std.proofs.{Math.Seq.take-append_seam, lemmas.List.Sums.sum_by-append}
+use Rattle.std.proofs.{Common.{append_assoc, rules}, Math.Seq.take-append_seam, lemmas.List.Sums.sum_by-append}
 use Rattle.link_session.specs.Mentions.{Mention, names_of, names_by_first_mention, place_of}
 use Rattle.link_session.specs.{declared.state.State.State, Image.Named, Image.named_states, States.state}
 use Rattle.tool_options.specs.NameLists.{is_among, new_names}
 use Rattle.tool_options.proofs.NameListLemmas.{is_among-append}
 use Rattle.link_session.proofs.UpdateLemmas.{own_name}
 use Rattle.link_out.specs.function.Plans.{Plan, common_size, commons_size, commons_total, common_offset}
-use Rattle.link_out.specs.internal.InOrder.{finals_from, commons_size_in}
-use Rattle.link_out.specs.{function.Finals.final, function.Finals.final_at, internal.FromCells.finals}
+use Rattle.link_out.specs.{internal.InOrder.{finals_from, commons_size_in}, function.Finals.{final, final_at}, internal.FromCells.finals}
 
 -- names with their states
 abbrev pub named_by : List Mention → List (List ℕ) → Named

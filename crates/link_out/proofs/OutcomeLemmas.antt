@@ -1,11 +1,9 @@
 -- The file and the report of a link that no fault refuses.
-use Rattle.std.proofs.Common.{◌≡◌, ℕ, ◌≤◌, false, ◌&&◌, List, length, ap, rules}
-use Rattle.std.proofs.lemmas.Bool.{ltb-false}
+use Rattle.std.proofs.{Common.{◌≡◌, ℕ, ◌≤◌, false, ◌&&◌, List, length, ap, rules}, lemmas.Bool.ltb-false}
 use Rattle.aout_core.specs.{Contents.Contents}
 use Rattle.std.specs.Prelude.{Ok, nat_lt}
-use Rattle.link_out.specs.{function.Plans.Plan, function.Tables.table}
-use Rattle.link_out.specs.{function.Tables.has_number_too_large, function.Reports.report_of, function.Link.Outcome}
-use Rattle.link_out.specs.{function.Link.linked_file, function.Link.link_by}
+use Rattle.link_out.specs.{function.Plans.Plan, function.Tables.{table, has_number_too_large}, function.Reports.report_of}
+use Rattle.link_out.specs.function.Link.{Outcome, linked_file, link_by}
 
 -- what a link that no fault refuses passed, and what it gives
 pub record IsMade (p : Plan) (os : List Contents) (x : Outcome) : Type 0 where

@@ -1,7 +1,6 @@
 -- A report has a text exactly where it has something to tell.
-use Rattle.std.proofs.Common.{◌≡◌, ℕ, ◌<◌, Bool, false, cond, eqb, append-nil, List, [], ◌∷◌, ◌++◌, Option, Some, None}
-use Rattle.std.proofs.Common.{length, refl, sym, ◌∙◌, ap, append_assoc, arith, length-append, rules}
-use Rattle.std.proofs.lemmas.List.Concat.{flat_map-append}
+use Rattle.std.proofs.Common.{◌≡◌, ℕ, ◌<◌, Bool, false, cond, eqb, append-nil, List, [], ◌∷◌, ◌++◌, Option, Some, None, length, refl, sym}
+use Rattle.std.proofs.{Common.{◌∙◌, ap, append_assoc, arith, length-append, rules}, lemmas.List.Concat.flat_map-append}
 use Rattle.std.specs.{Prelude.codes, Prelude.◌==◌, Prelude.◌&&◌, Prelude.is_none, List.flat_map}
 use Rattle.link_out.specs.function.Reports.{ReportNames, entry_lines, undefined_lines, report_text, status_of}
 use Rattle.link_out.specs.internal.ReportParts.{is_silent, multiple_lines}

@@ -1,17 +1,14 @@
 -- The names of a report, and the address of the entry point.
-use Rattle.std.proofs.Common.{◌≡◌, ℕ, ◌+◌, Bool, cond, List, [], ◌∷◌, length}
-use Rattle.std.proofs.Common.{position, Some, None, refl, sym, ◌∙◌, ap, arith, nat_lt, rules}
-use Rattle.std.proofs.{lemmas.List.Recursion.is_position_or_len, lemmas.Bool.lt-ltb}
+use Rattle.std.proofs.Common.{◌≡◌, ℕ, ◌+◌, Bool, cond, List, [], ◌∷◌, length, position, Some, None, refl, sym, ◌∙◌, ap, arith, nat_lt}
+use Rattle.std.proofs.{Common.rules, lemmas.List.Recursion.is_position_or_len, lemmas.Bool.lt-ltb}
 use Rattle.std.specs.Prelude.{bytes_eq, filter}
 use Rattle.link_session.specs.{declared.state.State.TheVariants.Wanted, Image.state_at, Image.named_states}
 use Rattle.link_session.specs.{Mentions.Mention, Mentions.names_by_first_mention, Mentions.place_of, States.state}
 use Rattle.tool_options.specs.NameLists.{is_among}
-use Rattle.link_session.proofs.PlaceLemmas.{found_place, missing_state}
-use Rattle.link_session.proofs.MentionedLemmas.{keys-named_states, state_for-named_states}
+use Rattle.link_session.proofs.{PlaceLemmas.{found_place, missing_state}, MentionedLemmas.{keys-named_states, state_for-named_states}}
 use Rattle.link_out.specs.function.Finals.{Final, final}
 use Rattle.link_out.specs.function.Reports.{is_missing, undefined_names, is_in_text, entry_word, entry_found_bad}
-use Rattle.link_out.specs.internal.Entries.{text_address_at}
-use Rattle.link_out.specs.{function.Plans.Plan, internal.FromCells.finals, internal.InOrder.missing_among}
+use Rattle.link_out.specs.{internal.Entries.text_address_at, function.Plans.Plan, internal.FromCells.finals, internal.InOrder.missing_among}
 use Rattle.link_out.proofs.{CellWordLemmas.mapped_at_place, InOrderLemmas.named_by}
 
 -- the state of a name that is found, and of one that is not

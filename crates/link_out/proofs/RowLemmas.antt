@@ -1,23 +1,19 @@
 -- The rows of the table, object by object and name by name, are those of the whole list.
-use Rattle.std.proofs.Common.{◌≡◌, ℕ, ◌+◌, ◌⊎◌, inl, inr, List, [], ◌∷◌, ◌++◌, map, length, drop, refl, sym}
-use Rattle.std.proofs.Common.{◌∙◌, ap, arith, length-append, append-nil, drop_of_length-le, ◌≤◌, rules}
-use Rattle.std.proofs.lemmas.List.{length-map}
-use Rattle.std.specs.Prelude.{filter, not, nat_lt, Option, IsNone, IsTrue, IfSome, ◌↔◌}
-use Rattle.std.specs.List.{flat_map}
+use Rattle.std.proofs.Common.{◌≡◌, ℕ, ◌+◌, ◌⊎◌, inl, inr, List, [], ◌∷◌, ◌++◌, map, length, drop, refl, sym, ◌∙◌, ap, arith, length-append}
+use Rattle.std.proofs.{Common.{append-nil, drop_of_length-le, ◌≤◌, rules}, lemmas.List.length-map}
+use Rattle.std.specs.{Prelude.{filter, not, nat_lt, Option, IsNone, IsTrue, IfSome, ◌↔◌}, List.flat_map}
 use Rattle.aout_core.specs.{declared.symbol.Symbol.Symbol, declared.symbol.Segment.Segment, Contents.Contents}
 use Rattle.aout_core.specs.{WellFormed.segment_of, WellFormed.is_external}
-use Rattle.link_session.specs.Starts.{no_starts, starts_after, next_starts, shifts_at}
-use Rattle.link_session.specs.{Earlier.with_earlier, Labelled.Labelled, Labelled.objects, declared.relocate.Starts.Starts}
-use Rattle.link_session.specs.{Mentions.names_by_first_mention, States.state, Image.Named, Image.named_states}
-use Rattle.tool_options.specs.declared.options.Keep.{Keep}
-use Rattle.link_out.specs.function.Tables.{is_kept_local, moved_value, moved_local, local_rows, external_row, external_rows, rows_kept}
-use Rattle.link_out.specs.function.Tables.{table}
-use Rattle.link_out.specs.internal.Rows.{moves_by, value_moved, symbol_moved, rows_from, rows_with, kept_count}
-use Rattle.link_out.specs.{declared.table.Moves.Moves, Layouts.Bases, function.Finals.Final, function.Finals.final}
-use Rattle.link_out.specs.{internal.FromCells.finals, function.Plans.Plan}
-use Rattle.link_session.proofs.StartLemmas.{next_starts-after}
 use Rattle.aout_core.specs.declared.symbol.Segment.TheVariants as segments
+use Rattle.link_session.specs.{Starts.{no_starts, starts_after, next_starts, shifts_at}, Earlier.with_earlier, Labelled.{Labelled, objects}}
+use Rattle.link_session.specs.{declared.relocate.Starts.Starts, Mentions.names_by_first_mention, States.state, Image.{Named, named_states}}
+use Rattle.tool_options.specs.declared.options.Keep.{Keep}
 use Rattle.tool_options.specs.declared.options.Keep.TheVariants as keeps
+use Rattle.link_out.specs.function.Tables.{is_kept_local, moved_value, moved_local, local_rows, external_row, external_rows, rows_kept}
+use Rattle.link_out.specs.{function.Tables.table, internal.Rows.{moves_by, value_moved, symbol_moved, rows_from, rows_with, kept_count}}
+use Rattle.link_out.specs.{declared.table.Moves.Moves, Layouts.Bases, function.Finals.{Final, final}, internal.FromCells.finals}
+use Rattle.link_out.specs.function.Plans.{Plan}
+use Rattle.link_session.proofs.StartLemmas.{next_starts-after}
 
 module _ (b : Bases) (earlier : List Contents) (o : Contents) where
   abbrev moves : Moves

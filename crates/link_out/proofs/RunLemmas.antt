@@ -1,17 +1,16 @@
 -- What edits of a session do, one alone and one after the other.
 use Rattle.std.proofs.Common.{◌≡◌, ℕ, List, [], ◌∷◌, ◌++◌, map, Option, None, Some, String, refl, sym, ◌∙◌, ap}
-use Rattle.std.specs.declared.alloc.Global.{Global}
 use Rattle.std.proofs.lemmas.List.{append_assoc, map-append}
+use Rattle.std.specs.declared.alloc.Global.{Global}
 use Rattle.aout_core.specs.{Contents.Contents, Refusals.refused}
-use Rattle.link_session.specs.{declared.entry.AddFault.AddFault, declared.entry.AddFault.TheVariants.Memory}
-use Rattle.link_session.specs.{Labelled.Labelled, Labelled.objects, Limits.refusal, Undo.Kept}
-use Rattle.link_session.specs.Sessions.{Adds, Withdraws, IsCause, labelled}
-use Rattle.link_session.specs.Edits.{Change, addition, withdrawal, last_of, without_last, kept_unless}
-use Rattle.link_session.specs.Edits.{kept_after, answer_by, withdrawn_answer, answer_to, survivors_from, answers_from}
+use Rattle.link_session.specs.{declared.entry.AddFault.AddFault, declared.entry.AddFault.TheVariants.Memory, Labelled.{Labelled, objects}}
+use Rattle.link_session.specs.{Limits.refusal, Undo.Kept, Sessions.{Adds, Withdraws, IsCause, labelled}}
+use Rattle.link_session.specs.Edits.{Change, addition, withdrawal, last_of, without_last, kept_unless, kept_after, answer_by}
+use Rattle.link_session.specs.Edits.{withdrawn_answer, answer_to, survivors_from, answers_from}
 use Rattle.link_session.proofs.EditLemmas.{last_of-put_last, without_last-put_last}
 use Rattle.link_out.specs.declared.edit.{Edit.Edit, Reply.Reply}
-use Rattle.link_out.specs.declared.edit.Reply.TheVariants as replies
 use Rattle.link_out.specs.{Runs.change_of, Runs.answer_of, internal.MadeEdits.AreDone, internal.MadeEdits.IsDone}
+use Rattle.link_out.specs.declared.edit.Reply.TheVariants as replies
 
 -- an accepted addition
 pub added_done : (old new : Kept) (e : Labelled) → refusal old.forced (objects old.entries) e.object ≡ None → Adds old new e →

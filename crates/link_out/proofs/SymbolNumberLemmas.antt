@@ -1,23 +1,17 @@
 -- A number that is too large by the states of the names is so by what becomes of them.
-use Rattle.std.proofs.Common.{◌≡◌, ℕ, Bool, true, ◌||◌, List, length, ◌∙◌}
-use Rattle.std.proofs.Common.{rules}
-use Rattle.std.proofs.lemmas.Option.{slice_get-map}
+use Rattle.std.proofs.{Common.{◌≡◌, ℕ, Bool, true, ◌||◌, List, length, ◌∙◌, rules}, lemmas.Option.slice_get-map}
 use Rattle.std.specs.{Prelude.slice_get, List.list_any, List.AllByRecursion}
 use Rattle.aout_core.specs.declared.symbol.Segment.TheVariants.{TextSeg, DataSeg}
 use Rattle.aout_core.specs.{declared.symbol.Segment.Segment, Contents.Contents, WellFormed.IsWellFormed}
-use Rattle.link_session.specs.{declared.cell.Cell.Cell, declared.cell.Target.Target, declared.state.State.State}
-use Rattle.link_session.specs.{Cells.cells}
-use Rattle.link_session.specs.{Cells.words_of, Image.image, Image.named_states, Mentions.names_of}
-use Rattle.link_session.specs.{Sessions.IsObject}
+use Rattle.link_session.specs.{declared.cell.Cell.Cell, declared.cell.Target.Target, declared.state.State.State, Cells.{cells, words_of}}
+use Rattle.link_session.specs.{Image.{image, named_states}, Mentions.names_of, Sessions.IsObject}
+use Rattle.link_session.specs.declared.cell.Target.TheVariants as targets
 use Rattle.link_session.proofs.{CellLemmas.AllReferAmong, AdditionLemmas.well_formed, WellFormedLemmas.objects_refer}
 use Rattle.tool_options.specs.Choices.{Choices, lays_commons}
-use Rattle.link_out.specs.function.Finals.{final_by}
-use Rattle.link_out.specs.internal.FromCells.{bound_of, finals, target_too_large}
-use Rattle.link_out.specs.function.Plans.{Plan, plan}
+use Rattle.link_out.specs.{function.Finals.final_by, internal.FromCells.{bound_of, finals, target_too_large}, function.Plans.{Plan, plan}}
 use Rattle.link_out.specs.function.Tables.{local_rows, has_too_large_in, has_number_too_large}
 use Rattle.link_out.specs.internal.SymbolNumbers.{kept_bound, kept_bound_of, is_too_large}
 use Rattle.link_out.proofs.CellRelocLemmas.{has_too_large_in-cells}
-use Rattle.link_session.specs.declared.cell.Target.TheVariants as targets
 
 module _ (p : Plan) (kept : p.choices.relocatable ≡ true) where
   -- a name is bound by its state as it is in the end

@@ -4,8 +4,7 @@
 -- L, as a compiler's labels do, or none.
 use Rattle.std.specs.Prelude.{ℕ, Bool, true, false, not, ◌&&◌, eqb, List, [], ◌∷◌, codes}
 use Rattle.aout_core.specs.{declared.symbol.Symbol.Symbol, Words.letter_of, WellFormed.is_external}
-use Rattle.tool_options.specs.declared.options.Keep.{Keep}
-use Rattle.tool_options.specs.declared.options.Keep.TheVariants.{All, NotL, Externals, Nothing}
+use Rattle.tool_options.specs.{declared.options.Keep.Keep, declared.options.Keep.TheVariants.{All, NotL, Externals, Nothing}}
 
 -- a name that begins with L
 abbrev pub begins_with_l : List ℕ → Bool

@@ -1,8 +1,7 @@
 //! Edits of a session, and the replies to them.
 ghost use Rattle.std.specs.Prelude.{◌≡◌};
 ghost use Rattle.aout_core.specs.Refusals.{refused};
-ghost use Rattle.link_out.specs.Runs.{run_fault_of};
-ghost use Rattle.link_out.specs.declared.edit.RunFault.TheVariants.{Memory};
+ghost use Rattle.link_out.specs.{Runs.run_fault_of, declared.edit.RunFault.TheVariants.Memory};
 
 use crate::linked::LinkFault;
 use aout_core::{Object, Refused};

@@ -1,7 +1,6 @@
 //! The externals of a link, also of one that is refused.
 ghost use Rattle.std.specs.Prelude.{◌≡◌, ◌↔◌, ◌<◌, IfOk, IfSome, IsNone};
-ghost use Rattle.link_out.specs.function.Plans.{plan_of};
-ghost use Rattle.link_out.specs.function.Tables.{external_rows};
+ghost use Rattle.link_out.specs.{function.Plans.plan_of, function.Tables.external_rows};
 
 use crate::finals::finals_of;
 use crate::linker::LAST_ADDRESS;

@@ -1,9 +1,7 @@
 //! What becomes of the external names.
 ghost use Rattle.std.specs.Prelude.{◌≡◌, ◌≤◌, ◌+◌, ◌*◌, ◌%◌, IfOk};
 ghost use Rattle.link_session.specs.Undo.{image_of};
-ghost use Rattle.link_out.specs.function.Finals.{bound_at, final_at, waiting};
-ghost use Rattle.link_out.specs.internal.FromCells.{finals};
-ghost use Rattle.link_out.specs.internal.InOrder.{finals_from};
+ghost use Rattle.link_out.specs.{function.Finals.{bound_at, final_at, waiting}, internal.FromCells.finals, internal.InOrder.finals_from};
 ghost use Rattle.link_out.specs.internal.Planned.{plan_in, AreShort};
 
 use crate::layout::{Bases, common_size};

@@ -1,8 +1,7 @@
 //! Which symbols a link keeps.
 ghost use Rattle.std.specs.Prelude.{◌≡◌, ◌+◌, ◌↔◌, length, nat_lt, IfSome, IsNone, IsTrue};
 ghost use Rattle.link_session.specs.Labelled.{objects};
-ghost use Rattle.link_out.specs.KeptSymbols.{begins_with_l, keeps, is_kept_local};
-ghost use Rattle.link_out.specs.internal.Planned.{table_in, locals_in};
+ghost use Rattle.link_out.specs.{KeptSymbols.{begins_with_l, keeps, is_kept_local}, internal.Planned.{table_in, locals_in}};
 ghost use Rattle.link_out.specs.internal.Rows.{count_in, kept_count};
 
 use crate::plan::Plan;

@@ -1,11 +1,8 @@
 //! Where the segments of a link lie.
 ghost use Rattle.std.specs.Prelude.{◌≡◌, ◌≤◌, ◌*◌};
-ghost use Rattle.link_session.specs.Labelled.{objects};
-ghost use Rattle.link_session.specs.Starts.{total};
-ghost use Rattle.link_session.specs.Undo.{image_of};
+ghost use Rattle.link_session.specs.{Labelled.objects, Starts.total, Undo.image_of};
 ghost use Rattle.aout_core.specs.declared.symbol.Segment.TheVariants.{TextSeg, DataSeg};
-ghost use Rattle.link_out.specs.Layouts.{bases, data_base};
-ghost use Rattle.link_out.specs.function.Plans.{common_size, commons_laid, plan_of};
+ghost use Rattle.link_out.specs.{Layouts.{bases, data_base}, function.Plans.{common_size, commons_laid, plan_of}};
 ghost use Rattle.link_out.specs.internal.InOrder.{mentions_of, commons_size_in};
 
 use aout_core::next_boundary;

@@ -1,12 +1,8 @@
 //! What a link gives.
-ghost use Rattle.std.specs.Prelude.{◌≡◌, ◌++◌};
-ghost use Rattle.std.specs.List.{flat_map};
-ghost use Rattle.aout_core.specs.Refusals.{refused};
-ghost use Rattle.aout_core.specs.Wires.{Writes};
-ghost use Rattle.link_out.specs.function.Reports.{report_text, status_of, entry_lines, undefined_lines};
-ghost use Rattle.link_out.specs.Outcomes.{report_names};
-ghost use Rattle.link_out.specs.internal.ReportParts.{is_silent, multiple_lines};
-ghost use Rattle.link_out.specs.declared.linked.LinkFault.TheVariants.{Memory};
+ghost use Rattle.std.specs.{Prelude.{◌≡◌, ◌++◌}, List.flat_map};
+ghost use Rattle.aout_core.specs.{Refusals.refused, Wires.Writes};
+ghost use Rattle.link_out.specs.{function.Reports.{report_text, status_of, entry_lines, undefined_lines}, Outcomes.report_names};
+ghost use Rattle.link_out.specs.{internal.ReportParts.{is_silent, multiple_lines}, declared.linked.LinkFault.TheVariants.Memory};
 
 use aout_core::{DeviceFault, File, Name, Refused, Wire};
 use std::alloc::AllocError;

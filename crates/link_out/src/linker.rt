@@ -4,11 +4,10 @@
 //! an undefined or a multiply defined name is not an error here. It is reported, and the file is made all the same.
 ghost use Rattle.std.specs.Prelude.{◌≡◌, ◌≤◌, true, length, IfOk, IfErr, Ok, Err};
 ghost use Rattle.aout_core.specs.WellFormed.{IsWellFormed};
-ghost use Rattle.link_out.specs.function.Link.{link_of, linked_file};
-ghost use Rattle.link_out.specs.internal.FromCells as from_cells;
-ghost use Rattle.link_out.specs.internal.Passes.{IsPassed};
+ghost use Rattle.link_out.specs.{function.Link.{link_of, linked_file}, internal.Passes.IsPassed};
 ghost use Rattle.link_out.specs.internal.Planned.{plan_in, objects_in, table_in, locals_in, link_in, AreWords, AreRelocs};
 ghost use Rattle.link_out.specs.Outcomes.{IsLinkOf};
+ghost use Rattle.link_out.specs.internal.FromCells as from_cells;
 
 use crate::finals::{Final, finals_of};
 use crate::kept_symbols::locals_within;

@@ -1,13 +1,8 @@
 //! The plan of a link: what is linked, by which options, and where each segment begins.
-ghost use Rattle.std.specs.Prelude.{◌≡◌, ◌≤◌, None};
-ghost use Rattle.std.specs.List.{AllByRecursion};
-ghost use Rattle.link_session.specs.Labelled.{objects};
-ghost use Rattle.link_session.specs.Sessions.{IsObject};
+ghost use Rattle.std.specs.{Prelude.{◌≡◌, ◌≤◌, None}, List.AllByRecursion};
+ghost use Rattle.link_session.specs.{Labelled.objects, Sessions.IsObject};
 ghost use Rattle.tool_options.specs.Choices.{option_fault};
-ghost use Rattle.link_out.specs.Layouts.{magic_of};
-ghost use Rattle.link_out.specs.internal.Headers.{header_of};
-ghost use Rattle.link_out.specs.function.Plans.{plan_of};
-ghost use Rattle.link_out.specs.internal.OneProof.{objects-prop};
+ghost use Rattle.link_out.specs.{Layouts.magic_of, internal.Headers.header_of, function.Plans.plan_of, internal.OneProof.objects-prop};
 
 use crate::layout::{Bases, link_bases};
 use aout_core::Header;

@@ -1,10 +1,9 @@
 //! The relocation words of a linked file, from the cells of the merged image.
 ghost use Rattle.std.specs.Prelude.{◌≡◌, ◌≤◌, map, slice_get, IfOk, true, false};
 ghost use Rattle.link_out.specs.function.Tables.{name_bits, segment_bits, number_too_large};
-ghost use Rattle.link_out.specs.internal.FromCells as from_cells;
 ghost use Rattle.link_out.specs.internal.FromCells.{bound_of, target_too_large, any_too_large, kept_relocs, reloc_of_cell, target_bits};
-ghost use Rattle.link_out.specs.internal.Passes.{IsPassed};
-ghost use Rattle.link_out.specs.internal.Planned.{plan_in, objects_in, AreRelocs};
+ghost use Rattle.link_out.specs.{internal.Passes.IsPassed, internal.Planned.{plan_in, objects_in, AreRelocs}};
+ghost use Rattle.link_out.specs.internal.FromCells as from_cells;
 
 use crate::finals::Final;
 use crate::plan::Plan;

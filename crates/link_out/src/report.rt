@@ -1,14 +1,10 @@
 //! What is reported of a link.
 ghost use Rattle.std.specs.Prelude.{◌≡◌, bytes_eq, position, Some, IfOk};
-ghost use Rattle.link_session.specs.Labelled.{objects};
-ghost use Rattle.link_session.specs.Mentions.{externals};
-ghost use Rattle.link_session.specs.Undo.{image_of};
-ghost use Rattle.link_out.specs.internal.FromCells as from_cells;
+ghost use Rattle.link_session.specs.{Labelled.objects, Mentions.externals, Undo.image_of};
 ghost use Rattle.link_out.specs.internal.Entries.{text_address, text_address_at};
-ghost use Rattle.link_out.specs.function.Reports.{entry_word, entry_found_bad, report_of};
-ghost use Rattle.link_out.specs.internal.InOrder.{missing_among};
-ghost use Rattle.link_out.specs.internal.Planned.{plan_in};
-ghost use Rattle.link_out.specs.Outcomes.{report_names};
+ghost use Rattle.link_out.specs.{function.Reports.{entry_word, entry_found_bad, report_of}, internal.InOrder.missing_among};
+ghost use Rattle.link_out.specs.{internal.Planned.plan_in, Outcomes.report_names};
+ghost use Rattle.link_out.specs.internal.FromCells as from_cells;
 
 use crate::finals::Final;
 use crate::linked::Report;

@@ -1,15 +1,10 @@
 //! The names `_etext`, `_edata` and `_end`: what becomes of them, and which undefined names are others.
 ghost use Rattle.std.specs.Prelude.{◌≡◌, ◌++◌, ◌∷◌, [], bytes_eq, IfOk, OnOk};
-ghost use Rattle.link_session.specs.Image.{state_at};
+ghost use Rattle.link_session.specs.{Image.state_at, States.state, Undo.image_of};
 ghost use Rattle.tool_options.specs.NameLists.{is_among};
-ghost use Rattle.link_session.specs.States.{state};
-ghost use Rattle.link_session.specs.Undo.{image_of};
-ghost use Rattle.link_out.specs.ReservedNames.{reserved_names};
-ghost use Rattle.link_out.specs.function.Finals.{reserved_or_waiting};
-ghost use Rattle.link_out.specs.function.Reports.{is_undefined, is_missing, reserved_taken};
-ghost use Rattle.link_out.specs.internal.InOrder.{mentions_of};
-ghost use Rattle.link_out.specs.internal.Planned.{AreShort};
-ghost use Rattle.link_out.specs.internal.ReportParts.{taken_among};
+ghost use Rattle.link_out.specs.{ReservedNames.reserved_names, function.Finals.reserved_or_waiting};
+ghost use Rattle.link_out.specs.{function.Reports.{is_undefined, is_missing, reserved_taken}, internal.InOrder.mentions_of};
+ghost use Rattle.link_out.specs.{internal.Planned.AreShort, internal.ReportParts.taken_among};
 
 use crate::finals::{Final, bound_at, waiting};
 use crate::layout::Bases;

@@ -1,10 +1,8 @@
 //! Runs: edits of a session in order, then the link of the objects that are left.
 ghost use Rattle.std.specs.Prelude.{◌≡◌, ◌∷◌, ◌++◌, [], true, map, IfOk, OnOk};
 ghost use Rattle.aout_core.specs.WellFormed.{IsWellFormed};
-ghost use Rattle.link_session.specs.Edits.{addition, withdrawal, answers};
-ghost use Rattle.link_session.specs.Sessions.{labelled};
-ghost use Rattle.link_out.specs.Runs.{change_of, link_after, IsRunOf};
-ghost use Rattle.link_out.specs.internal.MadeEdits.{AreDone, IsDone};
+ghost use Rattle.link_session.specs.{Edits.{addition, withdrawal, answers}, Sessions.labelled};
+ghost use Rattle.link_out.specs.{Runs.{change_of, link_after, IsRunOf}, internal.MadeEdits.{AreDone, IsDone}};
 
 use crate::edit::{Edit, Reply, RunFault};
 use crate::linked::Linked;

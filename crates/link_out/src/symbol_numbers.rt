@@ -1,9 +1,7 @@
 //! Whether relocation words can hold the numbers of the names that are waited for. This takes no memory.
-ghost use Rattle.std.specs.Prelude.{◌≡◌, true, length, slice_get};
-ghost use Rattle.std.specs.List.{list_any};
+ghost use Rattle.std.specs.{Prelude.{◌≡◌, true, length, slice_get}, List.list_any};
 ghost use Rattle.link_session.specs.Undo.{image_of};
-ghost use Rattle.link_out.specs.function.Tables.{has_number_too_large};
-ghost use Rattle.link_out.specs.internal.Planned.{plan_in, objects_in, locals_in};
+ghost use Rattle.link_out.specs.{function.Tables.has_number_too_large, internal.Planned.{plan_in, objects_in, locals_in}};
 ghost use Rattle.link_out.specs.internal.SymbolNumbers.{kept_bound, kept_bound_of, is_too_large};
 
 use crate::plan::Plan;

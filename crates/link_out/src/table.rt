@@ -1,12 +1,10 @@
 //! The symbol table of a linked file.
 ghost use Rattle.std.specs.Prelude.{◌≡◌, ◌+◌, ◌≤◌, ◌++◌, length, vec_len, vec_capacity, IfOk};
-ghost use Rattle.link_session.specs.Labelled.{objects};
-ghost use Rattle.link_session.specs.Starts.{no_starts};
-ghost use Rattle.link_session.specs.Undo.{image_of};
+ghost use Rattle.link_session.specs.{Labelled.objects, Starts.no_starts, Undo.image_of};
 ghost use Rattle.link_out.specs.function.Finals.{type_of};
-ghost use Rattle.link_out.specs.internal.FromCells as from_cells;
 ghost use Rattle.link_out.specs.internal.Planned.{plan_in, table_in, locals_in};
 ghost use Rattle.link_out.specs.internal.Rows.{moves_by, value_moved, symbol_moved, rows_in, rows_from, row_with, rows_with, count_in, kept_count};
+ghost use Rattle.link_out.specs.internal.FromCells as from_cells;
 
 use crate::finals::Final;
 use crate::kept_symbols::is_kept_local;

@@ -1,9 +1,8 @@
 //! The words of a linked file, from the cells of the merged image.
 ghost use Rattle.std.specs.Prelude.{◌≡◌, ◌%◌, length, map, slice_get, IfOk};
-ghost use Rattle.link_out.specs.Layouts.{base};
-ghost use Rattle.link_out.specs.internal.FromCells as from_cells;
-ghost use Rattle.link_out.specs.internal.FromCells.{address_of, target_base, word_of_cell};
+ghost use Rattle.link_out.specs.{Layouts.base, internal.FromCells.{address_of, target_base, word_of_cell}};
 ghost use Rattle.link_out.specs.internal.Planned.{plan_in, AreWords};
+ghost use Rattle.link_out.specs.internal.FromCells as from_cells;
 
 use crate::finals::Final;
 use crate::layout::Bases;

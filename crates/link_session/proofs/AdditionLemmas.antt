@@ -1,30 +1,25 @@
 -- An image that takes in an object becomes the image of the objects with that one.
 use Rattle.std.proofs.Common.{◌≡◌, ℕ, ◌+◌, List, [], ◌∷◌, ◌++◌, map, Option, Some, None, refl, sym, ◌∙◌, ap, rules}
 use Rattle.std.specs.{Prelude.slice_get, Prelude.⊤, List.AllByRecursion}
-use Rattle.aout_core.specs.WellFormed.{first_of, IsWellFormed}
-use Rattle.aout_core.specs.{declared.symbol.Segment.Segment, declared.reloc.Reloc.Reloc}
+use Rattle.aout_core.specs.{WellFormed.{first_of, IsWellFormed}, declared.symbol.Segment.Segment, declared.reloc.Reloc.Reloc}
 use Rattle.aout_core.specs.{Contents.Contents, Words.plus}
-use Rattle.link_session.specs.Mentions.{Mention, mentions, mentions_in, names_of}
-use Rattle.link_session.specs.Mentions.{names_by_first_mention, place_of}
+use Rattle.aout_core.specs.declared.symbol.Segment.TheVariants as segments
+use Rattle.link_session.specs.Mentions.{Mention, mentions, mentions_in, names_of, names_by_first_mention, place_of}
 use Rattle.link_session.specs.States.{Definition, state, state_by, first_definition, wanted_size, multiple_names}
-use Rattle.link_session.specs.Cells.{Referent, to_segment, to_name, referent, segment_target, target_of}
-use Rattle.link_session.specs.Cells.{cell, words_of, cells}
+use Rattle.link_session.specs.Cells.{Referent, to_segment, to_name, referent, segment_target, target_of, cell, words_of, cells}
 use Rattle.link_session.specs.Image.{named_states, image, state_in, state_at}
-use Rattle.link_session.specs.internal.Additions.{all_clashes, bound_by, binding_at, binding}
-use Rattle.link_session.specs.internal.Additions.{settled_cell, own_cell, own_cells, next_shifts}
-use Rattle.link_session.specs.internal.Additions.{next_mentions, next_named, joined_image}
-use Rattle.link_session.specs.{declared.cell.Cell.Cell, declared.cell.Target.Target, declared.state.State.State}
-use Rattle.link_session.specs.{declared.relocate.Shifts.Shifts, Starts.shift, Sessions.IsObject}
+use Rattle.link_session.specs.internal.Additions.{all_clashes, bound_by, binding_at, binding, settled_cell, own_cell, own_cells}
+use Rattle.link_session.specs.{internal.Additions.{next_shifts, next_mentions, next_named, joined_image}, declared.cell.Cell.Cell}
+use Rattle.link_session.specs.{declared.cell.Target.Target, declared.state.State.State, declared.relocate.Shifts.Shifts, Starts.shift}
+use Rattle.link_session.specs.Sessions.{IsObject}
+use Rattle.link_session.specs.declared.cell.Target.TheVariants as targets
 use Rattle.tool_options.specs.NameLists.{new_names}
 use Rattle.link_session.proofs.MentionLemmas.{names_by_first_mention-append, is_among-externals, get_place}
 use Rattle.link_session.proofs.CellLemmas.{rebound, bound, RefersAmong, AllReferAmong, cells_more, all_made}
 use Rattle.link_session.proofs.MentionedLemmas.{keys-named_states, state_for-named_states, with_mentions-named_states}
-use Rattle.link_session.proofs.MentionedLemmas.{all_clashes-named_states}
-use Rattle.link_session.proofs.ListLemmas.{all_map, get_append, index_get, get_mapped}
-use Rattle.link_session.proofs.{StateLemmas.first_definition-append, MarkLemmas.awaited, MarkLemmas.bound-awaited}
-use Rattle.link_session.proofs.{WellFormedLemmas.objects_refer, UpdateLemmas.image_own, TotalLemmas.text_total, TotalLemmas.data_total}
-use Rattle.aout_core.specs.declared.symbol.Segment.TheVariants as segments
-use Rattle.link_session.specs.declared.cell.Target.TheVariants as targets
+use Rattle.link_session.proofs.{MentionedLemmas.all_clashes-named_states, ListLemmas.{all_map, get_append, index_get, get_mapped}}
+use Rattle.link_session.proofs.{StateLemmas.first_definition-append, MarkLemmas.{awaited, bound-awaited}, WellFormedLemmas.objects_refer}
+use Rattle.link_session.proofs.{UpdateLemmas.image_own, TotalLemmas.{text_total, data_total}}
 
 -- the cell, bound, if its name has a definition among later mentions
 abbrev pub rebinding : Option Definition → Cell → Option Cell

@@ -3,9 +3,8 @@ use Rattle.std.proofs.Common.{◌≡◌, ℕ, true, false, List, [], ◌∷◌, 
 use Rattle.std.proofs.lemmas.Slice.Eq.{bytes_eq-Decides}
 use Rattle.std.specs.{Prelude.bytes_eq, Prelude.filter, List.AllByRecursion}
 use Rattle.aout_core.specs.{declared.symbol.Segment.Segment}
-use Rattle.link_session.specs.States.{Definition, definition_by, first_definition, differs}
-use Rattle.link_session.specs.{declared.state.State.State, declared.state.State.TheVariants.Defined}
-use Rattle.link_session.specs.{Mentions.Mention}
+use Rattle.link_session.specs.{States.{Definition, definition_by, first_definition, differs}, declared.state.State.State}
+use Rattle.link_session.specs.{declared.state.State.TheVariants.Defined, Mentions.Mention}
 use Rattle.tool_options.specs.NameLists.{is_among}
 
 -- a mention that says what the first definition of its name among all mentions says

@@ -4,18 +4,14 @@ use Rattle.std.proofs.Common.{slice_index_or, slice_set, rules}
 use Rattle.link_session.specs.internal.Chains.{Link, IsBoundTo, AreChained, link_at, walk, waits_at, bound_if}
 use Rattle.link_session.specs.internal.Fields.{threads_in, with_heads, HoldsChains, LeavesMarksIn, KeepsCapacity}
 use Rattle.link_session.specs.internal.Bindings.{Bindable, bindable_in, settled, settled_all, IsSettled, KeepsRest, IsChainIn, IsPlaceIn}
-use Rattle.link_session.specs.internal.Bindings.{BindsAt, BindsTo}
-use Rattle.link_session.specs.{declared.bind.Definition.Definition, declared.cell.Cell.Cell, declared.mark.Mark.Mark}
-use Rattle.link_session.specs.{declared.mark.Place.Place, declared.merged.Merged.Merged, declared.state.State.State}
-use Rattle.link_session.specs.{declared.state.State.TheVariants.Defined, declared.state.State.TheVariants.Wanted, Image.Named}
-use Rattle.link_session.specs.{Image.state_at, internal.Additions.bound_by, internal.Additions.bound_or, internal.Counts.NotesBound}
-use Rattle.link_session.specs.{internal.Restores.LeavesMarks, internal.Settled.settled_at, internal.Settled.settled_over}
-use Rattle.link_session.specs.{internal.Threads.Threads, internal.Threads.cut_by_state, internal.Threads.cut_heads}
-use Rattle.link_session.proofs.WalkLemmas.{begun, next_inside, step, shorter}
-use Rattle.link_session.proofs.RestoreLemmas.{chain_left, all_texts, all_datas, all_marks}
-use Rattle.link_session.proofs.FewLemmas.{chain_noted, defined_noted}
-use Rattle.link_session.proofs.NamesLemmas.{all_one, none_left, unsettled, leaves_then}
-use Rattle.link_session.proofs.{ChainedLemmas.cut_to, EmptyChainLemmas.no_text, EmptyChainLemmas.no_data}
+use Rattle.link_session.specs.{internal.Bindings.{BindsAt, BindsTo}, declared.bind.Definition.Definition, declared.cell.Cell.Cell}
+use Rattle.link_session.specs.{declared.mark.Mark.Mark, declared.mark.Place.Place, declared.merged.Merged.Merged}
+use Rattle.link_session.specs.{declared.state.State.State, declared.state.State.TheVariants.{Defined, Wanted}, Image.{Named, state_at}}
+use Rattle.link_session.specs.{internal.Additions.{bound_by, bound_or}, internal.Counts.NotesBound, internal.Restores.LeavesMarks}
+use Rattle.link_session.specs.{internal.Settled.{settled_at, settled_over}, internal.Threads.{Threads, cut_by_state, cut_heads}}
+use Rattle.link_session.proofs.{WalkLemmas.{begun, next_inside, step, shorter}, RestoreLemmas.{chain_left, all_texts, all_datas, all_marks}}
+use Rattle.link_session.proofs.{FewLemmas.{chain_noted, defined_noted}, NamesLemmas.{all_one, none_left, unsettled, leaves_then}}
+use Rattle.link_session.proofs.{ChainedLemmas.cut_to, EmptyChainLemmas.{no_text, no_data}}
 
 -- What stays.
 

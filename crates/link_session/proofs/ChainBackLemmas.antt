@@ -1,13 +1,11 @@
 -- The marks of a chain bring its cells back.
-use Rattle.std.proofs.Common.{◌≡◌, ◌<◌, ◌⊎◌, inl, inr, ℕ, zero, suc, Bool, true, false, ◌||◌, List, [], ◌∷◌, ◌++◌, length}
-use Rattle.std.proofs.Common.{Some, slice_index_or, refl, sym, ap, ◌∙◌, subst, arith, rules}
-use Rattle.std.proofs.lemmas.Bool.{cases_eq}
+use Rattle.std.proofs.Common.{◌≡◌, ◌<◌, ◌⊎◌, inl, inr, ℕ, zero, suc, Bool, true, false, ◌||◌, List, [], ◌∷◌, ◌++◌, length, Some}
+use Rattle.std.proofs.{Common.{slice_index_or, refl, sym, ap, ◌∙◌, subst, arith, rules}, lemmas.Bool.cases_eq}
 use Rattle.std.specs.{Prelude.slice_get, List.AllByRecursion}
 use Rattle.aout_core.specs.declared.symbol.Segment.{Segment}
-use Rattle.link_session.specs.internal.Chains.{Link, is_on, IsWithin, bound_where, nowhere, marks_of, heads_back}
-use Rattle.link_session.specs.{declared.cell.Cell.Cell, declared.mark.Mark.Mark, declared.mark.Mark.TheVariants.CellWas}
-use Rattle.link_session.specs.{declared.mark.Mark.TheVariants.StateWas, declared.mark.Place.Place, declared.mark.Place.TheVariants.InText}
-use Rattle.link_session.specs.{declared.mark.Place.TheVariants.InData, Image.Image, Undo.put_all_back, Undo.IsInside}
+use Rattle.link_session.specs.{internal.Chains.{Link, is_on, IsWithin, bound_where, nowhere, marks_of, heads_back}, declared.cell.Cell.Cell}
+use Rattle.link_session.specs.{declared.mark.Mark.Mark, declared.mark.Mark.TheVariants.{CellWas, StateWas}, declared.mark.Place.Place}
+use Rattle.link_session.specs.{declared.mark.Place.TheVariants.{InText, InData}, Image.Image, Undo.{put_all_back, IsInside}}
 use Rattle.link_session.proofs.WriteBackLemmas.{written_back, written_back-old, AreOf, IsWritten, text_writes, data_writes}
 use Rattle.link_session.proofs.ChainLemmas.{length-bound_where, other_number}
 

@@ -7,10 +7,8 @@ use Rattle.std.proofs.{lemmas.Map.Keys.IsDistinct-cons, lemmas.Map.Steps.length-
 use Rattle.std.specs.List.{IsDistinct, list_any, AllByRecursion}
 use Rattle.aout_core.specs.{declared.symbol.Segment.Segment, Words.plus}
 use Rattle.link_session.specs.internal.Chains.{Link, link_at, IsChain, is_on, AreApart, IsWithin, bound_to, bound_one, bound_where, nowhere}
-use Rattle.link_session.specs.internal.Chains.{walk}
-use Rattle.link_session.specs.{declared.cell.Cell.Cell, declared.cell.Target.Target, declared.mark.Place.Place}
-use Rattle.link_session.specs.{declared.mark.Place.TheVariants.InText, declared.mark.Place.TheVariants.InData, Marks.same_place}
-use Rattle.link_session.specs.{Cells.segment_target}
+use Rattle.link_session.specs.{internal.Chains.walk, declared.cell.Cell.Cell, declared.cell.Target.Target, declared.mark.Place.Place}
+use Rattle.link_session.specs.{declared.mark.Place.TheVariants.{InText, InData}, Marks.same_place, Cells.segment_target}
 
 -- One cell.
 

@@ -1,21 +1,18 @@
 -- All chains of an image: while a name is bound, while names are added, and while the cells of an object are put last.
-use Rattle.std.proofs.Common.{◌≡◌, ◌≢◌, ◌<◌, ◌+◌, ◌||◌, ◌⊎◌, ℕ, zero, suc, Bool, true, false, List, [], ◌∷◌, ◌++◌, map}
-use Rattle.std.proofs.Common.{length, Some, None, slice_index_or, slice_set, refl, sym, ap, ◌∙◌, subst, arith, length-append, rules}
-use Rattle.std.proofs.Common.{append_assoc, append-nil}
+use Rattle.std.proofs.Common.{◌≡◌, ◌≢◌, ◌<◌, ◌+◌, ◌||◌, ◌⊎◌, ℕ, zero, suc, Bool, true, false, List, [], ◌∷◌, ◌++◌, map, length, Some, None}
+use Rattle.std.proofs.Common.{slice_index_or, slice_set, refl, sym, ap, ◌∙◌, subst, arith, length-append, rules, append_assoc, append-nil}
 use Rattle.std.proofs.lemmas.Bool.{cases_eq}
 use Rattle.std.specs.{Prelude.⊤, List.AllByRecursion}
 use Rattle.aout_core.specs.declared.symbol.Segment.{Segment}
 use Rattle.link_session.specs.internal.Chains.{Link, IsChain, is_on, AreApart, IsWithin, IsBoundTo, bound_where, bound_if, marks_of}
 use Rattle.link_session.specs.internal.Chains.{waits_at, FindsWaiting, Waits, head_for, with_head, threaded, AreChained}
 use Rattle.link_session.specs.{declared.cell.Cell.Cell, declared.cell.Target.Target, declared.state.State.TheVariants.Defined}
-use Rattle.link_session.specs.{declared.mark.Mark.Mark, declared.mark.Place.Place, declared.mark.Place.TheVariants.InText}
-use Rattle.link_session.specs.{declared.mark.Place.TheVariants.InData, Image.Named, Image.state_at}
-use Rattle.link_session.specs.{internal.Settled.settled_at}
+use Rattle.link_session.specs.{declared.mark.Mark.Mark, declared.mark.Place.Place, declared.mark.Place.TheVariants.{InText, InData}}
+use Rattle.link_session.specs.{Image.{Named, state_at}, internal.Settled.settled_at}
+use Rattle.link_session.specs.declared.cell.Target.TheVariants as targets
 use Rattle.link_session.proofs.ChainLemmas.{length-bound_where, on_either, apart_parts, apart_from, chain-unique, none_ahead}
 use Rattle.link_session.proofs.WaitLemmas.{bound_on_chain, rest_finds, other_finds}
-use Rattle.link_session.proofs.PushLemmas.{push_text, pass_text, push_data, pass_data}
-use Rattle.link_session.proofs.{ListLemmas.all_split, CountLemmas.waits_is}
-use Rattle.link_session.specs.declared.cell.Target.TheVariants as targets
+use Rattle.link_session.proofs.{PushLemmas.{push_text, pass_text, push_data, pass_data}, ListLemmas.all_split, CountLemmas.waits_is}
 
 -- the same also where there is no head, if there is nothing to put then
 index_set_link : (heads : List Link) (k : ℕ) (link : Link) → (slice_index_or heads k None ≡ None → link ≡ None) →

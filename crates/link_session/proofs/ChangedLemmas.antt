@@ -1,9 +1,8 @@
 -- A state that mentions change does not come back.
 use Rattle.std.proofs.Common.{◌≡◌, ◌≢◌, ℕ, Bool, true, false, cond, List, [], ◌∷◌, ◌++◌, refl, sym, ap, ◌∙◌, rules}
 use Rattle.std.proofs.Common.{append_assoc, append-nil}
-use Rattle.link_session.specs.{declared.state.State.State}
-use Rattle.link_session.specs.{Marks.same_state, Marks.state_changed, Marks.states_changed}
-use Rattle.link_session.specs.{Mentions.Mention, States.state, internal.Updates.updated_state}
+use Rattle.link_session.specs.{declared.state.State.State, Marks.{same_state, state_changed, states_changed}, Mentions.Mention}
+use Rattle.link_session.specs.{States.state, internal.Updates.updated_state}
 use Rattle.link_session.proofs.{StateLemmas.state-append, DifferenceLemmas.own_state}
 
 is_same : (s t : State) → same_state s t ≡ true → t ≡ s

@@ -4,13 +4,12 @@ use Rattle.std.proofs.Common.{is_some, refl, sym, ap, ◌∙◌, arith, rules}
 use Rattle.std.specs.List.{AllByRecursion}
 use Rattle.aout_core.specs.declared.symbol.Segment.{Segment}
 use Rattle.link_session.specs.internal.Additions.{binding_at}
-use Rattle.link_session.specs.internal.Chains.{Link, is_on, AreApart, IsWithin, waits_at, FindsWaiting, Waits}
-use Rattle.link_session.specs.{declared.cell.Cell.Cell, declared.cell.Target.Target}
-use Rattle.link_session.specs.{declared.state.State.TheVariants.Defined, declared.mark.Place.Place, declared.mark.Place.TheVariants.InText}
-use Rattle.link_session.specs.{declared.mark.Place.TheVariants.InData, Cells.segment_target, Image.Named, Image.state_at}
-use Rattle.link_session.specs.{internal.Counts.waiting_for, internal.Counts.to_bind, internal.Settled.settled_at}
-use Rattle.link_session.proofs.ChainLemmas.{own_number, other_number}
+use Rattle.link_session.specs.{internal.Chains.{Link, is_on, AreApart, IsWithin, waits_at, FindsWaiting, Waits}, declared.cell.Cell.Cell}
+use Rattle.link_session.specs.{declared.cell.Target.Target, declared.state.State.TheVariants.Defined, declared.mark.Place.Place}
+use Rattle.link_session.specs.{declared.mark.Place.TheVariants.{InText, InData}, Cells.segment_target, Image.{Named, state_at}}
+use Rattle.link_session.specs.{internal.Counts.{waiting_for, to_bind}, internal.Settled.settled_at}
 use Rattle.link_session.specs.declared.cell.Target.TheVariants as targets
+use Rattle.link_session.proofs.ChainLemmas.{own_number, other_number}
 
 -- how many indices of cells pass the test
 abbrev pub count_where : (ℕ → Bool) → List Cell → ℕ

@@ -1,7 +1,6 @@
 -- The marks that an addition leaves are the difference that it makes.
-use Rattle.std.proofs.Common.{◌≡◌, ◌≢◌, ◌<◌, ◌+◌, ℕ, zero, suc, Bool, true, false, not, ◌||◌, ◌&&◌, cond, List, [], ◌∷◌, ◌++◌, map}
-use Rattle.std.proofs.Common.{length, Some, slice_index_or, nat_lt, refl, sym, ap, ◌∙◌, subst, arith, rules}
-use Rattle.std.proofs.lemmas.Bool.{lt-ltb, or_parts}
+use Rattle.std.proofs.Common.{◌≡◌, ◌≢◌, ◌<◌, ◌+◌, ℕ, zero, suc, Bool, true, false, not, ◌||◌, ◌&&◌, cond, List, [], ◌∷◌, ◌++◌, map, length}
+use Rattle.std.proofs.{Common.{Some, slice_index_or, nat_lt, refl, sym, ap, ◌∙◌, subst, arith, rules}, lemmas.Bool.{lt-ltb, or_parts}}
 use Rattle.std.proofs.{lemmas.List.length-map, lemmas.Option.slice_get_within, lemmas.Slice.Eq.bytes_eq-Decides}
 use Rattle.std.specs.{Prelude.bytes_eq, Prelude.slice_get, List.AllByRecursion}
 use Rattle.aout_core.specs.Contents.{Contents}
@@ -9,19 +8,16 @@ use Rattle.link_session.specs.Image.{Image, Named, image, named_states}
 use Rattle.link_session.specs.Marks.{HoldCell, IsDifference, cells_marked, states_marked, same_state, state_changed, states_changed}
 use Rattle.link_session.specs.Mentions.{Mention, mentions, mentions_in, names_of, names_by_first_mention, externals, place_of}
 use Rattle.link_session.specs.internal.Additions.{place_in, state_for, with_mention, changes, state_mark, state_marks, settled_cell}
-use Rattle.link_session.specs.internal.Additions.{next_named}
-use Rattle.link_session.specs.internal.Restores.{HoldBound, TakesBack}
-use Rattle.link_session.specs.internal.Threads.{next_texts, next_datas}
-use Rattle.link_session.specs.{declared.cell.Cell.Cell, declared.state.State.State}
+use Rattle.link_session.specs.{internal.Additions.next_named, internal.Restores.{HoldBound, TakesBack}}
+use Rattle.link_session.specs.{internal.Threads.{next_texts, next_datas}, declared.cell.Cell.Cell, declared.state.State.State}
 use Rattle.link_session.specs.{declared.mark.Mark.Mark, declared.mark.Mark.TheVariants.StateWas}
-use Rattle.link_session.specs.{declared.mark.Place.TheVariants.InText, declared.mark.Place.TheVariants.InData, Sessions.IsObject}
-use Rattle.link_session.specs.{States.state, internal.Chains.Link, internal.Chains.nowhere, internal.Updates.updated_state}
+use Rattle.link_session.specs.{declared.mark.Place.TheVariants.{InText, InData}, Sessions.IsObject, States.state}
+use Rattle.link_session.specs.{internal.Chains.{Link, nowhere}, internal.Updates.updated_state}
 use Rattle.tool_options.specs.NameLists.{is_among, new_names}
 use Rattle.link_session.proofs.MentionLemmas.{names_by_first_mention-append, place_of-append}
 use Rattle.link_session.proofs.MentionedLemmas.{keys-named_states, state_for-named_states, with_mention-named_states}
-use Rattle.link_session.proofs.UpdateLemmas.{own_name, state_mention}
-use Rattle.link_session.proofs.{AdditionLemmas.joined_image-is, AdditionLemmas.next_mentions-in, ChainLemmas.own_number}
-use Rattle.link_session.proofs.{ChainLemmas.other_number, ListLemmas.get_append, ListLemmas.get_mapped, ListLemmas.index_get}
+use Rattle.link_session.proofs.{UpdateLemmas.{own_name, state_mention}, AdditionLemmas.{joined_image-is, next_mentions-in}}
+use Rattle.link_session.proofs.{ChainLemmas.{own_number, other_number}, ListLemmas.{get_append, get_mapped, index_get}}
 use Rattle.link_session.proofs.MarkedLemmas.{states_marked-append}
 use Rattle.tool_options.proofs.NameListLemmas.{is_among-append}
 

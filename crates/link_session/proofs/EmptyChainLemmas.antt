@@ -1,9 +1,8 @@
 -- To bind an external whose chain is empty changes nothing: no cell waits for it.
 use Rattle.std.proofs.Common.{◌≡◌, ℕ, Bool, false, cond, List, [], ◌∷◌, map, None, refl, ap, subst}
-use Rattle.link_session.specs.internal.Chains.{Link, IsChain, is_on, FindsWaiting, Waits}
-use Rattle.link_session.specs.{declared.cell.Cell.Cell, declared.mark.Place.Place, declared.mark.Place.TheVariants.InText}
-use Rattle.link_session.specs.{declared.mark.Place.TheVariants.InData, Image.Named, Image.state_at, internal.Additions.bound_by}
-use Rattle.link_session.specs.{internal.Additions.bound_or, internal.Settled.settled_at}
+use Rattle.link_session.specs.{internal.Chains.{Link, IsChain, is_on, FindsWaiting, Waits}, declared.cell.Cell.Cell}
+use Rattle.link_session.specs.{declared.mark.Place.Place, declared.mark.Place.TheVariants.{InText, InData}, Image.{Named, state_at}}
+use Rattle.link_session.specs.{internal.Additions.{bound_by, bound_or}, internal.Settled.settled_at}
 
 no_places : (ts ds : List Link) (head : Link) (ps : List Place) → head ≡ None → IsChain ts ds head ps → ps ≡ []
 no_places ts ds head [] e c = refl

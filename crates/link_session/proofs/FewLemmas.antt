@@ -1,21 +1,18 @@
 -- How many marks there are once chains are bound, and that they are no more than an addition may leave.
 use Rattle.std.proofs.Common.{◌≡◌, ◌≤◌, ◌+◌, ℕ, Bool, cond, List, [], ◌∷◌, ◌++◌, map, length, Option, Some, None, is_some, refl, ap, ◌∙◌}
-use Rattle.std.proofs.Common.{arith, length-append, rules}
-use Rattle.std.proofs.lemmas.List.{length-map}
+use Rattle.std.proofs.{Common.{arith, length-append, rules}, lemmas.List.length-map}
 use Rattle.std.specs.{Prelude.filter, List.AllByRecursion}
 use Rattle.aout_core.specs.{declared.symbol.Segment.Segment, Contents.Contents}
+use Rattle.aout_core.specs.declared.symbol.Segment.TheVariants as segments
 use Rattle.link_session.specs.Mentions.{Mention, mentions, mentions_in, externals, names_by_first_mention}
-use Rattle.link_session.specs.Image.{named_states, image, Named, state_at}
-use Rattle.link_session.specs.Bounds.{is_defined_by, waiting_in, most_marks}
-use Rattle.link_session.specs.internal.Chains.{Link, Waits, cell_at, marks_of}
-use Rattle.link_session.specs.internal.Counts.{to_bind, NotesWaiting, NotesBound}
+use Rattle.link_session.specs.{Image.{named_states, image, Named, state_at}, Bounds.{is_defined_by, waiting_in, most_marks}}
+use Rattle.link_session.specs.{internal.Chains.{Link, Waits, cell_at, marks_of}, internal.Counts.{to_bind, NotesWaiting, NotesBound}}
 use Rattle.link_session.specs.{declared.cell.Cell.Cell, declared.state.State.TheVariants.Defined, declared.mark.Mark.Mark}
 use Rattle.link_session.specs.{declared.mark.Mark.TheVariants.CellWas, declared.mark.Place.Place, States.Definition, Cells.cells}
 use Rattle.link_session.specs.{Sessions.IsObject, internal.Additions.next_named, internal.Settled.settled_at, internal.Restores.TakesBack}
 use Rattle.link_session.proofs.AdditionLemmas.{WaitsAmong, rebinding, cells_wait, binding-awaited, next_named-states, well_formed}
 use Rattle.link_session.proofs.{WellFormedLemmas.objects_refer, BoundLemmas.is_defined_by-awaited, MarkLemmas.awaited}
 use Rattle.link_session.proofs.{CountLemmas.chain_counted, CountLemmas.fewer_to_bind}
-use Rattle.aout_core.specs.declared.symbol.Segment.TheVariants as segments
 
 -- the marks of a chain
 pub chain_noted : (ts ds : List Link) (head : Link) (texts datas : List Cell) (k : ℕ) (w : Waits ts ds head texts datas k)

@@ -3,13 +3,11 @@ use Rattle.std.proofs.Common.{◌≡◌, ◌≤◌, ◌+◌, ◌-◌, ℕ, zero,
 use Rattle.std.proofs.Common.{refl, sym, ap, ◌∙◌, subst, arith, length-append, append-nil, append_assoc, rules}
 use Rattle.std.proofs.lemmas.List.{length-replicate, take_at}
 use Rattle.link_session.specs.internal.Chains.{Link, with_head, threaded, heads_back, AreChained}
-use Rattle.link_session.specs.internal.Settled.{settled_at, settled_over}
-use Rattle.link_session.specs.internal.Threads.{cut_by_state, cut_heads, grown_heads}
-use Rattle.link_session.specs.{declared.cell.Cell.Cell, declared.state.State.State, declared.state.State.TheVariants.Defined}
-use Rattle.link_session.specs.{declared.state.State.TheVariants.Wanted, declared.mark.Mark.Mark, declared.mark.Mark.TheVariants.CellWas}
-use Rattle.link_session.specs.{declared.mark.Mark.TheVariants.StateWas, declared.mark.Place.Place, Image.Named, Image.state_at}
-use Rattle.link_session.proofs.ChainedLemmas.{cut_named, one_more_head, length-with_head}
-use Rattle.link_session.proofs.NamesLemmas.{unsettled, all_one, none_left}
+use Rattle.link_session.specs.{internal.Settled.{settled_at, settled_over}, internal.Threads.{cut_by_state, cut_heads, grown_heads}}
+use Rattle.link_session.specs.{declared.cell.Cell.Cell, declared.state.State.State, declared.state.State.TheVariants.{Defined, Wanted}}
+use Rattle.link_session.specs.{declared.mark.Mark.Mark, declared.mark.Mark.TheVariants.{CellWas, StateWas}, declared.mark.Place.Place}
+use Rattle.link_session.specs.Image.{Named, state_at}
+use Rattle.link_session.proofs.{ChainedLemmas.{cut_named, one_more_head, length-with_head}, NamesLemmas.{unsettled, all_one, none_left}}
 
 -- Names that are bound.
 

@@ -1,26 +1,23 @@
 -- The threads of a list of objects hold the chains of its image.
 use Rattle.std.proofs.lemmas.Grind.{common_steps}
 use Rattle.std.proofs.Common.{◌≡◌, ◌≤◌, ℕ, List, [], ◌∷◌, ◌++◌, map, length, refl, sym, ap, ◌∙◌, subst, arith, append_assoc, rules}
-use Rattle.std.proofs.Common.{append-nil}
-use Rattle.std.proofs.{lemmas.List.length-replicate, lemmas.List.length-map, lemmas.Option.slice_get_within}
+use Rattle.std.proofs.{Common.append-nil, lemmas.List.{length-replicate, length-map}, lemmas.Option.slice_get_within}
 use Rattle.std.specs.List.{AllByRecursion}
 use Rattle.aout_core.specs.{declared.symbol.Symbol.Symbol, declared.symbol.Segment.Segment, Contents.Contents}
+use Rattle.aout_core.specs.declared.symbol.Segment.TheVariants as segments
 use Rattle.link_session.specs.Mentions.{Mention, mention, mentions, mentions_in, externals, externals_in, names_of, names_by_first_mention}
 use Rattle.link_session.specs.internal.Additions.{place_in, settled_cell, external_names, next_mentions, next_named, joined_image}
 use Rattle.link_session.specs.internal.Threads.{Threads, with_texts, with_datas, next_texts, next_datas, bound_heads, next_heads}
 use Rattle.link_session.specs.internal.Threads.{next_threads, threads_from, forced_threads, threads_of, IsThreaded}
 use Rattle.link_session.specs.{declared.cell.Cell.Cell, declared.cell.Target.Target, declared.state.State.State}
-use Rattle.link_session.specs.{declared.mark.Place.TheVariants.InData, Earlier.with_earlier}
-use Rattle.link_session.specs.{States.state, Cells.cells, Image.Image, Image.named_states, Image.image, Image.Named, Sessions.IsObject}
-use Rattle.link_session.specs.{internal.Chains.threaded, internal.Chains.AreChained, internal.Settled.settled_over}
-use Rattle.link_session.specs.{internal.Settled.places_of, internal.Settled.IsCovered}
+use Rattle.link_session.specs.{declared.mark.Place.TheVariants.InData, Earlier.with_earlier, States.state, Cells.cells}
+use Rattle.link_session.specs.{Image.{Image, named_states, image, Named}, Sessions.IsObject, internal.Chains.{threaded, AreChained}}
+use Rattle.link_session.specs.internal.Settled.{settled_over, places_of, IsCovered}
 use Rattle.link_session.proofs.AdditionLemmas.{WaitsAmong, cells_wait, next_named-states, well_formed, joined_image-is}
 use Rattle.link_session.proofs.HeadLemmas.{cut_all, more_heads, grown_chained, length-cut_heads, length-grown_heads, length-threaded_heads}
 use Rattle.link_session.proofs.{EarlierLemmas.with_earlier-append, MentionLemmas.names_of-map, MentionedLemmas.length-with_mentions}
-use Rattle.link_session.proofs.{WellFormedLemmas.objects_refer, ListLemmas.all_append, ListLemmas.all_split, ListLemmas.all_map}
-use Rattle.link_session.proofs.{PushLemmas.new_chain, ChainedLemmas.WaitsBelow, ChainedLemmas.all_text}
-use Rattle.link_session.proofs.{ChainedLemmas.all_data, CoverLemmas.all_covered}
-use Rattle.aout_core.specs.declared.symbol.Segment.TheVariants as segments
+use Rattle.link_session.proofs.{WellFormedLemmas.objects_refer, ListLemmas.{all_append, all_split, all_map}, PushLemmas.new_chain}
+use Rattle.link_session.proofs.{ChainedLemmas.{WaitsBelow, all_text, all_data}, CoverLemmas.all_covered}
 
 -- One more object.
 

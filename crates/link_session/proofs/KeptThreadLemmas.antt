@@ -5,8 +5,7 @@ use Rattle.aout_core.specs.Contents.{Contents}
 use Rattle.link_session.specs.internal.Threads.{Threads, bound_heads, next_threads, forced_threads, threads_of, undo_threads, UndoesThreads}
 use Rattle.link_session.specs.internal.Threads.{IsThreaded, KeepsThreads}
 use Rattle.link_session.specs.{declared.mark.Mark.Mark, Image.image, Sessions.IsObject, internal.Chains.heads_back}
-use Rattle.link_session.proofs.JournalLemmas.{journal_empty, journal_push, journal_pop}
-use Rattle.link_session.proofs.HistoryLemmas.{threads_push, threaded_of}
+use Rattle.link_session.proofs.{JournalLemmas.{journal_empty, journal_push, journal_pop}, HistoryLemmas.{threads_push, threaded_of}}
 use Rattle.link_session.proofs.{AdditionLemmas.joined_image-is, ThreadBackLemmas.threads_back}
 
 -- kept threads hold the chains of the image

@@ -1,6 +1,5 @@
 -- How many names the entries of an object add, and the limits of an image.
-use Rattle.std.proofs.Common.{◌≡◌, ℕ, ◌≤◌, Bool, true, false, not, ◌&&◌, is_some, List, [], ◌∷◌, ◌++◌, length, refl}
-use Rattle.std.proofs.Common.{ap, arith, rules}
+use Rattle.std.proofs.Common.{◌≡◌, ℕ, ◌≤◌, Bool, true, false, not, ◌&&◌, is_some, List, [], ◌∷◌, ◌++◌, length, refl, ap, arith, rules}
 use Rattle.std.proofs.lemmas.List.{length-map}
 use Rattle.std.specs.{Prelude.bytes_eq, Prelude.filter, List.list_any, Map.keys_of, Map.lookup}
 use Rattle.aout_core.specs.{declared.symbol.Symbol.Symbol, WellFormed.is_external}

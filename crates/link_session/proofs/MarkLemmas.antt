@@ -5,8 +5,8 @@ use Rattle.std.specs.Prelude.{slice_index_or}
 use Rattle.link_session.specs.{declared.cell.Cell.Cell, declared.cell.Target.Target, declared.state.State.State, declared.mark.Mark.Mark}
 use Rattle.link_session.specs.{Mentions.Mention, States.Definition, States.first_definition, Image.Image, Undo.with_state, Undo.put_back}
 use Rattle.link_session.specs.{Undo.put_all_back}
-use Rattle.link_session.proofs.CellLemmas.{rebound, bound}
 use Rattle.link_session.specs.declared.cell.Target.TheVariants as targets
+use Rattle.link_session.proofs.CellLemmas.{rebound, bound}
 
 -- marks are put back one part after the other
 pub put_all_back-append : (ks ls : List Mark) (m : Image) → put_all_back (ks ++ ls) m ≡ put_all_back ks (put_all_back ls m)

@@ -1,14 +1,10 @@
 -- What marks hold of one place: those of chains and of mentions, and of two lists of marks together.
-use Rattle.std.proofs.Common.{◌≡◌, ℕ, Bool, true, cond, List, [], ◌∷◌, ◌++◌, nat_eq, refl}
-use Rattle.std.proofs.Common.{rules}
+use Rattle.std.proofs.Common.{◌≡◌, ℕ, Bool, true, cond, List, [], ◌∷◌, ◌++◌, nat_eq, refl, rules}
 use Rattle.aout_core.specs.declared.symbol.Segment.{Segment}
-use Rattle.link_session.specs.Marks.{cells_marked, states_marked}
-use Rattle.link_session.specs.internal.Additions.{with_mention, state_marks}
-use Rattle.link_session.specs.internal.Chains.{is_on, AreApart, bound_to, cell_at, marks_of}
-use Rattle.link_session.specs.internal.Restores.{HoldBound}
-use Rattle.link_session.specs.{declared.cell.Cell.Cell, declared.cell.Target.TheVariants.External}
-use Rattle.link_session.specs.{declared.mark.Mark.Mark, declared.mark.Mark.TheVariants.CellWas, declared.mark.Mark.TheVariants.StateWas}
-use Rattle.link_session.specs.{declared.mark.Place.Place, Image.Named, Mentions.Mention}
+use Rattle.link_session.specs.{Marks.{cells_marked, states_marked}, internal.Additions.{with_mention, state_marks}}
+use Rattle.link_session.specs.{internal.Chains.{is_on, AreApart, bound_to, cell_at, marks_of}, internal.Restores.HoldBound}
+use Rattle.link_session.specs.{declared.cell.Cell.Cell, declared.cell.Target.TheVariants.External, declared.mark.Mark.Mark}
+use Rattle.link_session.specs.{declared.mark.Mark.TheVariants.{CellWas, StateWas}, declared.mark.Place.Place, Image.Named, Mentions.Mention}
 use Rattle.link_session.proofs.ChainLemmas.{same_is}
 
 -- Two lists of marks together.

@@ -1,7 +1,6 @@
 -- The names and states after the mentions of an object.
-use Rattle.std.proofs.Common.{◌≡◌, ℕ, zero, suc, ◌+◌, Bool, true, false, cond, List, [], ◌∷◌, ◌++◌, map, length, refl, sym, ◌∙◌, ap}
-use Rattle.std.proofs.Common.{arith, add-one, append_assoc, append-nil, length-append, rules}
-use Rattle.std.proofs.lemmas.List.{map-append, length-map}
+use Rattle.std.proofs.Common.{◌≡◌, ℕ, zero, suc, ◌+◌, Bool, true, false, cond, List, [], ◌∷◌, ◌++◌, map, length, refl, sym, ◌∙◌, ap, arith}
+use Rattle.std.proofs.{Common.{add-one, append_assoc, append-nil, length-append, rules}, lemmas.List.{map-append, length-map}}
 use Rattle.std.specs.{Prelude.bytes_eq, Map.keys_of}
 use Rattle.indexmap.specs.IndexMap.{insert_entry}
 use Rattle.link_session.specs.Mentions.{Mention, names_of, names_by_first_mention, place_of}

@@ -2,8 +2,7 @@
 use Rattle.std.proofs.Common.{◌≡◌, List, [], ◌∷◌, ◌++◌, map, refl, ◌∙◌, ap, append_assoc, rules}
 use Rattle.std.proofs.{lemmas.List.map-append, lemmas.Slice.Eq.bytes_eq-Decides, lemmas.List.Elements.filter-append}
 use Rattle.std.specs.Prelude.{filter}
-use Rattle.link_session.specs.States.{first_definition, differs, multiple_names}
-use Rattle.link_session.specs.{Mentions.Mention}
+use Rattle.link_session.specs.{States.{first_definition, differs, multiple_names}, Mentions.Mention}
 use Rattle.link_session.proofs.StateLemmas.{first_definition-append}
 
 -- a mention among these differs from the first definition as it did, whatever comes later

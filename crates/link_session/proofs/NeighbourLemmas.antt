@@ -1,17 +1,15 @@
 -- The mentions and names of objects after others, and of as long objects in their place.
 use Rattle.std.proofs.lemmas.Grind.{common_steps}
-use Rattle.std.proofs.Common.{◌≡◌, ℕ, ◌+◌, Bool, true, false, cond, ◌||◌, List, [], ◌∷◌, ◌++◌, map, refl, sym, ◌∙◌, ap}
-use Rattle.std.proofs.Common.{append_assoc, append-nil, arith, rules}
-use Rattle.std.proofs.{lemmas.List.Concat.flat_map-append, lemmas.List.map-append, lemmas.List.map-id, lemmas.List.Sums.sum_by-append}
-use Rattle.std.proofs.{lemmas.Bool.or_left, lemmas.Bool.or_right, lemmas.Slice.Eq.bytes_eq-Decides}
+use Rattle.std.proofs.Common.{◌≡◌, ℕ, ◌+◌, Bool, true, false, cond, ◌||◌, List, [], ◌∷◌, ◌++◌, map, refl, sym, ◌∙◌, ap, append_assoc}
+use Rattle.std.proofs.{Common.{append-nil, arith, rules}, lemmas.List.Concat.flat_map-append, lemmas.List.{map-append, map-id}}
+use Rattle.std.proofs.{lemmas.List.Sums.sum_by-append, lemmas.Bool.{or_left, or_right}, lemmas.Slice.Eq.bytes_eq-Decides}
 use Rattle.std.specs.{List.flat_map}
 use Rattle.aout_core.specs.declared.symbol.Segment.TheVariants.{Undefined, Absolute, TextSeg, DataSeg, BssSeg, Other}
 use Rattle.aout_core.specs.WellFormed.{segment_of}
 use Rattle.aout_core.specs.{declared.symbol.Symbol.Symbol, declared.symbol.Segment.Segment, Contents.Contents, Words.plus, Words.minus}
 use Rattle.link_session.specs.Mentions.{Mention, statement, mention, mentions_in, externals_in, forced_mention, names_of}
-use Rattle.link_session.specs.{declared.state.State.State, declared.state.State.TheVariants.Defined}
-use Rattle.link_session.specs.{declared.state.State.TheVariants.Wanted, Earlier.with_earlier, Starts.own, Starts.total}
-use Rattle.link_session.specs.{Starts.shift, States.state}
+use Rattle.link_session.specs.{declared.state.State.State, declared.state.State.TheVariants.{Defined, Wanted}, Earlier.with_earlier}
+use Rattle.link_session.specs.{Starts.{own, total, shift}, States.state}
 use Rattle.tool_options.specs.NameLists.{is_among, new_names}
 use Rattle.link_session.proofs.{EarlierLemmas.with_earlier-append, MentionLemmas.names_of-map}
 use Rattle.tool_options.proofs.NameListLemmas.{new_names-append, is_among-append, is_among-new_names, new_names-seen, seen_again}

@@ -1,7 +1,6 @@
 -- How many names an object adds, counted one symbol after the other.
 use Rattle.std.proofs.Common.{◌≡◌, ℕ, Bool, true, false, cond, not, ◌&&◌, ◌||◌, List, [], ◌∷◌, ◌++◌, map, refl, sym, ◌∙◌, ap, subst, length}
-use Rattle.std.proofs.Common.{append_assoc, append-nil}
-use Rattle.std.proofs.lemmas.List.{length-map}
+use Rattle.std.proofs.{Common.{append_assoc, append-nil}, lemmas.List.length-map}
 use Rattle.std.specs.{Prelude.filter, Map.keys_of}
 use Rattle.aout_core.specs.{declared.symbol.Symbol.Symbol, WellFormed.is_external}
 use Rattle.link_session.specs.{declared.state.State.State, Image.Named, internal.Additions.external_names, internal.Additions.new_count}

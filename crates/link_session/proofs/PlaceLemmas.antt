@@ -1,7 +1,6 @@
 -- The place of a name in an image, and the state there.
-use Rattle.std.proofs.Common.{◌≡◌, ℕ, zero, suc, ◌≤◌, Bool, List, [], ◌∷◌, length, rules}
-use Rattle.std.proofs.Common.{position, Some, None, refl, sym, ◌∙◌, ap, arith, add-one}
-use Rattle.std.proofs.{lemmas.Bool.le-ltb, lemmas.Bool.lt-ltb, lemmas.Bool.cases_lt, lemmas.List.length-map}
+use Rattle.std.proofs.Common.{◌≡◌, ℕ, zero, suc, ◌≤◌, Bool, List, [], ◌∷◌, length, rules, position, Some, None, refl, sym, ◌∙◌, ap, arith}
+use Rattle.std.proofs.{Common.add-one, lemmas.Bool.{le-ltb, lt-ltb, cases_lt}, lemmas.List.length-map}
 use Rattle.std.specs.{Prelude.bytes_eq, Prelude.slice_get, Prelude.filter, List.position_or_len, Map.keys_of, Map.lookup}
 use Rattle.indexmap.specs.IndexMap.{insert_entry, set_value_at}
 use Rattle.link_session.specs.{declared.state.State.State, declared.state.State.TheVariants.Wanted, Mentions.place_of, Undo.with_state}

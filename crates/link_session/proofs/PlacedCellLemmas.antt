@@ -1,16 +1,12 @@
 -- The cells of an object by the places of its symbols: they are those by the names.
 use Rattle.std.proofs.Common.{◌≡◌, ℕ, ◌+◌, true, List, [], ◌∷◌, ◌++◌, Option, Some, None, refl, rules}
 use Rattle.std.specs.{Prelude.slice_get, Prelude.⊤, List.AllByRecursion}
-use Rattle.aout_core.specs.WellFormed.{kind_of, symbol_number, is_wanted, kind_fault, word_fault, first_bad_word}
-use Rattle.aout_core.specs.WellFormed.{IsWellFormed}
-use Rattle.aout_core.specs.{declared.symbol.Symbol.Symbol, declared.reloc.Reloc.Reloc, declared.reloc.Kind.Kind}
-use Rattle.aout_core.specs.{Contents.Contents}
-use Rattle.link_session.specs.internal.Additions.{reference, own_cell, own_cells, all_places, placed_reference, placed_cell, placed_cells}
-use Rattle.link_session.specs.{declared.relocate.Shifts.Shifts}
-use Rattle.link_session.specs.{Image.Named}
-use Rattle.link_session.proofs.WellFormedLemmas.{first_of_none, well_formed_parts}
-use Rattle.link_session.proofs.{ListLemmas.all_split, PlacedLemmas.wanted_place}
+use Rattle.aout_core.specs.WellFormed.{kind_of, symbol_number, is_wanted, kind_fault, word_fault, first_bad_word, IsWellFormed}
+use Rattle.aout_core.specs.{declared.symbol.Symbol.Symbol, declared.reloc.Reloc.Reloc, declared.reloc.Kind.Kind, Contents.Contents}
 use Rattle.aout_core.specs.declared.reloc.Kind.TheVariants as kinds
+use Rattle.link_session.specs.internal.Additions.{reference, own_cell, own_cells, all_places, placed_reference, placed_cell, placed_cells}
+use Rattle.link_session.specs.{declared.relocate.Shifts.Shifts, Image.Named}
+use Rattle.link_session.proofs.{WellFormedLemmas.{first_of_none, well_formed_parts}, ListLemmas.all_split, PlacedLemmas.wanted_place}
 
 -- a word of this kind refers to no symbol, or to one that it may refer to
 abbrev IsFit : List Symbol → ℕ → Option Kind → Type 0

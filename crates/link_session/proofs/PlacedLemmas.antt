@@ -1,14 +1,12 @@
 -- The places of an object's symbols among the names.
-use Rattle.std.proofs.Common.{◌≡◌, ℕ, zero, suc, ◌≤◌, Bool, true, false, cond, List, [], ◌∷◌, ◌++◌, length, map, refl}
-use Rattle.std.proofs.Common.{sym, ◌∙◌, ap, arith, rules}
-use Rattle.std.proofs.lemmas.Bool.{or_left, or_right}
+use Rattle.std.proofs.Common.{◌≡◌, ℕ, zero, suc, ◌≤◌, Bool, true, false, cond, List, [], ◌∷◌, ◌++◌, length, map, refl, sym, ◌∙◌, ap, arith}
+use Rattle.std.proofs.{Common.rules, lemmas.Bool.{or_left, or_right}}
 use Rattle.std.specs.{Prelude.filter, Prelude.slice_get, Prelude.slice_index_or, Map.keys_of}
 use Rattle.aout_core.specs.{declared.symbol.Symbol.Symbol, WellFormed.is_external, WellFormed.is_wanted}
 use Rattle.link_session.specs.internal.Additions.{place_in, with_mention, with_mentions, mention_by, mentions_by, no_place, all_places}
-use Rattle.link_session.specs.{declared.cell.Cell.Cell, declared.relocate.Shifts.Shifts}
-use Rattle.link_session.specs.{declared.state.State.TheVariants.Wanted, Mentions.Mention, Mentions.place_of, Cells.name_in, Image.Named}
-use Rattle.link_session.specs.{Image.state_at, internal.Chains.Link, internal.Settled.settled_at, internal.Settled.settled_over}
-use Rattle.link_session.specs.{internal.Settled.places_of, internal.Threads.cut_heads}
+use Rattle.link_session.specs.{declared.cell.Cell.Cell, declared.relocate.Shifts.Shifts, declared.state.State.TheVariants.Wanted}
+use Rattle.link_session.specs.{Mentions.{Mention, place_of}, Cells.name_in, Image.{Named, state_at}, internal.Chains.Link}
+use Rattle.link_session.specs.{internal.Settled.{settled_at, settled_over, places_of}, internal.Threads.cut_heads}
 use Rattle.tool_options.specs.NameLists.{is_among}
 use Rattle.tool_options.proofs.NameListLemmas.{is_among-append}
 use Rattle.link_session.proofs.{MentionLemmas.place_of-append, MentionedLemmas.keys-with_mention, NamesLemmas.unsettled}

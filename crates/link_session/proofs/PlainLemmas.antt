@@ -3,8 +3,7 @@ use Rattle.std.proofs.Common.{◌≡◌, ℕ, false, List, [], ◌∷◌, ◌++�
 use Rattle.std.specs.{Prelude.bytes_eq, Map.lookup}
 use Rattle.indexmap.specs.IndexMap.{insert_entry}
 use Rattle.link_session.specs.internal.Additions.{place_in, state_for, mention_of, with_mention, changes, state_mark}
-use Rattle.link_session.specs.{declared.state.State.State, declared.mark.Mark.Mark}
-use Rattle.link_session.specs.{declared.state.State.TheVariants.Wanted, declared.state.State.TheVariants.Defined}
+use Rattle.link_session.specs.{declared.state.State.State, declared.mark.Mark.Mark, declared.state.State.TheVariants.{Wanted, Defined}}
 use Rattle.link_session.specs.{Image.Named, internal.Updates.updated_state}
 use Rattle.link_session.proofs.PlaceLemmas.{known_state}
 

@@ -4,8 +4,7 @@ use Rattle.std.proofs.Common.{refl, sym, ap, ◌∙◌, subst, arith, length-app
 use Rattle.std.proofs.{Math.Seq.get_or-append_seam, lemmas.List.get_or_append_left}
 use Rattle.std.specs.List.{AllByRecursion}
 use Rattle.link_session.specs.internal.Chains.{Link, link_at, IsChain, is_on, IsWithin, waits_at, FindsWaiting, Waits}
-use Rattle.link_session.specs.{declared.cell.Cell.Cell, declared.mark.Place.Place, declared.mark.Place.TheVariants.InText}
-use Rattle.link_session.specs.{declared.mark.Place.TheVariants.InData}
+use Rattle.link_session.specs.{declared.cell.Cell.Cell, declared.mark.Place.Place, declared.mark.Place.TheVariants.{InText, InData}}
 use Rattle.link_session.proofs.{ListLemmas.all_map, ChainLemmas.own_number, ChainLemmas.other_number}
 
 -- Links that grow.

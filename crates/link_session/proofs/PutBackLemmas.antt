@@ -1,7 +1,6 @@
 -- Marks put back one by one, the last one first.
 use Rattle.std.proofs.lemmas.Grind.{common_steps}
-use Rattle.std.proofs.Common.{◌≡◌, ℕ, zero, suc, ◌+◌, ◌-◌, ◌<◌, List, [], ◌∷◌, ◌++◌, take, length, get_or, refl, arith, add-one}
-use Rattle.std.proofs.Common.{rules}
+use Rattle.std.proofs.Common.{◌≡◌, ℕ, zero, suc, ◌+◌, ◌-◌, ◌<◌, List, [], ◌∷◌, ◌++◌, take, length, get_or, refl, arith, add-one, rules}
 use Rattle.link_session.specs.{declared.mark.Mark.Mark, Image.Image, Undo.put_back, Undo.put_all_back}
 use Rattle.link_session.specs.{internal.Threads.Threads, internal.Fields.with_heads_back}
 use Rattle.link_session.proofs.ChainBackLemmas.{heads_back-append}

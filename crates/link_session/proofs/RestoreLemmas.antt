@@ -3,18 +3,15 @@ use Rattle.std.proofs.Common.{◌≡◌, ◌<◌, ℕ, zero, suc, Bool, true, Li
 use Rattle.std.proofs.Common.{sym, ap, ◌∙◌, subst, arith, rules}
 use Rattle.std.specs.List.{AllByRecursion}
 use Rattle.aout_core.specs.declared.symbol.Segment.{Segment}
-use Rattle.link_session.specs.internal.Chains.{Link, is_on, IsWithin, IsBoundTo, FindsWaiting, bound_if, cell_at, nowhere}
-use Rattle.link_session.specs.internal.Chains.{marks_of, AreChained}
-use Rattle.link_session.specs.{declared.cell.Cell.Cell, declared.cell.Target.TheVariants.External, declared.mark.Mark.Mark}
-use Rattle.link_session.specs.{declared.mark.Place.Place, declared.mark.Place.TheVariants.InText, declared.mark.Place.TheVariants.InData}
-use Rattle.link_session.specs.{internal.Restores.Restores}
-use Rattle.link_session.specs.{internal.Restores.LeavesMarks, internal.Restores.HoldBound}
-use Rattle.link_session.proofs.{ListLemmas.all_append, ChainLemmas.on_inside, ChainLemmas.on_either, ChainLemmas.apart_parts}
-use Rattle.link_session.proofs.{ChainLemmas.chain-unique, WalkLemmas.done_inside, WalkLemmas.cell_now, WalkLemmas.ended}
-use Rattle.link_session.proofs.{MarkLemmas.put_all_back-append, MarkedLemmas.cells_marked-append, MarkedLemmas.states_marked-append}
-use Rattle.link_session.proofs.{MarkedLemmas.no_states, MarkedLemmas.chain_marked, MarkedLemmas.bound_held}
-use Rattle.link_session.proofs.{MarkedLemmas.held_then, WaitLemmas.bound_on_chain, WaitLemmas.heads_back-chain, CountLemmas.waits_is}
-use Rattle.link_session.proofs.{ChainBackLemmas.chain_back, ChainBackLemmas.chain_inside, ChainBackLemmas.heads_back-append}
+use Rattle.link_session.specs.internal.Chains.{Link, is_on, IsWithin, IsBoundTo, FindsWaiting, bound_if, cell_at, nowhere, marks_of}
+use Rattle.link_session.specs.{internal.Chains.AreChained, declared.cell.Cell.Cell, declared.cell.Target.TheVariants.External}
+use Rattle.link_session.specs.{declared.mark.Mark.Mark, declared.mark.Place.Place, declared.mark.Place.TheVariants.{InText, InData}}
+use Rattle.link_session.specs.internal.Restores.{Restores, LeavesMarks, HoldBound}
+use Rattle.link_session.proofs.{ListLemmas.all_append, ChainLemmas.{on_inside, on_either, apart_parts, chain-unique}}
+use Rattle.link_session.proofs.{WalkLemmas.{done_inside, cell_now, ended}, MarkLemmas.put_all_back-append}
+use Rattle.link_session.proofs.MarkedLemmas.{cells_marked-append, states_marked-append, no_states, chain_marked, bound_held, held_then}
+use Rattle.link_session.proofs.{WaitLemmas.{bound_on_chain, heads_back-chain}, CountLemmas.waits_is}
+use Rattle.link_session.proofs.ChainBackLemmas.{chain_back, chain_inside, heads_back-append}
 
 -- the cell at an index that passes the test waits
 found_waits : (test : ℕ → Bool) (k : ℕ) (cs : List Cell) → FindsWaiting test k cs → (i : ℕ) → i < length cs → test i ≡ true →

@@ -1,7 +1,6 @@
 -- What a session's fields are worth after an addition and after a withdrawal.
 use Rattle.std.proofs.Common.{◌≡◌, ℕ, suc, ◌-◌, ◌≤◌, List, [], ◌∷◌, ◌++◌, map, length, replicate, Some, None, refl, sym, ◌∙◌, ap, subst}
-use Rattle.std.proofs.Common.{arith, length-append, append-nil, rules}
-use Rattle.std.proofs.lemmas.List.{map-append, length-map, same_from_push}
+use Rattle.std.proofs.{Common.{arith, length-append, append-nil, rules}, lemmas.List.{map-append, length-map, same_from_push}}
 use Rattle.std.specs.{Prelude.slice_get, Prelude.filter, List.AllByRecursion, Map.keys_of}
 use Rattle.aout_core.specs.Contents.{Contents}
 use Rattle.link_session.specs.Mentions.{Mention, forced_mention, mentions, externals, names_of}
@@ -18,10 +17,9 @@ use Rattle.link_session.specs.{internal.Settled.IsCovered, internal.Chains.Link,
 use Rattle.link_session.proofs.JournalLemmas.{journal_push, journal_pop, journal_empty}
 use Rattle.link_session.proofs.MentionedLemmas.{keys-named_states, with_mentions-named_states}
 use Rattle.link_session.proofs.TotalLemmas.{refusal-next_limit, image_small, within_before, limit_within}
-use Rattle.link_session.proofs.KeptThreadLemmas.{kept_threaded, forced_kept, kept_push, kept_pop}
-use Rattle.link_session.proofs.{EarlierLemmas.with_earlier-append, LimitLemmas.length-new_names, AdditionLemmas.joined_image-is}
-use Rattle.link_session.proofs.{HistoryLemmas.image_covered, FewLemmas.taken_few, DifferenceLemmas.taken_difference, ListLemmas.all_append}
-use Rattle.link_session.proofs.{ListLemmas.all_split}
+use Rattle.link_session.proofs.{KeptThreadLemmas.{kept_threaded, forced_kept, kept_push, kept_pop}, EarlierLemmas.with_earlier-append}
+use Rattle.link_session.proofs.{LimitLemmas.length-new_names, AdditionLemmas.joined_image-is, HistoryLemmas.image_covered}
+use Rattle.link_session.proofs.{FewLemmas.taken_few, DifferenceLemmas.taken_difference, ListLemmas.{all_append, all_split}}
 
 -- what a session keeps is within the limits: so its sizes and indices fit their types
 pub small : (forced : List (List ℕ)) (es : List Labelled) (undo_records : List UndoRecord) (m : Image) (t : Threads) →

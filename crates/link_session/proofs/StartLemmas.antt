@@ -1,7 +1,5 @@
 -- Where the segments of the next object start.
-use Rattle.std.proofs.lemmas.Grind.{common_steps}
-use Rattle.std.proofs.Common.{◌≡◌, ◌%◌, List, [], ◌∷◌, ◌++◌, arith}
-use Rattle.std.proofs.lemmas.List.Sums.{sum_by-append}
+use Rattle.std.proofs.{lemmas.Grind.common_steps, Common.{◌≡◌, ◌%◌, List, [], ◌∷◌, ◌++◌, arith}, lemmas.List.Sums.sum_by-append}
 use Rattle.aout_core.specs.{declared.symbol.Segment.Segment, Contents.Contents, Words.plus}
 use Rattle.link_session.specs.Starts.{total, size_of, starts_after, next_starts}
 

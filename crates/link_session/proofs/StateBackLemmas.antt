@@ -1,13 +1,10 @@
 -- The marks of mentions bring the earlier states back, lie inside the image, and are few.
 use Rattle.std.proofs.Common.{◌≡◌, ℕ, zero, suc, ◌≤◌, ◌<◌, Bool, true, false, cond, ◌&&◌, List, [], ◌∷◌, take, length, refl, ◌∙◌, ap, arith}
-use Rattle.std.proofs.Common.{length-append, nat_lt, rules}
-use Rattle.std.proofs.lemmas.Bool.{ltb-true, ltb-false}
+use Rattle.std.proofs.{Common.{length-append, nat_lt, rules}, lemmas.Bool.{ltb-true, ltb-false}}
 use Rattle.std.specs.{List.AllByRecursion}
 use Rattle.link_session.specs.internal.Additions.{state_for, place_in, with_mention, with_mentions, changes, state_mark, state_marks}
-use Rattle.link_session.specs.{declared.state.State.State}
-use Rattle.link_session.specs.{declared.mark.Mark.TheVariants.StateWas, Mentions.Mention}
-use Rattle.link_session.specs.{Image.Image, Image.Named, Image.state_at, Undo.with_state, Undo.put_all_back, Undo.IsInside}
-use Rattle.link_session.specs.{internal.Updates.updated_state}
+use Rattle.link_session.specs.{declared.state.State.State, declared.mark.Mark.TheVariants.StateWas, Mentions.Mention}
+use Rattle.link_session.specs.{Image.{Image, Named, state_at}, Undo.{with_state, put_all_back, IsInside}, internal.Updates.updated_state}
 use Rattle.link_session.proofs.MarkLemmas.{put_all_back-append, take_grown, take_with_state}
 use Rattle.link_session.proofs.{MentionedLemmas.with_mention-is, MentionedLemmas.next_state, ListLemmas.all_append}
 

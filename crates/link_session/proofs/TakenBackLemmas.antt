@@ -4,13 +4,11 @@ use Rattle.std.proofs.{Math.Seq.take-length, lemmas.List.length-map, lemmas.List
 use Rattle.std.specs.List.{AllByRecursion}
 use Rattle.aout_core.specs.Contents.{Contents}
 use Rattle.link_session.specs.internal.Additions.{state_marks, settled_cell, all_clashes, mention_by, next_shifts, next_mentions}
-use Rattle.link_session.specs.internal.Additions.{next_named, joined_image, entered}
-use Rattle.link_session.specs.{declared.cell.Cell.Cell, declared.mark.Mark.Mark, declared.state.State.State, Marks.cells_marked}
-use Rattle.link_session.specs.{Marks.states_marked, Mentions.externals_in, Image.Image, Image.Named, Undo.put_all_back, Undo.cut_to}
-use Rattle.link_session.specs.{Undo.undo, Undo.IsInside, internal.Chains.Link, internal.Chains.cell_at, internal.Chains.heads_back}
-use Rattle.link_session.specs.{internal.Counts.NotesBound, internal.Threads.bound_heads, internal.Threads.next_texts}
-use Rattle.link_session.specs.{internal.Threads.next_datas, internal.Restores.Restores, internal.Restores.TakesBack}
-use Rattle.link_session.specs.{internal.Restores.HoldBound}
+use Rattle.link_session.specs.{internal.Additions.{next_named, joined_image, entered}, declared.cell.Cell.Cell, declared.mark.Mark.Mark}
+use Rattle.link_session.specs.{declared.state.State.State, Marks.{cells_marked, states_marked}, Mentions.externals_in, Image.{Image, Named}}
+use Rattle.link_session.specs.{Undo.{put_all_back, cut_to, undo, IsInside}, internal.Chains.{Link, cell_at, heads_back}}
+use Rattle.link_session.specs.{internal.Counts.NotesBound, internal.Threads.{bound_heads, next_texts, next_datas}}
+use Rattle.link_session.specs.internal.Restores.{Restores, TakesBack, HoldBound}
 use Rattle.link_session.proofs.{ListLemmas.all_append, MarkedLemmas.cells_marked-append, MarkedLemmas.states_marked-append}
 use Rattle.link_session.proofs.{MarkedLemmas.no_cells, MarkLemmas.put_all_back-append, MarkLemmas.cut_front, StateBackLemmas.mentions_back}
 use Rattle.link_session.proofs.{StateBackLemmas.states_inside, StateBackLemmas.states_few, ThreadBackLemmas.heads_back-after_states}

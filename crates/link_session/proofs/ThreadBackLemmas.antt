@@ -1,15 +1,12 @@
 -- An addition that is taken back leaves the threads that there were.
-use Rattle.std.proofs.Common.{◌≡◌, ℕ, zero, suc, List, [], ◌∷◌, ◌++◌, map, take, drop, length, refl, ap, ◌∙◌}
-use Rattle.std.proofs.Common.{arith, rules}
+use Rattle.std.proofs.Common.{◌≡◌, ℕ, zero, suc, List, [], ◌∷◌, ◌++◌, map, take, drop, length, refl, ap, ◌∙◌, arith, rules}
 use Rattle.std.proofs.lemmas.List.{length-map, take_at, take_all}
 use Rattle.aout_core.specs.Contents.{Contents}
-use Rattle.link_session.specs.internal.Additions.{with_mention, state_marks, settled_cell}
-use Rattle.link_session.specs.internal.Additions.{next_named, joined_image}
+use Rattle.link_session.specs.internal.Additions.{with_mention, state_marks, settled_cell, next_named, joined_image}
 use Rattle.link_session.specs.internal.Threads.{Threads, with_texts, next_texts, next_datas, bound_heads, next_heads, next_threads}
-use Rattle.link_session.specs.internal.Threads.{cut_threads, undo_threads, IsThreaded}
-use Rattle.link_session.specs.{declared.mark.Mark.Mark, declared.mark.Place.TheVariants.InText}
-use Rattle.link_session.specs.{declared.mark.Place.TheVariants.InData, Mentions.Mention, Image.Image, Image.Named, internal.Chains.Link}
-use Rattle.link_session.specs.{internal.Chains.threaded, internal.Chains.unthreaded, internal.Chains.heads_back, internal.Settled.places_of}
+use Rattle.link_session.specs.{internal.Threads.{cut_threads, undo_threads, IsThreaded}, declared.mark.Mark.Mark}
+use Rattle.link_session.specs.{declared.mark.Place.TheVariants.{InText, InData}, Mentions.Mention, Image.{Image, Named}}
+use Rattle.link_session.specs.{internal.Chains.{Link, threaded, unthreaded, heads_back}, internal.Settled.places_of}
 use Rattle.link_session.proofs.HeadLemmas.{length-cut_heads, cut_grown, length-heads_back}
 use Rattle.link_session.proofs.{WaitLemmas.unthreaded-threaded, ChainBackLemmas.heads_back-append}
 

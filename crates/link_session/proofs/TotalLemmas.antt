@@ -1,23 +1,21 @@
 -- Sizes, limits and shifts read off an image.
-use Rattle.std.proofs.Common.{◌≡◌, ℕ, ◌+◌, ◌*◌, ◌≤◌, Bool, cond, List, [], ◌∷◌, ◌++◌, length, Option, Some, None, refl, sym}
-use Rattle.std.proofs.Common.{◌∙◌, ap, arith, length-append, nat_lt, rules}
-use Rattle.std.proofs.{lemmas.Bool.le-ltb, lemmas.List.length-map, lemmas.List.Sums.sum_by-append}
-use Rattle.std.proofs.{lemmas.Slice.Zip.length-zip}
+use Rattle.std.proofs.Common.{◌≡◌, ℕ, ◌+◌, ◌*◌, ◌≤◌, Bool, cond, List, [], ◌∷◌, ◌++◌, length, Option, Some, None, refl, sym, ◌∙◌, ap, arith}
+use Rattle.std.proofs.{Common.{length-append, nat_lt, rules}, lemmas.Bool.le-ltb, lemmas.List.length-map, lemmas.List.Sums.sum_by-append}
+use Rattle.std.proofs.lemmas.Slice.Zip.{length-zip}
 use Rattle.std.specs.{List.flat_map, List.AllByRecursion, Map.keys_of}
 use Rattle.aout_core.specs.{declared.symbol.Symbol.Symbol, declared.symbol.Segment.Segment, declared.reloc.Reloc.Reloc, Contents.Contents}
 use Rattle.aout_core.specs.{Contents.with_relocation, WellFormed.IsWellFormed}
+use Rattle.aout_core.specs.declared.symbol.Segment.TheVariants as segments
 use Rattle.link_session.specs.declared.entry.AddFault.TheVariants.{TextFull, DataFull, BssFull, NamesFull}
 use Rattle.link_session.specs.Mentions.{Mention, mentions, mentions_in, names_of, externals, externals_in, mention}
-use Rattle.link_session.specs.Cells.{cells, cells_in, cell, words_of}
-use Rattle.link_session.specs.Limits.{limit_passed, refusal}
-use Rattle.link_session.specs.internal.Additions.{external_names, next_limit}
-use Rattle.link_session.specs.{declared.entry.AddFault.AddFault, declared.state.State.State, Earlier.with_earlier, Starts.total}
-use Rattle.link_session.specs.{Starts.size_of, States.state, Image.image, Sessions.IsObject, internal.Fields.IsSmall}
+use Rattle.link_session.specs.{Cells.{cells, cells_in, cell, words_of}, Limits.{limit_passed, refusal}}
+use Rattle.link_session.specs.{internal.Additions.{external_names, next_limit}, declared.entry.AddFault.AddFault}
+use Rattle.link_session.specs.{declared.state.State.State, Earlier.with_earlier, Starts.{total, size_of}, States.state, Image.image}
+use Rattle.link_session.specs.{Sessions.IsObject, internal.Fields.IsSmall}
 use Rattle.tool_options.specs.NameLists.{new_names, is_among}
 use Rattle.tool_options.proofs.NameListLemmas.{new_names-seen}
 use Rattle.link_session.proofs.MentionLemmas.{externals_push, is_among-externals, names_of-map}
 use Rattle.link_session.proofs.{MentionedLemmas.keys-named_states, WellFormedLemmas.well_formed_parts}
-use Rattle.aout_core.specs.declared.symbol.Segment.TheVariants as segments
 
 -- an object has its relocation words
 pub with_all : (o : Contents) → IsWellFormed o → (size : ℕ) → with_relocation o.header size ≡ size

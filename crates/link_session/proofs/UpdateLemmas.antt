@@ -1,22 +1,19 @@
 -- The states, the names and the multiples after one more mention.
-use Rattle.std.proofs.Common.{◌≡◌, ℕ, ◌+◌, Bool, true, false, cond, List, [], ◌∷◌, ◌++◌, map, Some, None, refl}
-use Rattle.std.proofs.Common.{◌∙◌, ap, arith, add-one, rules}
-use Rattle.std.proofs.lemmas.Bool.{or_left, or_right, or_parts}
-use Rattle.std.proofs.{lemmas.List.map-append, lemmas.List.Sums.sum_by-append, lemmas.Slice.Eq.bytes_eq-Decides}
+use Rattle.std.proofs.Common.{◌≡◌, ℕ, ◌+◌, Bool, true, false, cond, List, [], ◌∷◌, ◌++◌, map, Some, None, refl, ◌∙◌, ap, arith, add-one}
+use Rattle.std.proofs.{Common.rules, lemmas.Bool.{or_left, or_right, or_parts}, lemmas.List.map-append, lemmas.List.Sums.sum_by-append}
+use Rattle.std.proofs.lemmas.Slice.Eq.{bytes_eq-Decides}
 use Rattle.std.specs.Prelude.{bytes_eq}
 use Rattle.aout_core.specs.{declared.symbol.Segment.Segment, Contents.Contents}
+use Rattle.aout_core.specs.declared.symbol.Segment.TheVariants as segments
 use Rattle.link_session.specs.Mentions.{Mention, mentions_in, mentions, names_of, names_by_first_mention, place_of}
-use Rattle.link_session.specs.States.{definition_by, first_definition, wanted_size, state}
-use Rattle.link_session.specs.States.{is_definition, multiple_names}
-use Rattle.link_session.specs.{declared.state.State.State}
-use Rattle.link_session.specs.{declared.state.State.TheVariants.Wanted, Starts.size_of, Starts.total, Cells.cells_in, Image.named_states}
-use Rattle.link_session.specs.{Image.image_by, Image.image, Undo.with_state, internal.Updates.updated_state, internal.Updates.clashes}
+use Rattle.link_session.specs.States.{definition_by, first_definition, wanted_size, state, is_definition, multiple_names}
+use Rattle.link_session.specs.{declared.state.State.State, declared.state.State.TheVariants.Wanted, Starts.{size_of, total}, Cells.cells_in}
+use Rattle.link_session.specs.{Image.{named_states, image_by, image}, Undo.with_state, internal.Updates.{updated_state, clashes}}
 use Rattle.tool_options.specs.NameLists.{is_among, new_names}
 use Rattle.tool_options.proofs.NameListLemmas.{is_among-append}
 use Rattle.link_session.proofs.MentionLemmas.{mentions_push, names_by_first_mention-append}
 use Rattle.link_session.proofs.StateLemmas.{first_definition-append, wanted_size-append}
 use Rattle.link_session.proofs.{CellLemmas.cells_push, MultipleLemmas.multiple_names-append}
-use Rattle.aout_core.specs.declared.symbol.Segment.TheVariants as segments
 
 -- the state of a name after one more mention
 pub state_mention : (ms : List Mention) (m : Mention) (name : List ℕ) →

@@ -1,20 +1,16 @@
 -- In an object every word that refers to a name refers to one that the object mentions.
-use Rattle.std.proofs.Common.{◌≡◌, ℕ, zero, suc, ◌+◌, true, eqb, List, [], ◌∷◌, ◌++◌, map, Option, None}
-use Rattle.std.proofs.Common.{rules}
-use Rattle.std.proofs.{lemmas.Bool.or_left, lemmas.Bool.or_right}
+use Rattle.std.proofs.Common.{◌≡◌, ℕ, zero, suc, ◌+◌, true, eqb, List, [], ◌∷◌, ◌++◌, map, Option, None, rules}
+use Rattle.std.proofs.lemmas.Bool.{or_left, or_right}
 use Rattle.std.specs.{Prelude.zip, Prelude.slice_get, Prelude.filter, List.flat_map, List.AllByRecursion}
-use Rattle.aout_core.specs.WellFormed.{is_external, kind_of, symbol_number, is_wanted, kind_fault, word_fault, first_of}
-use Rattle.aout_core.specs.WellFormed.{first_bad_word, IsWellFormed}
-use Rattle.aout_core.specs.{declared.symbol.Symbol.Symbol, declared.symbol.Segment.Segment, declared.reloc.Reloc.Reloc}
-use Rattle.aout_core.specs.{declared.reloc.Kind.Kind, Contents.Contents}
-use Rattle.link_session.specs.Earlier.{with_earlier}
-use Rattle.link_session.specs.Mentions.{mention, mentions_in, mentions, names_of, forced_mention}
+use Rattle.aout_core.specs.WellFormed.{is_external, kind_of, symbol_number, is_wanted, kind_fault, word_fault, first_of, first_bad_word}
+use Rattle.aout_core.specs.{WellFormed.IsWellFormed, declared.symbol.Symbol.Symbol, declared.symbol.Segment.Segment}
+use Rattle.aout_core.specs.{declared.reloc.Reloc.Reloc, declared.reloc.Kind.Kind, Contents.Contents}
+use Rattle.aout_core.specs.declared.symbol.Segment.TheVariants as segments
+use Rattle.link_session.specs.{Earlier.with_earlier, Mentions.{mention, mentions_in, mentions, names_of, forced_mention}}
 use Rattle.link_session.specs.Cells.{Referent, to_segment, to_name, referent_by, referent, name_in, words_of}
 use Rattle.tool_options.specs.NameLists.{is_among}
 use Rattle.tool_options.proofs.NameListLemmas.{is_among-append}
-use Rattle.link_session.proofs.CellLemmas.{RefersAmong, AllReferAmong}
-use Rattle.link_session.proofs.{MentionLemmas.names_of-append, ListLemmas.all_split, ListLemmas.all_map}
-use Rattle.aout_core.specs.declared.symbol.Segment.TheVariants as segments
+use Rattle.link_session.proofs.{CellLemmas.{RefersAmong, AllReferAmong}, MentionLemmas.names_of-append, ListLemmas.{all_split, all_map}}
 
 -- an external entry of the table is mentioned
 external_is_among : (earlier : List Contents) (o : Contents) (symbols : List Symbol) (i : ℕ) → is_wanted (slice_get symbols i) ≡ true →

@@ -5,10 +5,9 @@
 -- of the objects before it.
 use Rattle.std.specs.Prelude.{◌≡◌, ◌≢◌, ℕ, List, [], ◌∷◌, ◌++◌, Some, slice_get}
 use Rattle.aout_core.specs.{declared.symbol.Segment.Segment, Contents.Contents}
-use Rattle.link_session.specs.Starts.{shift, no_starts, starts_after, next_starts, shifts_at, shift_by}
-use Rattle.link_session.specs.{declared.mark.Mark.Mark, declared.state.State.State, Labelled.Labelled, Mentions.mentions}
-use Rattle.link_session.specs.{Mentions.externals, States.state, Marks.IsDifference, Marks.states_marked, Undo.Kept, Sessions.Adds}
-use Rattle.link_session.specs.{Sessions.Withdraws}
+use Rattle.link_session.specs.{Starts.{shift, no_starts, starts_after, next_starts, shifts_at, shift_by}, declared.mark.Mark.Mark}
+use Rattle.link_session.specs.{declared.state.State.State, Labelled.Labelled, Mentions.{mentions, externals}, States.state}
+use Rattle.link_session.specs.{Marks.{IsDifference, states_marked}, Undo.Kept, Sessions.{Adds, Withdraws}}
 
 -- what is taken away right after an addition is the object that was added, and the session is what it was
 abbrev pub WithdrawLaw : Type 0

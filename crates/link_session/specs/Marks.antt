@@ -6,11 +6,10 @@
 -- state is changed, and a common that grows several times has several marks.
 use Rattle.std.specs.Prelude.{◌≡◌, ◌≢◌, ℕ, Bool, false, cond, eqb, nat_eq, List, [], ◌∷◌, ◌++◌, Some, slice_get}
 use Rattle.aout_core.specs.Contents.{Contents}
-use Rattle.link_session.specs.Mentions.{Mention, mentions, mentions_in, externals}
-use Rattle.link_session.specs.{declared.cell.Cell.Cell, declared.state.State.State, declared.state.State.TheVariants.Defined}
-use Rattle.link_session.specs.{declared.state.State.TheVariants.Wanted, declared.mark.Mark.Mark, declared.mark.Mark.TheVariants.CellWas}
-use Rattle.link_session.specs.{declared.mark.Mark.TheVariants.StateWas, declared.mark.Place.Place, declared.mark.Place.TheVariants.InText}
-use Rattle.link_session.specs.{declared.mark.Place.TheVariants.InData, States.state, States.is_definition, Image.image}
+use Rattle.link_session.specs.{Mentions.{Mention, mentions, mentions_in, externals}, declared.cell.Cell.Cell, declared.state.State.State}
+use Rattle.link_session.specs.{declared.state.State.TheVariants.{Defined, Wanted}, declared.mark.Mark.Mark}
+use Rattle.link_session.specs.{declared.mark.Mark.TheVariants.{CellWas, StateWas}, declared.mark.Place.Place}
+use Rattle.link_session.specs.{declared.mark.Place.TheVariants.{InText, InData}, States.{state, is_definition}, Image.image}
 
 abbrev pub same_place : Place → Place → Bool
 same_place (InText i) (InText j) = nat_eq i j

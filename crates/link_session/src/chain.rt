@@ -14,8 +14,7 @@
 //! - A withdrawal first takes the object's own cells out of the front, the last first. Then it puts the marks back, the
 //!   last first: each cell becomes the head again, and its link still names the cell after it.
 ghost use Rattle.std.specs.Prelude.{◌≡◌, ◌≤◌, length, slice_index_or, slice_set, None, Some, vec_capacity};
-ghost use Rattle.link_session.specs.internal.Chains.{head_for, with_head, unthreaded};
-ghost use Rattle.link_session.specs.internal.Threads.{grown_heads};
+ghost use Rattle.link_session.specs.{internal.Chains.{head_for, with_head, unthreaded}, internal.Threads.grown_heads};
 
 use crate::cell::{Cell, Target};
 use crate::mark::Place;

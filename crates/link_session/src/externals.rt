@@ -1,6 +1,5 @@
 //! The externals of a session, one after another.
-ghost use Rattle.std.specs.Prelude.{◌≡◌};
-ghost use Rattle.std.specs.Iterator.{YieldsFirst, item_count};
+ghost use Rattle.std.specs.{Prelude.◌≡◌, Iterator.{YieldsFirst, item_count}};
 
 use crate::merged::Externals;
 use crate::state::State;

@@ -1,13 +1,10 @@
 //! An object joined to the merged image.
 ghost use Rattle.std.specs.Prelude.{◌≡◌, ◌+◌, ◌*◌, ◌≤◌, ◌<◌, [], None, filter, length, vec_len, vec_capacity, OnOk, OnErr, IfOk};
 ghost use Rattle.indexmap.specs.IndexMap.{spare};
+ghost use Rattle.aout_core.specs.{Contents.Fits, WellFormed.{is_external, IsWellFormed}};
 ghost use Rattle.aout_core.specs.declared.symbol.Segment.TheVariants as segments;
-ghost use Rattle.aout_core.specs.Contents.{Fits};
-ghost use Rattle.aout_core.specs.WellFormed.{is_external, IsWellFormed};
 ghost use Rattle.link_session.specs.internal.Fields.{image_in, threads_in, with_own_cells, with_own_threads, IsSmall};
-ghost use Rattle.link_session.specs.internal.Restores.{TakesBack};
-ghost use Rattle.link_session.specs.internal.Settled.{IsCovered};
-ghost use Rattle.link_session.specs.internal.Threads.{next_threads, IsThreaded};
+ghost use Rattle.link_session.specs.{internal.Restores.TakesBack, internal.Settled.IsCovered, internal.Threads.{next_threads, IsThreaded}};
 ghost use Rattle.link_session.specs.internal.Additions.{all_places, joined_image, next_limit};
 
 use crate::bind::bind_waiting;

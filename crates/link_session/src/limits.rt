@@ -1,12 +1,10 @@
 //! The limits of a session.
-ghost use Rattle.std.specs.Prelude.{◌≡◌, ◌+◌, ◌*◌, ◌^◌, ◌<◌, ◌≤◌, ◌++◌, ◌&&◌, not, length, nat_lt, bytes_eq, IfOk};
-ghost use Rattle.std.specs.List.{list_any};
+ghost use Rattle.std.specs.{Prelude.{◌≡◌, ◌+◌, ◌*◌, ◌^◌, ◌<◌, ◌≤◌, ◌++◌, ◌&&◌, not, length, nat_lt, bytes_eq, IfOk}, List.list_any};
 ghost use Rattle.std.specs.Map.{keys_of};
 ghost use Rattle.indexmap.specs.IndexMap.{spare};
 ghost use Rattle.aout_core.specs.WellFormed.{is_external};
 ghost use Rattle.tool_options.specs.NameLists.{is_among};
-ghost use Rattle.link_session.specs.Sessions.{IsObject};
-ghost use Rattle.link_session.specs.internal.Fields.{image_in, IsSmall};
+ghost use Rattle.link_session.specs.{Sessions.IsObject, internal.Fields.{image_in, IsSmall}};
 ghost use Rattle.link_session.specs.internal.Additions.{external_names, new_count, next_limit};
 ghost use Rattle.link_session.specs.internal.NewNames.{with_entered, with_new};
 

@@ -1,13 +1,10 @@
 //! The mentions of external names.
 ghost use Rattle.std.specs.Prelude.{◌≡◌, ◌+◌, ◌*◌, ◌^◌, ◌≤◌, ◌<◌, ◌++◌, ◌&&◌, ◌∷◌, [], cond, nat_lt, filter, length, vec_len, vec_capacity, IfSome, ℕ};
 ghost use Rattle.indexmap.specs.IndexMap.{spare};
-ghost use Rattle.aout_core.specs.Words.{plus};
-ghost use Rattle.aout_core.specs.WellFormed.{is_external, segment_of};
-ghost use Rattle.link_session.specs.Starts.{shift_by};
-ghost use Rattle.link_session.specs.Image.{state_at};
-ghost use Rattle.link_session.specs.Mentions.{statement_by};
-ghost use Rattle.link_session.specs.internal.Updates.{clashes};
-ghost use Rattle.link_session.specs.internal.Additions.{with_mention, mention_of, clash, state_mark, place_in, state_for, changes, mentions_by, with_mentions, state_marks, all_clashes, all_places};
+ghost use Rattle.aout_core.specs.{Words.plus, WellFormed.{is_external, segment_of}};
+ghost use Rattle.link_session.specs.{Starts.shift_by, Image.state_at, Mentions.statement_by, internal.Updates.clashes};
+ghost use Rattle.link_session.specs.internal.Additions.{with_mention, mention_of, clash, state_mark, place_in, state_for, changes};
+ghost use Rattle.link_session.specs.internal.Additions.{mentions_by, with_mentions, state_marks, all_clashes, all_places};
 
 use crate::mark::Mark;
 use crate::merged::Externals;

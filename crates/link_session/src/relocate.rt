@@ -1,14 +1,10 @@
 //! The cells of an object's own words, relocated.
 ghost use Rattle.std.specs.Prelude.{◌≡◌, ◌+◌, ◌≤◌, ◌++◌, ◌<◌, ◌*◌, ℕ, length, slice_index_or, slice_set, vec_len, vec_capacity, None, Some};
 ghost use Rattle.aout_core.specs.WellFormed.{kind_of, symbol_number};
-ghost use Rattle.link_session.specs.Starts.{no_starts, next_starts, shifts_at};
-ghost use Rattle.link_session.specs.Image.{state_at};
-ghost use Rattle.link_session.specs.Cells.{name_target, offset_in, segment_target};
-ghost use Rattle.link_session.specs.internal.Fields.{image_in};
+ghost use Rattle.link_session.specs.{Starts.{no_starts, next_starts, shifts_at, shift_by}, Image.state_at};
+ghost use Rattle.link_session.specs.{Cells.{name_target, offset_in, segment_target}, internal.Fields.image_in};
 ghost use Rattle.link_session.specs.internal.Additions.{next_shifts, no_place, placed_reference, placed_cell, place_at};
-ghost use Rattle.link_session.specs.Starts.{shift_by};
-ghost use Rattle.link_session.specs.internal.Chains.{head_for, with_head, threaded};
-ghost use Rattle.link_session.specs.internal.OwnWords.{own_placed, own_threaded};
+ghost use Rattle.link_session.specs.{internal.Chains.{head_for, with_head, threaded}, internal.OwnWords.{own_placed, own_threaded}};
 
 use crate::cell::{Cell, Target};
 use crate::chain::{Link, thread};

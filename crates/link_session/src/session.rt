@@ -1,16 +1,11 @@
 //! The session: an incremental link of a list of objects, from which the object added last can be taken out again.
-ghost use Rattle.std.specs.Prelude.{◌≡◌, ◌*◌, ◌≤◌, ◌<◌, ◌++◌, ◌∷◌, [], None, Some, length, map, replicate, position, slice_get, bytes_eq, IsOk, IfOk, IfErr, OnOk, OnErr, IfSome, IsNone};
-ghost use Rattle.std.specs.List.{AllByRecursion};
-ghost use Rattle.std.specs.Map.{keys_of};
+ghost use Rattle.std.specs.Prelude.{◌≡◌, ◌*◌, ◌≤◌, ◌<◌, ◌++◌, ◌∷◌, [], None, Some, length, map, replicate, position, slice_get, bytes_eq};
+ghost use Rattle.std.specs.{Prelude.{IsOk, IfOk, IfErr, OnOk, OnErr, IfSome, IsNone}, List.AllByRecursion, Map.keys_of};
 ghost use Rattle.indexmap.specs.IndexMap.{spare};
 ghost use Rattle.tool_options.specs.ForcedNames.{AreDifferent};
 ghost use Rattle.aout_core.specs.declared.symbol.Segment.TheVariants.{TextSeg, DataSeg};
-ghost use Rattle.link_session.specs.Image.{GivesInOrder};
-ghost use Rattle.link_session.specs.Labelled.{objects};
-ghost use Rattle.link_session.specs.Mentions.{externals, forced_mention};
-ghost use Rattle.link_session.specs.Limits.{limit_passed, refusal};
-ghost use Rattle.link_session.specs.Starts.{total};
-ghost use Rattle.link_session.specs.Undo.{image_of, IsJournal};
+ghost use Rattle.link_session.specs.{Image.GivesInOrder, Labelled.objects, Mentions.{externals, forced_mention}};
+ghost use Rattle.link_session.specs.{Limits.{limit_passed, refusal}, Starts.total, Undo.{image_of, IsJournal}};
 ghost use Rattle.link_session.specs.internal.Additions.{with_mentions};
 ghost use Rattle.link_session.specs.Sessions.{nothing_kept, labelled, newest, Adds, Withdraws, IsCause, IsObject};
 
@@ -56,8 +51,7 @@ impl Model for Session {
     ghost Value = { Kept };
 
     ghost use Rattle.std.specs.Prelude.{map};
-    ghost use Rattle.link_session.specs.internal.Fields.{image_in, threads_in, IsSession};
-    ghost use Rattle.link_session.specs.Undo.{marks_in};
+    ghost use Rattle.link_session.specs.{internal.Fields.{image_in, threads_in, IsSession}, Undo.marks_in};
 
     ghost view = { λ s. record { forced = s.forced; entries = s.entries.items; journal = map marks_in s.undo_records.items } };
 

@@ -1,7 +1,6 @@
 //! What is known of an external name, and what one more mention makes of it.
 ghost use Rattle.std.specs.Prelude.{◌≡◌};
-ghost use Rattle.link_session.specs.internal.Additions.{changes};
-ghost use Rattle.link_session.specs.internal.Updates.{clashes, updated_state};
+ghost use Rattle.link_session.specs.{internal.Additions.changes, internal.Updates.{clashes, updated_state}};
 
 use aout_core::Segment;
 

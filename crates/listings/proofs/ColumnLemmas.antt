@@ -1,6 +1,5 @@
 -- Columns and lines that were written are found again.
-use Rattle.std.proofs.Common.{◌≡◌, ℕ, zero, suc, replicate, ◌≤◌, List, [], ◌∷◌, ◌++◌, refl, ap, arith, append_assoc, le-ltb, ◌∙◌}
-use Rattle.std.proofs.Common.{rules}
+use Rattle.std.proofs.Common.{◌≡◌, ℕ, zero, suc, replicate, ◌≤◌, List, [], ◌∷◌, ◌++◌, refl, ap, arith, append_assoc, le-ltb, ◌∙◌, rules}
 use Rattle.std.proofs.{lemmas.Bool.ne_eqb, lemmas.List.append-nil}
 use Rattle.std.specs.List.{AllByRecursion}
 use Rattle.listings.specs.Columns.{skip, column, after_column, from_third, from_fourth, row_of}

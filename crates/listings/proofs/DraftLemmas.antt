@@ -1,19 +1,16 @@
 -- A draft stays one of a file, whatever row is read.
 use Rattle.std.proofs.lemmas.Grind.{common_steps}
-use Rattle.std.proofs.Common.{◌≡◌, ℕ, ◌+◌, ◌<◌, Bool, true, false, eqb, eqb-true, List, [], ◌∷◌, length}
-use Rattle.std.proofs.Common.{arith, length-append, rules}
+use Rattle.std.proofs.Common.{◌≡◌, ℕ, ◌+◌, ◌<◌, Bool, true, false, eqb, eqb-true, List, [], ◌∷◌, length, arith, length-append, rules}
 use Rattle.std.proofs.lemmas.Bool.{ltb-true}
 use Rattle.std.specs.Prelude.{◌%◌, if◌then◌else◌, nat_lt, Result, Ok, Err}
 use Rattle.aout_core.specs.{declared.reloc.Reloc.Reloc, declared.symbol.Symbol.Symbol}
 use Rattle.listings.specs.Drafts.{Segment, Draft}
-use Rattle.listings.specs.Reading.{Mistake, ◌>>=◌, in_column, unnumbered, relocs_of, is_right, with_word, word_entry, symbol_entry, entry_in}
-use Rattle.listings.specs.Reading.{only_first, not_last, named_by, begins_with_digit, row_by, row_read, own, next_after}
-use Rattle.listings.specs.Reading.{State, line_by, line_read}
-use Rattle.listings.specs.declared.draft.Addresses.{Addresses}
-use Rattle.listings.specs.declared.fault.Reason.TheVariants.{WrongAddress, TooManyWords}
-use Rattle.listings.specs.internal.Whole.{IsWhole, Begins, IsDraft}
-use Rattle.listings.specs.declared.fault.Section.TheVariants.{InHeader, InText, InData, InSymbols, Ended}
-use Rattle.listings.specs.{declared.fault.Section.Section, declared.fault.Word.Word, Columns.Row, Columns.row_of, Octal.number}
+use Rattle.listings.specs.Reading.{Mistake, ◌>>=◌, in_column, unnumbered, relocs_of, is_right, with_word, word_entry, symbol_entry}
+use Rattle.listings.specs.Reading.{entry_in, only_first, not_last, named_by, begins_with_digit, row_by, row_read, own, next_after, State}
+use Rattle.listings.specs.{Reading.{line_by, line_read}, declared.draft.Addresses.Addresses}
+use Rattle.listings.specs.{declared.fault.Reason.TheVariants.{WrongAddress, TooManyWords}, internal.Whole.{IsWhole, Begins, IsDraft}}
+use Rattle.listings.specs.{declared.fault.Section.TheVariants.{InHeader, InText, InData, InSymbols, Ended}, declared.fault.Section.Section}
+use Rattle.listings.specs.{declared.fault.Word.Word, Columns.{Row, row_of}, Octal.number}
 
 -- what holds of a value that may be missing
 abbrev Holds : {B : Type 0} → (B → Type 0) → Result B Mistake → Type 0

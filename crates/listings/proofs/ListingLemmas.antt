@@ -1,29 +1,24 @@
 -- The listing of a file says that file.
 use Rattle.std.proofs.Common.{◌≡◌, ℕ, ◌+◌, ◌*◌, ◌%◌, ◌<◌, Bool, true, false, cond, eqb, eqb-true, List, [], ◌∷◌, ◌++◌, length, refl, sym}
-use Rattle.std.proofs.Common.{◌∙◌, ap, subst, arith, rules, append_assoc, ne_eqb, le-ltb}
-use Rattle.std.proofs.{lemmas.List.append-nil}
-use Rattle.std.specs.Prelude.{codes, map, ◌-◌, if◌then◌else◌, IsTrue, drop, Option, Some, None, Result, Ok, Err}
-use Rattle.std.specs.{List.AllByRecursion}
-use Rattle.aout_core.specs.Contents.{Contents, is_magic, has_whole_sizes, IsWord, IsSound}
-use Rattle.aout_core.specs.{declared.reloc.Reloc.Reloc, declared.symbol.Symbol.Symbol, declared.header.Header.Header, Addresses.data_start}
-use Rattle.aout_core.specs.{declared.part.Part.Part}
+use Rattle.std.proofs.{Common.{◌∙◌, ap, subst, arith, rules, append_assoc, ne_eqb, le-ltb}, lemmas.List.append-nil}
+use Rattle.std.specs.{Prelude.{codes, map, ◌-◌, if◌then◌else◌, IsTrue, drop, Option, Some, None, Result, Ok, Err}, List.AllByRecursion}
+use Rattle.aout_core.specs.{Contents.{Contents, is_magic, has_whole_sizes, IsWord, IsSound}, declared.reloc.Reloc.Reloc}
+use Rattle.aout_core.specs.{declared.symbol.Symbol.Symbol, declared.header.Header.Header, Addresses.data_start, declared.part.Part.Part}
+use Rattle.aout_core.specs.declared.part.Part.TheVariants as parts
 use Rattle.listings.specs.declared.fault.Section.TheVariants.{InText, InData, Ended}
 use Rattle.listings.specs.Columns.{Row, row_of, column, from_third, from_fourth, stray_from}
 use Rattle.listings.specs.Drafts.{Segment, Draft, empty_segment, empty_draft, finished}
 use Rattle.listings.specs.Listing.{Remarks, gap, wide, remarked, word_line, word_lines, symbol_lines, named_line, unusual, note_lines}
 use Rattle.listings.specs.Listing.{head_lines, text_lines, data_lines, bss_lines, table_lines, lines_before_end, listing_lines, listing}
-use Rattle.listings.specs.Reading.{◌>>=◌, in_column, named, is_label, row_read, lines_read, at_first_line, has_head, unless_stray, file_of, read}
-use Rattle.listings.specs.declared.draft.Addresses.{Addresses}
-use Rattle.listings.specs.Laws.{IsLine, IsLabel, AreRemarks}
-use Rattle.listings.specs.{declared.fault.Fault.Fault, declared.fault.Reason.Reason, declared.fault.Reason.TheVariants.NoMagic}
-use Rattle.listings.specs.{declared.fault.Reason.TheVariants.OddSize, Octal.number}
+use Rattle.listings.specs.Reading.{◌>>=◌, in_column, named, is_label, row_read, lines_read, at_first_line, has_head, unless_stray, file_of}
+use Rattle.listings.specs.{Reading.read, declared.draft.Addresses.Addresses, Laws.{IsLine, IsLabel, AreRemarks}, declared.fault.Fault.Fault}
+use Rattle.listings.specs.{declared.fault.Reason.Reason, declared.fault.Reason.TheVariants.{NoMagic, OddSize}, Octal.number}
 use Rattle.texts.specs.{Numbers.six_digits, Numbers.octal, Lines.lines_in, Lines.text_of, Names.printable_name}
 use Rattle.listings.proofs.OctalLemmas.{IsNumber, octal_again, short_again, octal_digits, short_digits}
 use Rattle.listings.proofs.ColumnLemmas.{IsColumn, ink, number_column, row_two, line_of_column, line_gap, line_last, lines_again}
 use Rattle.listings.proofs.NameLemmas.{name_column}
 use Rattle.listings.proofs.RowLemmas.{at_line, Reads, reads_nil, reads_one, reads_both, reads_more, entry_row, Enters, AreRelocs, line_with}
 use Rattle.listings.proofs.RowLemmas.{line_alone, words_with, words_alone, in_symbols, symbols_read}
-use Rattle.aout_core.specs.declared.part.Part.TheVariants as parts
 
 -- no line has a newline
 abbrev AreLines : List (List ℕ) → Type 0

@@ -1,15 +1,11 @@
 -- Steps of the loops of the reader.
-use Rattle.std.proofs.Common.{◌≡◌, ℕ, ◌<◌, Bool, true, false, eqb, List, [], ◌∷◌, length, inl, inr, refl, sym, ◌∙◌, subst, ap, arith}
-use Rattle.std.proofs.Common.{rules}
-use Rattle.std.specs.Prelude.{◌⊎◌, ◌||◌, Result, Ok, Err}
-use Rattle.std.specs.List.{list_any}
+use Rattle.std.proofs.Common.{◌≡◌, ℕ, ◌<◌, Bool, true, false, eqb, List, [], ◌∷◌, length, inl, inr, refl, sym, ◌∙◌, subst, ap, arith, rules}
+use Rattle.std.specs.{Prelude.{◌⊎◌, ◌||◌, Result, Ok, Err}, List.list_any}
 use Rattle.aout_core.specs.Contents.{Contents, IsSound}
 use Rattle.listings.specs.Reading.{Mistakes, State, is_head, has_head, line_read, lines_read, read}
-use Rattle.listings.specs.MemoryWanted.{IsEntry, IsLater, MayRunOutInLines}
-use Rattle.listings.specs.declared.draft.Addresses.{Addresses}
-use Rattle.listings.specs.Columns.{row_of, first_line, other_lines, is_said, says_something}
-use Rattle.listings.specs.declared.fault.ListingFault.{ListingFault}
-use Rattle.listings.specs.{Listing.Remarks, Listing.listing, Laws.AreRemarks, Said.Says, Said.Gives}
+use Rattle.listings.specs.{MemoryWanted.{IsEntry, IsLater, MayRunOutInLines}, declared.draft.Addresses.Addresses}
+use Rattle.listings.specs.{Columns.{row_of, first_line, other_lines, is_said, says_something}, declared.fault.ListingFault.ListingFault}
+use Rattle.listings.specs.{Listing.{Remarks, listing}, Laws.AreRemarks, Said.{Says, Gives}}
 use Rattle.listings.proofs.ListingLemmas.{listing_read}
 use Rattle.texts.specs.Lines.{lines_in}
 

@@ -1,17 +1,14 @@
 -- Rows that were written say what was written.
 use Rattle.std.proofs.Common.{◌≡◌, ℕ, ◌+◌, ◌*◌, ◌%◌, ◌<◌, true, false, eqb, List, [], ◌∷◌, ◌++◌, length, refl, sym, ◌∙◌, ap, subst, arith}
-use Rattle.std.proofs.Common.{append_assoc, length-append, replicate, rules}
-use Rattle.std.proofs.{lemmas.List.append-nil}
+use Rattle.std.proofs.{Common.{append_assoc, length-append, replicate, rules}, lemmas.List.append-nil}
 use Rattle.std.specs.{Prelude.◌-◌, Prelude.Some, Prelude.None, Prelude.Result, Prelude.Ok, List.AllByRecursion}
-use Rattle.aout_core.specs.{declared.reloc.Reloc.Reloc, declared.symbol.Symbol.Symbol, Contents.IsWord, Contents.IsSymbol}
-use Rattle.aout_core.specs.{declared.part.Part.Part}
+use Rattle.aout_core.specs.{declared.reloc.Reloc.Reloc, declared.symbol.Symbol.Symbol, Contents.{IsWord, IsSymbol}, declared.part.Part.Part}
 use Rattle.listings.specs.Listing.{Remarks, gap, wide, remarked, word_line, word_lines, symbol_line, symbol_lines}
 use Rattle.listings.specs.Reading.{Mistake, ◌>>=◌, is_digits, relocs_of, with_word, is_right, word_entry, symbol_entry, entry_in, row_read}
-use Rattle.listings.specs.Reading.{State, line_by, lines_read}
-use Rattle.listings.specs.declared.draft.Addresses.{Addresses}
-use Rattle.listings.specs.declared.draft.Addresses.TheVariants.{Compared, Computed}
-use Rattle.listings.specs.{declared.fault.Section.TheVariants.InSymbols, Octal.number, Columns.row_of, Columns.column, Columns.from_third}
-use Rattle.listings.specs.{Columns.from_fourth, Names.name_of, Drafts.Segment, Drafts.Draft, Laws.IsLabel, Laws.AreRemarks}
+use Rattle.listings.specs.{Reading.{State, line_by, lines_read}, declared.draft.Addresses.Addresses}
+use Rattle.listings.specs.{declared.draft.Addresses.TheVariants.{Compared, Computed}, declared.fault.Section.TheVariants.InSymbols}
+use Rattle.listings.specs.{Octal.number, Columns.{row_of, column, from_third, from_fourth}, Names.name_of, Drafts.{Segment, Draft}}
+use Rattle.listings.specs.Laws.{IsLabel, AreRemarks}
 use Rattle.texts.specs.{Numbers.six_digits, Numbers.octal, Names.printable_name}
 use Rattle.listings.proofs.OctalLemmas.{octal_again, short_again, IsNumber, octal_digits, short_digits}
 use Rattle.listings.proofs.ColumnLemmas.{number_column, row_two, row_three, row_four, third_numbered, fourth_numbered}

@@ -1,11 +1,9 @@
 -- One more word of a segment is written.
 use Rattle.std.proofs.lemmas.Grind.{common_steps}
 use Rattle.std.proofs.Common.{◌≡◌, ℕ, zero, suc, ◌+◌, ◌*◌, ◌%◌, ◌<◌, List, [], ◌∷◌, ◌++◌, drop, length, get_or, refl, sym, ◌∙◌, ap, arith}
-use Rattle.std.proofs.Common.{append_assoc, drop-drop}
-use Rattle.std.proofs.{lemmas.List.drop_more, lemmas.List.take_all, Math.Seq.drop-length}
+use Rattle.std.proofs.{Common.{append_assoc, drop-drop}, lemmas.List.{drop_more, take_all}, Math.Seq.drop-length}
 use Rattle.std.specs.Prelude.{◌-◌, codes, take, Option, slice_get}
-use Rattle.aout_core.specs.Contents.{Contents}
-use Rattle.aout_core.specs.{declared.reloc.Reloc.Reloc, declared.part.Part.Part}
+use Rattle.aout_core.specs.{Contents.Contents, declared.reloc.Reloc.Reloc, declared.part.Part.Part}
 use Rattle.texts.specs.{Lines.text_of, Numbers.six_digits}
 use Rattle.texts.proofs.LineLemmas.{two_texts}
 use Rattle.listings.specs.Listing.{Remarks, gap, cut_listing, lines_before_end, listing, with_relocs, word_line, word_lines}

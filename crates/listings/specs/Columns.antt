@@ -3,8 +3,7 @@
 -- A line ends with a newline, or with the text. Blanks separate its columns, and each byte up to 32 is a blank. Of those below 32 a
 -- listing has only tabs, newlines, and carriage returns before newlines. The first four columns make a row; a column that is missing is
 -- the empty list.
-use Rattle.std.specs.Prelude.{ℕ, ◌+◌, ◌-◌, Bool, false, ◌&&◌, not, nat_lt, eqb, if◌then◌else◌, List, [], ◌∷◌, length}
-use Rattle.std.specs.Prelude.{Option, Some, None}
+use Rattle.std.specs.Prelude.{ℕ, ◌+◌, ◌-◌, Bool, false, ◌&&◌, not, nat_lt, eqb, if◌then◌else◌, List, [], ◌∷◌, length, Option, Some, None}
 use Rattle.std.specs.List.{list_any}
 use Rattle.listings.specs.{declared.fault.Fault.Fault, declared.fault.Reason.TheVariants.StrayByte}
 use Rattle.texts.specs.Lines.{lines_in}

@@ -3,8 +3,7 @@
 -- Next is the address of the next word of the section, or the number of the next symbol.
 use Rattle.std.specs.Prelude.{ℕ, ◌*◌, List, [], length}
 use Rattle.aout_core.specs.{declared.reloc.Reloc.Reloc, declared.symbol.Symbol.Symbol, Contents.Contents}
-use Rattle.listings.specs.{declared.fault.Section.Section, declared.fault.Section.TheVariants.InHeader}
-use Rattle.listings.specs.declared.draft.Addresses.{Addresses}
+use Rattle.listings.specs.{declared.fault.Section.Section, declared.fault.Section.TheVariants.InHeader, declared.draft.Addresses.Addresses}
 
 pub record Segment : Type 0 where
   pub words : List ℕ

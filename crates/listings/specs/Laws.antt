@@ -1,8 +1,7 @@
 -- The law of listings: reading the listing of a file gives that file. (own choice)
 use Rattle.std.specs.{Prelude.◌≡◌, Prelude.ℕ, Prelude.◌≤◌, Prelude.List, Prelude.Ok, Prelude.false, List.AllByRecursion}
 use Rattle.aout_core.specs.{declared.symbol.Symbol.Symbol, Contents.Contents, Contents.IsSound, declared.part.Part.Part}
-use Rattle.listings.specs.{Columns.row_of, Drafts.Draft, Listing.Remarks, Listing.listing, Reading.is_numbered, Reading.row_read}
-use Rattle.listings.specs.{Reading.read}
+use Rattle.listings.specs.{Columns.row_of, Drafts.Draft, Listing.{Remarks, listing}, Reading.{is_numbered, row_read, read}}
 use Rattle.listings.specs.declared.draft.Addresses.{Addresses}
 
 -- no newline, and no other byte below the blank

@@ -8,8 +8,8 @@ use Rattle.std.specs.Prelude.{ℕ, ◌+◌, ◌-◌, ◌%◌, eqb, if◌then◌e
 use Rattle.std.specs.Prelude.{slice_get, codes}
 use Rattle.aout_core.specs.{declared.header.Header.Header, declared.reloc.Reloc.Reloc, declared.symbol.Symbol.Symbol, Contents.Contents}
 use Rattle.aout_core.specs.{declared.part.Part.Part, Addresses.data_start_in}
-use Rattle.texts.specs.{Numbers.six_digits, Numbers.octal, Names.printable_name, Lines.text_of}
 use Rattle.aout_core.specs.declared.part.Part.TheVariants as parts
+use Rattle.texts.specs.{Numbers.six_digits, Numbers.octal, Names.printable_name, Lines.text_of}
 
 -- remarks on a file for people; `read` skips them
 pub record Remarks : Type 0 where

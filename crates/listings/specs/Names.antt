@@ -3,8 +3,7 @@
 -- A byte that prints is itself, except the blank and the backslash. A backslash and three octal digits are any byte.
 use Rattle.std.specs.Prelude.{ℕ, ◌+◌, ◌-◌, ◌*◌, nat_lt, eqb, if◌then◌else◌, List, [], ◌∷◌, ◌++◌, length, take, Result, Ok, Err}
 use Rattle.aout_core.specs.Names.{before_nul}
-use Rattle.listings.specs.{declared.fault.Reason.Reason, declared.fault.Reason.TheVariants.Missing}
-use Rattle.listings.specs.{declared.fault.Reason.TheVariants.BadName, declared.fault.Reason.TheVariants.LongName, Octal.is_digit}
+use Rattle.listings.specs.{declared.fault.Reason.Reason, declared.fault.Reason.TheVariants.{Missing, BadName, LongName}, Octal.is_digit}
 use Rattle.texts.specs.Names.{is_printable}
 
 -- the bytes of a name, after those of `out`; `left` digits of an escaped byte are still to come, and those before them make `sum`

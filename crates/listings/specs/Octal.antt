@@ -1,7 +1,6 @@
 -- Octal numbers of 16 bits, with any number of digits, as they are read. (own choice)
 use Rattle.std.specs.Prelude.{ℕ, ◌+◌, ◌-◌, ◌*◌, Bool, ◌&&◌, nat_le, nat_lt, if◌then◌else◌, List, [], ◌∷◌, Result, Ok, Err}
-use Rattle.listings.specs.declared.fault.Reason.{Reason}
-use Rattle.listings.specs.declared.fault.Reason.TheVariants.{Missing, NotOctal, TooLarge}
+use Rattle.listings.specs.{declared.fault.Reason.Reason, declared.fault.Reason.TheVariants.{Missing, NotOctal, TooLarge}}
 
 abbrev pub is_digit : ℕ → Bool
 is_digit b = nat_le 48 b && nat_lt b 56

@@ -10,17 +10,14 @@
 use Rattle.std.specs.Prelude.{ℕ, ◌+◌, ◌%◌, Bool, true, false, ◌&&◌, ◌||◌, nat_le, nat_lt, nat_eq, eqb, if◌then◌else◌, List, [], ◌∷◌, ◌++◌, length}
 use Rattle.std.specs.Prelude.{Result, Ok, Err, Option, Some, None, codes}
 use Rattle.std.specs.{Cmp.Lexicographic.pointwise, List.list_all, List.list_any, List.starts_with, List.ends_with}
-use Rattle.aout_core.specs.{declared.reloc.Reloc.Reloc, declared.symbol.Symbol.Symbol, Contents.Contents, Contents.is_magic}
-use Rattle.aout_core.specs.Addresses.{data_start}
-use Rattle.listings.specs.declared.draft.Addresses.{Addresses}
-use Rattle.listings.specs.declared.draft.Addresses.TheVariants.{Compared, Computed}
+use Rattle.aout_core.specs.{declared.reloc.Reloc.Reloc, declared.symbol.Symbol.Symbol, Contents.{Contents, is_magic}, Addresses.data_start}
+use Rattle.listings.specs.{declared.draft.Addresses.Addresses, declared.draft.Addresses.TheVariants.{Compared, Computed}}
 use Rattle.listings.specs.declared.fault.Reason.TheVariants.{WrongAddress, WrongNumber, TooManyWords, TooManySymbols, NoSection}
 use Rattle.listings.specs.declared.fault.Reason.TheVariants.{UnknownWord, OutOfOrder, TooLate, AfterTable, NoMagic, OddSize, ExtraNumber}
 use Rattle.listings.specs.declared.fault.Reason.TheVariants.{AfterEnd, NoEnd}
 use Rattle.listings.specs.declared.fault.Section.TheVariants.{InHeader, InText, InData, InSymbols, Ended}
 use Rattle.listings.specs.declared.fault.Word.TheVariants.{Text, Data, Symbols, Bss, Entry, Unused, Magic, Flag, End, Unknown}
-use Rattle.listings.specs.Columns.{Row, row_of, skip, column, column_place, first_stray}
-use Rattle.listings.specs.Drafts.{Segment, Draft, empty_draft, finished}
+use Rattle.listings.specs.{Columns.{Row, row_of, skip, column, column_place, first_stray}, Drafts.{Segment, Draft, empty_draft, finished}}
 use Rattle.listings.specs.{declared.fault.Reason.Reason, declared.fault.Section.Section, declared.fault.Word.Word}
 use Rattle.listings.specs.{declared.fault.Fault.Fault, Octal.number, Names.name_of}
 use Rattle.texts.specs.Lines.{lines_in}

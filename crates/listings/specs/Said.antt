@@ -1,8 +1,7 @@
 -- What `read_listing` returns: the file that a listing describes, unless memory runs out. (own choice)
 use Rattle.std.specs.Prelude.{◌≡◌, Result, Ok, Err}
 use Rattle.aout_core.specs.{Contents.Contents, Refusals.refused}
-use Rattle.listings.specs.declared.fault.ListingFault.{ListingFault}
-use Rattle.listings.specs.{declared.fault.ListingFault.TheVariants.Memory, declared.fault.ListingFault.TheVariants.Wrong}
+use Rattle.listings.specs.{declared.fault.ListingFault.ListingFault, declared.fault.ListingFault.TheVariants.{Memory, Wrong}}
 use Rattle.listings.specs.{declared.fault.Mistakes.Mistakes as Kept, Reading.Mistakes}
 
 abbrev pub mistakes_in : Kept → Mistakes

@@ -1,7 +1,6 @@
 //! What has been read of a file so far.
 ghost use Rattle.std.specs.Prelude.{◌≡◌};
-ghost use Rattle.listings.specs.Drafts.{empty_draft};
-ghost use Rattle.listings.specs.internal.DraftParts.{draft_of};
+ghost use Rattle.listings.specs.{Drafts.empty_draft, internal.DraftParts.draft_of};
 
 use crate::fault::Section;
 use aout_core::{Reloc, Symbol};

@@ -1,11 +1,8 @@
 //! The numbers and names of columns.
 ghost use Rattle.std.specs.Prelude.{◌≡◌, ◌≢◌, ℕ, List, [], ◌∷◌, IfOk, IfErr};
 ghost use Rattle.aout_core.specs.Refusals.{refused};
-ghost use Rattle.listings.specs.declared.fault.RowFault.TheVariants.{Memory};
-ghost use Rattle.listings.specs.Octal.{number};
-ghost use Rattle.listings.specs.Names.{bytes_from, whole_name, name_of};
-ghost use Rattle.listings.specs.Reading.{in_column};
-ghost use Rattle.listings.specs.internal.Answers.{Fails, Found};
+ghost use Rattle.listings.specs.{declared.fault.RowFault.TheVariants.Memory, Octal.number, Names.{bytes_from, whole_name, name_of}};
+ghost use Rattle.listings.specs.{Reading.in_column, internal.Answers.{Fails, Found}};
 
 use crate::fault::{Reason, RowFault};
 use aout_core::Name;

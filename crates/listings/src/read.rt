@@ -1,19 +1,11 @@
 //! Reads the listing of a file.
 ghost use Rattle.std.specs.Prelude.{◌≡◌, ◌≢◌, ◌⊎◌, ◌+◌, IfOk, IfErr, IsSome};
-ghost use Rattle.aout_core.specs.Contents.{Contents, IsSound};
-ghost use Rattle.aout_core.specs.Refusals.{refused};
-ghost use Rattle.listings.specs.declared.fault.ListingFault.TheVariants.{Memory};
-ghost use Rattle.listings.specs.Columns.{row_of};
+ghost use Rattle.aout_core.specs.{Contents.{Contents, IsSound}, Refusals.refused};
+ghost use Rattle.listings.specs.{declared.fault.ListingFault.TheVariants.Memory, Columns.row_of, Drafts.finished};
+ghost use Rattle.listings.specs.{Listing.{Remarks, listing}, Laws.AreRemarks, Reading.{file_of, noted_by, line_read, lines_read, read}};
+ghost use Rattle.listings.specs.{MemoryWanted.{IsEntry, IsLater, ListingMayRunOut, MayRunOutInLines}, Said.{Gives, Says}};
+ghost use Rattle.listings.specs.{internal.DraftParts.draft_of, internal.Lines.{noted_of, state_of}, internal.Whole.IsDraft};
 ghost use Rattle.texts.specs.Lines.{lines_in};
-ghost use Rattle.listings.specs.Drafts.{finished};
-ghost use Rattle.listings.specs.Listing.{Remarks, listing};
-ghost use Rattle.listings.specs.Laws.{AreRemarks};
-ghost use Rattle.listings.specs.Reading.{file_of, noted_by, line_read, lines_read, read};
-ghost use Rattle.listings.specs.MemoryWanted.{IsEntry, IsLater, ListingMayRunOut, MayRunOutInLines};
-ghost use Rattle.listings.specs.Said.{Gives, Says};
-ghost use Rattle.listings.specs.internal.DraftParts.{draft_of};
-ghost use Rattle.listings.specs.internal.Lines.{noted_of, state_of};
-ghost use Rattle.listings.specs.internal.Whole.{IsDraft};
 
 use crate::columns::{column_place, cut_line, first_stray};
 use crate::draft::{Addresses, FileDraft};

@@ -1,9 +1,7 @@
 //! What is remarked in a listing.
 ghost use Rattle.std.specs.Prelude.{◌≡◌, false, []};
-ghost use Rattle.texts.specs.Lines.{text_of};
-ghost use Rattle.texts.specs.Texts.{Puts};
-ghost use Rattle.listings.specs.Listing.{Remarks, no_remarks, remarked, note_lines};
-ghost use Rattle.listings.specs.Laws.{AreRemarks};
+ghost use Rattle.texts.specs.{Lines.text_of, Texts.Puts};
+ghost use Rattle.listings.specs.{Listing.{Remarks, no_remarks, remarked, note_lines}, Laws.AreRemarks};
 
 use aout_core::{Part, Symbol};
 use texts::Text;

@@ -1,18 +1,13 @@
 //! Reads a row of a listing into a draft.
-ghost use Rattle.std.specs.Prelude.{◌≡◌, ◌≢◌, option_to_list, Ok, IfErr, IsTrue};
-ghost use Rattle.std.specs.{Cmp.Lexicographic.pointwise, List.list_all};
-ghost use Rattle.listings.specs.Columns.{row_of};
-ghost use Rattle.listings.specs.internal.Rows.{row_in};
-ghost use Rattle.listings.specs.declared.fault.RowFault.TheVariants.{Memory};
+ghost use Rattle.std.specs.{Prelude.{◌≡◌, ◌≢◌, option_to_list, Ok, IfErr, IsTrue}, Cmp.Lexicographic.pointwise, List.list_all};
+ghost use Rattle.listings.specs.{Columns.row_of, internal.Rows.row_in, declared.fault.RowFault.TheVariants.Memory};
 ghost use Rattle.listings.specs.declared.fault.Section.TheVariants.{InHeader, InText, InData, InSymbols};
-ghost use Rattle.listings.specs.declared.fault.Word.TheVariants.{Bss, Magic, Flag};
-ghost use Rattle.listings.specs.Octal.{number};
+ghost use Rattle.listings.specs.{declared.fault.Word.TheVariants.{Bss, Magic, Flag}, Octal.number};
+ghost use Rattle.listings.specs.Reading.{in_column, is_decimal, is_digits, is_numbered, relocs_of, unnumbered, with_word, is_right};
+ghost use Rattle.listings.specs.Reading.{word_entry, symbol_entry, entry_in, is_word, word_in, rank, first_in, opened, named_by, named};
+ghost use Rattle.listings.specs.Reading.{is_head, has_head, is_label, begins_with_digit, row_read, own, next_after, passed};
+ghost use Rattle.listings.specs.{MemoryWanted.IsEntry, internal.DraftParts.{segment_of, draft_of}, internal.Answers.{Found, Leaves}};
 ghost use Rattle.aout_core.specs.Refusals.{refused};
-ghost use Rattle.listings.specs.Reading.{in_column, is_decimal, is_digits, is_numbered, relocs_of, unnumbered, with_word, is_right, word_entry, symbol_entry, entry_in, is_word, word_in, rank, first_in, opened, named_by, named, is_head, has_head, is_label, begins_with_digit, row_read};
-ghost use Rattle.listings.specs.Reading.{own, next_after, passed};
-ghost use Rattle.listings.specs.MemoryWanted.{IsEntry};
-ghost use Rattle.listings.specs.internal.DraftParts.{segment_of, draft_of};
-ghost use Rattle.listings.specs.internal.Answers.{Found, Leaves};
 ghost use Rattle.texts.specs.Lines.{lines_in};
 
 use crate::columns::{Columns, columns_of, cut_column, cut_line, skip};

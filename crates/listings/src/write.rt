@@ -1,13 +1,9 @@
 //! Writes the listing of a file.
 ghost use Rattle.std.specs.Prelude.{◌≡◌, ◌<◌, ◌+◌, [], ◌∷◌, ◌++◌, codes, length, replicate, slice_get, Ok, IfOk};
-ghost use Rattle.texts.specs.Numbers.{six_digits, octal};
-ghost use Rattle.texts.specs.Names.{printable_name};
-ghost use Rattle.texts.specs.Lines.{text_of};
-ghost use Rattle.texts.specs.Texts.{Puts};
+ghost use Rattle.texts.specs.{Numbers.{six_digits, octal}, Names.printable_name, Lines.text_of, Texts.Puts};
 ghost use Rattle.listings.specs.Listing.{gap, wide, word_columns, word_line, word_lines, symbol_numbers, symbol_line, symbol_lines};
-ghost use Rattle.listings.specs.Listing.{named_line, unusual, head_lines, text_lines, data_lines, bss_lines, table_lines, cut_listing, listing, with_relocs};
-ghost use Rattle.listings.specs.Reading.{read};
-ghost use Rattle.listings.specs.declared.draft.Addresses.TheVariants.{Compared};
+ghost use Rattle.listings.specs.Listing.{named_line, unusual, head_lines, text_lines, data_lines, bss_lines, table_lines, cut_listing};
+ghost use Rattle.listings.specs.{Listing.{listing, with_relocs}, Reading.read, declared.draft.Addresses.TheVariants.Compared};
 
 use crate::remark::Remark;
 use aout_core::laws::sound_law;

@@ -9,10 +9,10 @@ use Rattle.link_session.specs.{declared.mark.Mark.TheVariants.CellWas, declared.
 use Rattle.link_session.specs.{declared.mark.Place.TheVariants.InText, declared.mark.Place.TheVariants.InData, declared.state.State.State}
 use Rattle.link_session.specs.{declared.state.State.TheVariants.Defined, declared.state.State.TheVariants.Wanted, Image.Image, Image.Named}
 use Rattle.link_session.specs.{Sessions.newest, Undo.Kept, Undo.image_of}
+use Rattle.link_session.specs.declared.cell.Target.TheVariants as targets
 use Rattle.session_states.specs.Items.{name_at, named}
 use Rattle.session_states.specs.Json.{Put, bool_text, bytes_string, each_put, list, member, nothing_written, object, text_string, with_key, with_value}
 use Rattle.aout_core.specs.declared.symbol.Segment.TheVariants as segments
-use Rattle.link_session.specs.declared.cell.Target.TheVariants as targets
 
 abbrev pub number_member : List ℕ → ℕ → Put
 number_member key number = member key (decimal number)

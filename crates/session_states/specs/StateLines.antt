@@ -9,10 +9,10 @@ use Rattle.link_session.specs.{declared.mark.Mark.TheVariants.CellWas, declared.
 use Rattle.link_session.specs.{declared.mark.Place.TheVariants.InText, declared.mark.Place.TheVariants.InData, declared.state.State.State}
 use Rattle.link_session.specs.{declared.state.State.TheVariants.Defined, declared.state.State.TheVariants.Wanted, Image.Image, Image.Named}
 use Rattle.link_session.specs.{Labelled.Labelled, Sessions.newest, Undo.Kept, Undo.image_of}
+use Rattle.link_session.specs.declared.cell.Target.TheVariants as targets
 use Rattle.texts.specs.{Numbers.six_digits, Names.printable_name}
 use Rattle.session_states.specs.Items.{each, name_at, named}
 use Rattle.aout_core.specs.declared.symbol.Segment.TheVariants as segments
-use Rattle.link_session.specs.declared.cell.Target.TheVariants as targets
 
 -- what a word refers to, or waits for
 abbrev pub target_text : Named → Target → List ℕ

@@ -1,7 +1,6 @@
 //! What a session knows, as JSON.
 ghost use Rattle.std.specs.Prelude.{◌≡◌, ◌*◌, ◌<◌, ◌≤◌, length, IfOk};
-ghost use Rattle.link_session.specs.Labelled.{objects};
-ghost use Rattle.link_session.specs.Undo.{IsJournal, image_of};
+ghost use Rattle.link_session.specs.{Labelled.objects, Undo.{IsJournal, image_of}};
 ghost use Rattle.session_states.specs.Items.{named};
 ghost use Rattle.session_states.specs.Json.{Becomes, each_put};
 ghost use Rattle.session_states.specs.StateJson.{cell_members, external_json, image_members, mark_json, mark_members, multiple_json, name_member, names_members, number_member, place_members, session_json, state_as, state_json, state_members, was, word_json, word_member, words_member};

@@ -1,7 +1,5 @@
 //! A JSON text that is written value by value.
-ghost use Rattle.std.specs.Prelude.{◌≡◌, ◌<◌, ◌++◌, true, false, codes, decimal, IfOk};
-ghost use Rattle.std.specs.Fmt.{digit_glyph};
-ghost use Rattle.std.specs.List.{flat_map};
+ghost use Rattle.std.specs.{Prelude.{◌≡◌, ◌<◌, ◌++◌, true, false, codes, decimal, IfOk}, Fmt.digit_glyph, List.flat_map};
 ghost use Rattle.texts.specs.Texts.{Puts};
 ghost use Rattle.session_states.specs.Json.{Becomes, bool_text, bytes_string, json_byte, json_text_byte, nothing_written, text_string, with_end, with_key, with_line_end, with_start, with_value};
 

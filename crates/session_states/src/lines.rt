@@ -1,10 +1,7 @@
 //! What a session knows, as lines.
 ghost use Rattle.std.specs.Prelude.{◌≡◌, ◌*◌, ◌≤◌, ◌<◌, ◌++◌, length, IfOk};
-ghost use Rattle.link_session.specs.Sessions.{newest};
-ghost use Rattle.link_session.specs.Labelled.{objects};
-ghost use Rattle.link_session.specs.Undo.{IsJournal, image_of};
-ghost use Rattle.texts.specs.Numbers.{six_digits};
-ghost use Rattle.texts.specs.Texts.{Puts};
+ghost use Rattle.link_session.specs.{Sessions.newest, Labelled.objects, Undo.{IsJournal, image_of}};
+ghost use Rattle.texts.specs.{Numbers.six_digits, Texts.Puts};
 ghost use Rattle.session_states.specs.Items.{each, named};
 ghost use Rattle.session_states.specs.StateLines.{bss_line, cell_line, cell_text, external_line, image_lines, mark_line, mark_text, multiple_line, nothing_line, state_lines, state_text};
 

@@ -1,6 +1,5 @@
 -- Histories that grow.
-use Rattle.std.proofs.Common.{List, [], ◌++◌, Some, None, sym, ap, ◌∙◌}
-use Rattle.std.proofs.lemmas.List.{append-nil, append_assoc}
+use Rattle.std.proofs.{Common.{List, [], ◌++◌, Some, None, sym, ap, ◌∙◌}, lemmas.List.{append-nil, append_assoc}}
 use Rattle.surroundings.specs.Events.{Event, History, Extends}
 
 pub nothing_asked : (a : History) → Extends a a []

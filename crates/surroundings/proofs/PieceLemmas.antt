@@ -1,14 +1,11 @@
 -- Bytes that are held of a file.
-use Rattle.std.proofs.Common.{◌≡◌, ℕ, ◌+◌, ◌-◌, ◌≤◌, List, [], ◌++◌, Bool, true, false, if◌then◌else◌, length, take, drop, slice_range, Option, None, Some}
-use Rattle.std.proofs.Common.{sym, ◌∙◌, ap, subst, arith, append_assoc, append-nil, length-append, length-take-le}
-use Rattle.std.proofs.lemmas.List.{drop-take}
-use Rattle.std.proofs.KnownBytes.{append_known-moved}
+use Rattle.std.proofs.Common.{◌≡◌, ℕ, ◌+◌, ◌-◌, ◌≤◌, List, [], ◌++◌, Bool, true, false, if◌then◌else◌, length, take, drop, slice_range}
+use Rattle.std.proofs.Common.{Option, None, Some, sym, ◌∙◌, ap, subst, arith, append_assoc, append-nil, length-append, length-take-le}
+use Rattle.std.proofs.{lemmas.List.drop-take, KnownBytes.append_known-moved}
 use Rattle.std.specs.Io.KnownBytes.{Appends, Keeps, append_known}
 use Rattle.aout_core.proofs.BlockLemmas.{slice_range-front, length-slice_range}
 use Rattle.aout_core.specs.{Refusals.device_fault, Wires.Latched}
-use Rattle.surroundings.specs.Pieces.{Held, written}
-use Rattle.surroundings.specs.Emits.{IsStoredOn, PutsUnless}
-use Rattle.surroundings.specs.declared.office.Stored.{Stored}
+use Rattle.surroundings.specs.{Pieces.{Held, written}, Emits.{IsStoredOn, PutsUnless}, declared.office.Stored.Stored}
 use Rattle.surroundings.specs.declared.office.Stored.TheVariants.{Kept, Failed}
 use lib.ListN.{take-append-drop}
 use lib.Seq.{drop-append-le, take-append_seam}

@@ -1,7 +1,6 @@
 -- Files that are read up to so many bytes.
 use Rattle.std.proofs.Common.{◌≤◌, ◌<◌, ℕ, List, length, Some, None, true, ap, ◌∙◌, arith, length-take, take_all}
-use Rattle.aout_core.specs.declared.whole.FileFault.{FileFault}
-use Rattle.aout_core.specs.declared.whole.FileFault.TheVariants.{NotOpened, Failed, Memory}
+use Rattle.aout_core.specs.{declared.whole.FileFault.FileFault, declared.whole.FileFault.TheVariants.{NotOpened, Failed, Memory}}
 use Rattle.surroundings.specs.{Answers.Stops, Events.History, declared.answer.Fault.Fault}
 use Rattle.surroundings.specs.{Sources.EndsReading, Sources.ReadsAt, Sources.ReadsFront, internal.Readings.ReadsNot}
 

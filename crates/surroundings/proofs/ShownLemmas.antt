@@ -2,11 +2,10 @@
 use Rattle.std.proofs.Common.{◌≡◌, [], Option, Some, None, refl, sym, ap, subst, inl, inr}
 use Rattle.std.specs.Prelude.{Result, Ok, Err}
 use Rattle.aout_core.specs.Refusals.{refused}
-use Rattle.surroundings.specs.{Arguments.Given, Arguments.if_given}
-use Rattle.surroundings.specs.{declared.shown.Shown.Shown, Answer.Answer, Answers.Ends, Answers.IsShownOr}
-use Rattle.surroundings.specs.{Events.History, Programs.CallsOr, Programs.DoesWords, Programs.Step, declared.answer.Fault.Fault}
-use Rattle.surroundings.specs.declared.answer.Fault.TheVariants as faults
+use Rattle.surroundings.specs.{Arguments.{Given, if_given}, declared.shown.Shown.Shown, Answer.Answer, Answers.{Ends, IsShownOr}}
+use Rattle.surroundings.specs.{Events.History, Programs.{CallsOr, DoesWords, Step}, declared.answer.Fault.Fault}
 use Rattle.surroundings.specs.declared.reasons.Reason.{Reason}
+use Rattle.surroundings.specs.declared.answer.Fault.TheVariants as faults
 
 -- something is shown
 pub is_shown : (asked : Option Shown) (shown : Shown) (h : History) (answer : Answer) (rest : Type 0) →

@@ -3,9 +3,8 @@
 -- An argument that begins with a hyphen has letters of options, in any order with paths. A letter that takes a value is the last one of
 -- its argument, comes once, and has the next argument as its value, which does not begin with a hyphen. A hyphen alone is a path, and
 -- after `--` all arguments are paths.
-use Rattle.std.specs.Prelude.{ℕ, eqb, Bool, true, false, not, ◌&&◌, if◌then◌else◌, codes, List, [], ◌∷◌, ◌++◌}
-use Rattle.std.specs.Prelude.{Option, Some, None, option_map, find, Result, Ok, Err}
-use Rattle.std.specs.List.{list_any}
+use Rattle.std.specs.Prelude.{ℕ, eqb, Bool, true, false, not, ◌&&◌, if◌then◌else◌, codes, List, [], ◌∷◌, ◌++◌, Option, Some, None}
+use Rattle.std.specs.{Prelude.{option_map, find, Result, Ok, Err}, List.list_any}
 use Rattle.aout_core.specs.Words.{letter_of}
 use Rattle.surroundings.specs.declared.reasons.Reason.{Reason}
 use Rattle.surroundings.specs.declared.reasons.Reason.TheVariants.{NoOption, NoLongOption, NoValue, SecondValue, Excluded}

@@ -1,9 +1,7 @@
 -- What a writer holds after a text was written to it: all of the text, or if it failed a prefix. (own choice)
-use Rattle.std.specs.Prelude.{◌≡◌, ℕ, Bool, true, false, if◌then◌else◌, List, Option}
-use Rattle.std.specs.Io.KnownBytes.{Appends}
+use Rattle.std.specs.{Prelude.{◌≡◌, ℕ, Bool, true, false, if◌then◌else◌, List, Option}, Io.KnownBytes.Appends}
 use Rattle.aout_core.specs.{Refusals.device_fault, Wires.AppendsPrefix, Wires.Latched}
-use Rattle.surroundings.specs.declared.office.Stored.{Stored}
-use Rattle.surroundings.specs.declared.office.Stored.TheVariants.{Kept, Failed}
+use Rattle.surroundings.specs.{declared.office.Stored.Stored, declared.office.Stored.TheVariants.{Kept, Failed}}
 
 -- all the bytes went out, or if the device failed a prefix of them
 abbrev pub PutsUnless : Bool → Option (List ℕ) → Option (List ℕ) → List ℕ → Type 0

@@ -2,8 +2,7 @@
 --
 -- Two paths lead to one file if the system has the same device and the same number for both, whatever their names and links are. Only
 -- regular files count: nothing is lost of another one if it is written to.
-use Rattle.std.specs.Prelude.{ℕ, nat_eq, Bool, false, ◌&&◌, List, [], ◌∷◌, Option, Some, None, Result}
-use Rattle.std.specs.List.{list_any}
+use Rattle.std.specs.{Prelude.{ℕ, nat_eq, Bool, false, ◌&&◌, List, [], ◌∷◌, Option, Some, None, Result}, List.list_any}
 use Rattle.surroundings.specs.{Answers.Refuses, Events.Event, Events.History, Events.Extends, Events.looked}
 use Rattle.surroundings.specs.{declared.answer.Fault.Fault, declared.nodes.Node.Node, declared.nodes.Nodes.Nodes}
 

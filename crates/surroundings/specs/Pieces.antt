@@ -1,6 +1,5 @@
 -- A file, the bytes that were taken for it and not written yet, and for how many more there is room. (own choice)
-use Rattle.std.specs.Prelude.{ℕ, List, Option}
-use Rattle.std.specs.Io.KnownBytes.{append_known}
+use Rattle.std.specs.{Prelude.{ℕ, List, Option}, Io.KnownBytes.append_known}
 
 pub record Held (F : Type 0) : Type 0 where
   pub file : F

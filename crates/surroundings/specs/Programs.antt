@@ -4,10 +4,9 @@
 -- is made.
 use Rattle.std.specs.Prelude.{◌≡◌, ◌⊎◌, ℕ, Bool, true, false, List, [], ◌∷◌, Result, Ok, Err}
 use Rattle.aout_core.specs.Refusals.{refused}
-use Rattle.surroundings.specs.Answers.{EndsOr, IsShownOr, Stops, shown_in}
-use Rattle.surroundings.specs.{Answer.Answer, Events.Event, Events.Extends, Events.History, Sources.EndsReading, Sources.ReadsAt, Sources.is_kept}
-use Rattle.surroundings.specs.{declared.reasons.Reason.Reason, declared.answer.Fault.Fault, declared.office.Stored.Stored}
-use Rattle.surroundings.specs.declared.answer.Fault.TheVariants.{Memory}
+use Rattle.surroundings.specs.{Answers.{EndsOr, IsShownOr, Stops, shown_in}, Answer.Answer, Events.{Event, Extends, History}}
+use Rattle.surroundings.specs.{Sources.{EndsReading, ReadsAt, is_kept}, declared.reasons.Reason.Reason, declared.answer.Fault.Fault}
+use Rattle.surroundings.specs.{declared.office.Stored.Stored, declared.answer.Fault.TheVariants.Memory}
 
 -- what was asked of the system before and after a step, and what it found
 abbrev pub Step : Type 0 → Type 1

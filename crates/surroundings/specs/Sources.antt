@@ -1,7 +1,6 @@
 -- A file that is read whole, or is not, and one that is stored, or is not. (own choice)
 use Rattle.std.specs.Prelude.{◌≡◌, ℕ, Bool, true, false, List, [], ◌∷◌, take, Option, Some, IfSome}
-use Rattle.surroundings.specs.{Answers.Stops, Events.History, Events.Extends, Events.opened}
-use Rattle.surroundings.specs.{declared.answer.Fault.Fault, declared.office.Stored.Stored}
+use Rattle.surroundings.specs.{Answers.Stops, Events.{History, Extends, opened}, declared.answer.Fault.Fault, declared.office.Stored.Stored}
 use Rattle.surroundings.specs.declared.office.Stored.TheVariants as office
 
 -- the file at a path was opened, and these are its bytes

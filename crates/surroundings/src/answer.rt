@@ -1,13 +1,9 @@
 //! What a program answers: what it writes, and its status.
-ghost use Rattle.std.specs.Prelude.{◌≡◌, Some, false, true, IfOk};
-ghost use Rattle.std.specs.Option.{option_map};
-ghost use Rattle.aout_core.specs.Refusals.{refused};
-ghost use Rattle.aout_core.specs.Wires.{Writes};
+ghost use Rattle.std.specs.{Prelude.{◌≡◌, Some, false, true, IfOk}, Option.option_map};
+ghost use Rattle.aout_core.specs.{Refusals.refused, Wires.Writes};
 ghost use Rattle.surroundings.specs.declared.answer.Fault.TheVariants.{Memory};
-ghost use Rattle.surroundings.specs.Answers.{Ends, Gives, Stops, answer_in, only_errors, output_in, status_in};
-ghost use Rattle.surroundings.specs.Answer.{Answer};
-ghost use Rattle.surroundings.specs.Programs.{AnswersStored};
-ghost use Rattle.surroundings.specs.Sources.{is_kept};
+ghost use Rattle.surroundings.specs.{Answers.{Ends, Gives, Stops, answer_in, only_errors, output_in, status_in}, Answer.Answer};
+ghost use Rattle.surroundings.specs.{Programs.AnswersStored, Sources.is_kept};
 
 use crate::office::{Stored, stored_text};
 use crate::outputs::Outputs;

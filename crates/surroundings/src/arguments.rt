@@ -1,7 +1,5 @@
 //! The arguments of the program.
-ghost use Rattle.std.specs.Prelude.{◌≡◌, IsUtf8, drop, string_bytes, IfOk};
-ghost use Rattle.std.specs.Option.{option_map};
-ghost use Rattle.std.specs.Vec.Iter.{into_iter_items};
+ghost use Rattle.std.specs.{Prelude.{◌≡◌, IsUtf8, drop, string_bytes, IfOk}, Option.option_map, Vec.Iter.into_iter_items};
 ghost use Rattle.surroundings.specs.Arguments.{letters_of};
 
 use std::alloc::{AllocError, Global};

@@ -1,10 +1,8 @@
 //! The files of a runtime, as an `Office`. No contract can say what a file gives or takes, so these lines are to be read: a
 //! file is opened, looked for and stored at the very path that is asked for.
-ghost use Rattle.std.specs.Prelude.{◌≡◌, []};
-ghost use Rattle.std.specs.Io.KnownBytes.{Appends};
+ghost use Rattle.std.specs.{Prelude.{◌≡◌, []}, Io.KnownBytes.Appends};
 ghost use Rattle.aout_core.specs.Encoding.{encoding};
-ghost use Rattle.surroundings.specs.Emits.{IsStoredOn};
-ghost use Rattle.surroundings.specs.declared.office.Stored.TheVariants.{Kept};
+ghost use Rattle.surroundings.specs.{Emits.IsStoredOn, declared.office.Stored.TheVariants.Kept};
 
 use crate::nodes::Node;
 use crate::office::{Office, Stored};

@@ -1,8 +1,6 @@
 //! Files to which paths lead. An output that is one of the inputs is refused by what it is, and not by its name.
 ghost use Rattle.std.specs.Prelude.{◌≡◌, ◌∷◌, [], true};
-ghost use Rattle.surroundings.specs.Answers.{Stops};
-ghost use Rattle.surroundings.specs.Events.{Extends};
-ghost use Rattle.surroundings.specs.Nodes.{ChecksOutput, has_input, is_input, is_node, looks};
+ghost use Rattle.surroundings.specs.{Answers.Stops, Events.Extends, Nodes.{ChecksOutput, has_input, is_input, is_node, looks}};
 
 use crate::answer::{Fault, fault_at};
 use crate::office::Office;

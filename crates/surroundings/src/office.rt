@@ -1,9 +1,6 @@
 //! What opens and stores the files of a command.
-ghost use Rattle.std.specs.Prelude.{◌≡◌, [], ◌∷◌, List, None, Option};
-ghost use Rattle.std.specs.Option.{option_map};
-ghost use Rattle.surroundings.specs.Answers.{is_none};
-ghost use Rattle.surroundings.specs.Sources.{is_kept};
-ghost use Rattle.surroundings.specs.Events.{Event, Extends, looked, opened, stored, written};
+ghost use Rattle.std.specs.{Prelude.{◌≡◌, [], ◌∷◌, List, None, Option}, Option.option_map};
+ghost use Rattle.surroundings.specs.{Answers.is_none, Sources.is_kept, Events.{Event, Extends, looked, opened, stored, written}};
 
 use crate::nodes::Node;
 use aout_core::{DeviceFault, File};

@@ -24,8 +24,7 @@ pub(crate) struct PieceWriter<F> {
 
 impl<F> Model for PieceWriter<F> {
     ghost use Rattle.std.specs.Prelude.{◌≤◌, ◌-◌, slice_range};
-    ghost use Rattle.surroundings.specs.Pieces.{Held};
-    ghost use Rattle.surroundings.specs.declared.pieces.TheConstants.{PIECE_SIZE};
+    ghost use Rattle.surroundings.specs.{Pieces.Held, declared.pieces.TheConstants.PIECE_SIZE};
 
     ghost Value = { Held F };
 
@@ -76,8 +75,7 @@ impl<F> PieceWriter<F> {
 }
 
 impl<F: Write> PieceWriter<F> {
-    ghost use Rattle.std.specs.Prelude.{◌≡◌, ◌≤◌, ◌-◌, ◌++◌, [], min, length, take, drop, IfOk, OnOk};
-    ghost use Rattle.std.specs.Io.KnownBytes.{Keeps};
+    ghost use Rattle.std.specs.{Prelude.{◌≡◌, ◌≤◌, ◌-◌, ◌++◌, [], min, length, take, drop, IfOk, OnOk}, Io.KnownBytes.Keeps};
     ghost use Rattle.surroundings.specs.Pieces.{written};
 
     /// Writes to the file once, and returns how many of the bytes that are held it took.
@@ -120,9 +118,7 @@ impl<F: Write> PieceWriter<F> {
 }
 
 impl<F: Write + OpenFile> Write for PieceWriter<F> {
-    ghost use Rattle.std.specs.Prelude.{◌≡◌, ◌<◌, [], min, length, Ok, OnOk};
-    ghost use Rattle.std.specs.Io.{WritesAtMost};
-    ghost use Rattle.std.specs.Io.KnownBytes.{Keeps, WriteAppends};
+    ghost use Rattle.std.specs.{Prelude.{◌≡◌, ◌<◌, [], min, length, Ok, OnOk}, Io.WritesAtMost, Io.KnownBytes.{Keeps, WriteAppends}};
     ghost use Rattle.surroundings.specs.Pieces.{written};
 
     ghost contents = { written F.contents };

@@ -1,7 +1,6 @@
 //! Files that are read whole, or from the beginning.
 ghost use Rattle.std.specs.Prelude.{◌≤◌, length, IfErr, IfOk};
-ghost use Rattle.surroundings.specs.Sources.{EndsReading, ReadsAt, ReadsFront};
-ghost use Rattle.surroundings.specs.internal.Readings.{ReadsNot};
+ghost use Rattle.surroundings.specs.{Sources.{EndsReading, ReadsAt, ReadsFront}, internal.Readings.ReadsNot};
 
 use crate::answer::{Fault, fault_at};
 use crate::office::Office;

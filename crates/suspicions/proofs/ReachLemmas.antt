@@ -2,9 +2,8 @@
 use Rattle.std.proofs.Common.{◌≡◌, ℕ, zero, suc, ◌+◌, ◌/◌, ◌%◌, ◌<◌, ◌≤◌, Option, Some, None, refl, sym, ap, ◌∙◌, inl, inr, arith}
 use Rattle.std.proofs.Common.{append_assoc}
 use Rattle.std.proofs.lemmas.Bool.{cases_eq, eq-eqb, ne_eqb, eqb-true, ltb-true, ltb-false, lt-ltb, not-true, or_cases, and_parts, and_from}
-use Rattle.std.proofs.{lemmas.List.get_or_append_left, lemmas.List.append-nil, lemmas.List.Folds.list_any-append}
-use Rattle.std.proofs.{lemmas.List.Folds.list_any_at, lemmas.Cmp.nat_eq_equiv, lemmas.Map.Keys.IsDistinct-push}
-use Rattle.std.proofs.{lemmas.Map.Steps.length-le_from_distinct_below}
+use Rattle.std.proofs.{lemmas.List.{get_or_append_left, append-nil}, lemmas.List.Folds.{list_any-append, list_any_at}}
+use Rattle.std.proofs.{lemmas.Cmp.nat_eq_equiv, lemmas.Map.Keys.IsDistinct-push, lemmas.Map.Steps.length-le_from_distinct_below}
 use Rattle.std.specs.Prelude.{Bool, true, false, not, ◌&&◌, ◌||◌, eqb, nat_lt, if◌then◌else◌, List, [], ◌∷◌, ◌++◌, length, slice_index}
 use Rattle.std.specs.List.{list_any, IsDistinct}
 use Rattle.aout_core.specs.Contents.{Contents}

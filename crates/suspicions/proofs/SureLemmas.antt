@@ -1,35 +1,28 @@
 -- If nothing is suspicious for sure, an instruction begins at each sure place, its branches are inside, and its pc bits suit its modes.
 use Rattle.std.proofs.Common.{◌≡◌, ℕ, zero, suc, ◌+◌, ◌-◌, ◌*◌, ◌/◌, ◌<◌, ◌≤◌, Option, Some, None, refl, sym, ap, ◌∙◌, subst, inl, inr}
-use Rattle.std.proofs.Common.{arith}
-use Rattle.std.proofs.lemmas.Bool.{cases_lt, eqb-true, lt-ltb, le-ltb, ltb-false, or_cases, and_parts}
+use Rattle.std.proofs.{Common.arith, lemmas.Bool.{cases_lt, eqb-true, lt-ltb, le-ltb, ltb-false, or_cases, and_parts}}
 use Rattle.std.specs.Prelude.{Bool, true, false, not, ◌&&◌, ◌||◌, eqb, nat_lt, if◌then◌else◌, List, [], ◌∷◌, ◌++◌, length, slice_get}
-use Rattle.std.specs.Prelude.{slice_index}
-use Rattle.std.specs.List.{list_any}
+use Rattle.std.specs.{Prelude.slice_index, List.list_any}
 use Rattle.aout_core.specs.{declared.reloc.Reloc.Reloc, Contents.Contents, WellFormed.is_pc_relative}
 use Rattle.instructions.specs.declared.operand.Operand.TheVariants.{General, Accumulator, Register, Forward, Backward, Number}
-use Rattle.instructions.specs.Instructions.{instruction_of, word_count_of}
-use Rattle.instructions.specs.UnixLines.{unix_length, unix_line_at}
-use Rattle.instructions.specs.declared.mode.Addressing.{Addressing}
-use Rattle.instructions.specs.{Modes.counts_from_pc, declared.operand.Operand.Operand, declared.instruction.Instruction.Instruction}
-use Rattle.instructions.specs.{declared.line.Line.TheVariants.Plain, declared.line.Line.TheVariants.Decoded}
+use Rattle.instructions.specs.{Instructions.{instruction_of, word_count_of}, UnixLines.{unix_length, unix_line_at}}
+use Rattle.instructions.specs.{declared.mode.Addressing.Addressing, Modes.counts_from_pc, declared.operand.Operand.Operand}
+use Rattle.instructions.specs.{declared.instruction.Instruction.Instruction, declared.line.Line.TheVariants.{Plain, Decoded}}
 use Rattle.instructions.specs.{declared.unix.Decoder.TheVariants.Unix, declared.unix.UnixLine.UnixLine}
-use Rattle.instructions.specs.{declared.unix.UnixLine.TheVariants.Machine, declared.unix.UnixLine.TheVariants.Call, Relocated.is_relocated}
+use Rattle.instructions.specs.{declared.unix.UnixLine.TheVariants.{Machine, Call}, Relocated.is_relocated}
 use Rattle.instructions.proofs.UnixLemmas.{unix_short}
 use Rattle.disassemblies.specs.{Lines.unix_line_in, Starts.starts, Starts.is_start}
 use Rattle.findings.specs.Found.{Found}
-use Rattle.findings.specs.declared.finding.FindingKind.TheVariants.{RelocatedFirstWord, UnsuitablePcBit, BranchOutside}
-use Rattle.findings.specs.declared.finding.FindingKind.TheVariants.{NoInstruction}
+use Rattle.findings.specs.declared.finding.FindingKind.TheVariants.{RelocatedFirstWord, UnsuitablePcBit, BranchOutside, NoInstruction}
 use Rattle.suspicions.specs.Trust.{has_word_at, enters, entered_by, entered, overlaps, is_sure, trust}
 use Rattle.suspicions.specs.Branches.{of_lines, word_place, suspicious_entry, suspicious_branch}
 use Rattle.suspicions.specs.Suspicions.{reloc_place, may_begin, differ, is_immediate, is_foreign, suspicious_bit, suspicious_by}
 use Rattle.suspicions.specs.Suspicions.{suspicious_lack, suspicious_operand, suspicious_line, suspicious_at, suspicious_place}
-use Rattle.suspicions.specs.{Addresses.suspicious_addresses, Referents.suspicious_references, Suspicions.suspicious_words, Suspicions.suspicions}
+use Rattle.suspicions.specs.{Suspicions.{suspicious_words, suspicions}, Addresses.suspicious_addresses, Referents.suspicious_references}
 use Rattle.suspicions.specs.Uses.{suspicious_uses}
 use Rattle.suspicions.specs.SureLaw.{NoneIsSure, targets, is_whole, IsInside, AreInside, SureLaw, SuitsMode, SuitsModes, SureWordsLaw}
-use Rattle.suspicions.specs.{declared.evidence.Evidence.Evidence, declared.evidence.Evidence.TheVariants.Names}
-use Rattle.suspicions.specs.{declared.evidence.Evidence.TheVariants.Promise, declared.trust.Trust.Trust, Reached.branch_of}
-use Rattle.suspicions.specs.{Reached.is_promised, Reached.is_reached, ReachedLaw.IsReached}
-use Rattle.suspicions.specs.{ReachedLaw.Evident, ReachedLaw.Led}
+use Rattle.suspicions.specs.{declared.evidence.Evidence.Evidence, declared.evidence.Evidence.TheVariants.{Names, Promise}}
+use Rattle.suspicions.specs.{declared.trust.Trust.Trust, Reached.{branch_of, is_promised, is_reached}, ReachedLaw.{IsReached, Evident, Led}}
 use Rattle.suspicions.proofs.ReachLemmas.{reached_law}
 
 quiet_parts : (xs ys : List Found) → NoneIsSure (xs ++ ys) → NoneIsSure xs × NoneIsSure ys

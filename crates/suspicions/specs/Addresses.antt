@@ -5,19 +5,16 @@
 -- even address, not within another instruction, and not at the end of an object's text, where data begins; a linked file has `_etext` there.
 -- Some symbol is of text, or an absolute external has an address of the text by mistake. An address outside of text is odd in any file, and
 -- is not counted here.
-use Rattle.std.specs.Prelude.{ℕ, ◌+◌, ◌*◌, ◌/◌, ◌%◌, Bool, true, not, ◌&&◌, eqb, nat_lt, if◌then◌else◌, List, [], ◌∷◌, ◌++◌, length}
-use Rattle.std.specs.Prelude.{Option, Some, None}
-use Rattle.std.specs.List.{flat_map, list_any}
+use Rattle.std.specs.Prelude.{ℕ, ◌+◌, ◌*◌, ◌/◌, ◌%◌, Bool, true, not, ◌&&◌, eqb, nat_lt, if◌then◌else◌, List, [], ◌∷◌, ◌++◌, length, Option}
+use Rattle.std.specs.{Prelude.{Some, None}, List.{flat_map, list_any}}
 use Rattle.aout_core.specs.{declared.symbol.Symbol.Symbol, declared.symbol.Segment.TheVariants.Absolute, declared.reloc.Reloc.Reloc}
 use Rattle.aout_core.specs.{Contents.Contents, Encoding.symbols_at, Placed.placed_words, declared.placed.PlacedWord.PlacedWord}
-use Rattle.aout_core.specs.{declared.part.Part.TheVariants.Text, declared.part.Part.TheVariants.Data}
-use Rattle.aout_core.specs.WellFormed.{is_external, masked_type, segment_number}
+use Rattle.aout_core.specs.{declared.part.Part.TheVariants.{Text, Data}, WellFormed.{is_external, masked_type, segment_number}}
 use Rattle.findings.specs.declared.finding.FindingKind.TheVariants.{UnsuitableAddress, AbsoluteText}
 use Rattle.findings.specs.{Found.Found, Found.found_if, Segments.bss_to}
-use Rattle.suspicions.specs.{declared.addresses.Misplaced.Misplaced, declared.addresses.Misplaced.TheVariants.Odd}
-use Rattle.suspicions.specs.{declared.addresses.Misplaced.TheVariants.AtEnd, declared.addresses.Misplaced.TheVariants.Within}
-use Rattle.suspicions.specs.{declared.evidence.Evidence.Evidence, declared.evidence.Evidence.TheVariants.Promise}
-use Rattle.suspicions.specs.{Reached.is_text, Trust.entered}
+use Rattle.suspicions.specs.{declared.addresses.Misplaced.Misplaced, declared.addresses.Misplaced.TheVariants.{Odd, AtEnd, Within}}
+use Rattle.suspicions.specs.{declared.evidence.Evidence.Evidence, declared.evidence.Evidence.TheVariants.Promise, Reached.is_text}
+use Rattle.suspicions.specs.Trust.{entered}
 
 abbrev pub within_by : Option ℕ → Option Misplaced
 within_by None = None

@@ -5,10 +5,8 @@
 -- all of the text is instructions.
 use Rattle.std.specs.Prelude.{ℕ, ◌+◌, ◌*◌, ◌/◌, Bool, true, ◌&&◌, nat_lt, if◌then◌else◌, List, [], length, Option, Some, None}
 use Rattle.aout_core.specs.Contents.{Contents}
-use Rattle.findings.specs.declared.finding.FindingKind.TheVariants.{BranchOutside, BranchWithin}
-use Rattle.findings.specs.Found.{Found, found_as}
-use Rattle.suspicions.specs.declared.evidence.Evidence.{Evidence}
-use Rattle.suspicions.specs.{declared.evidence.Evidence.TheVariants.Names, declared.evidence.Evidence.TheVariants.Promise}
+use Rattle.findings.specs.{declared.finding.FindingKind.TheVariants.{BranchOutside, BranchWithin}, Found.{Found, found_as}}
+use Rattle.suspicions.specs.{declared.evidence.Evidence.Evidence, declared.evidence.Evidence.TheVariants.{Names, Promise}}
 use Rattle.suspicions.specs.{declared.trust.Trust.Trust, Reached.is_promised, Trust.entered}
 
 -- the byte of the file that a word of text has

@@ -18,29 +18,24 @@
 -- its callee may take words or not return, nor after a branch, which may always be taken, nor after a system call, whose arguments
 -- another Unix counts otherwise. By the promise each line leads to that after it, unless a symbol of text is within it.
 use Rattle.std.specs.Prelude.{ℕ, zero, suc, ◌+◌, ◌*◌, ◌/◌, ◌%◌, Bool, true, false, not, ◌&&◌, ◌||◌, eqb, nat_lt, if◌then◌else◌, List, []}
-use Rattle.std.specs.Prelude.{◌∷◌, ◌++◌, bytes_eq, codes, length, map, slice_get, slice_index, is_some, Option, Some, None}
-use Rattle.std.specs.List.{list_any}
+use Rattle.std.specs.{Prelude.{◌∷◌, ◌++◌, bytes_eq, codes, length, map, slice_get, slice_index, is_some, Option, Some, None}, List.list_any}
 use Rattle.aout_core.specs.{declared.symbol.Symbol.Symbol, declared.symbol.Segment.TheVariants.TextSeg, declared.reloc.Reloc.Reloc}
 use Rattle.aout_core.specs.{declared.header.Header.Header, Words.plus, Contents.Contents, WellFormed.masked_type}
 use Rattle.aout_core.specs.WellFormed.{segment_number, symbol_number, is_pc_relative}
 use Rattle.instructions.specs.{declared.operation.Operation.Operation, declared.mode.Addressing.Addressing}
-use Rattle.instructions.specs.{declared.operand.Operand.Operand, declared.operand.Operand.TheVariants.General}
-use Rattle.instructions.specs.{declared.operand.Operand.TheVariants.Register, declared.mode.Mode.TheVariants.Direct, Modes.is_pc}
-use Rattle.instructions.specs.declared.mode.Register.TheVariants.{Sp}
-use Rattle.instructions.specs.{declared.mode.Mode.TheVariants.Decrement, declared.mode.Mode.TheVariants.DecrementDeferred}
-use Rattle.instructions.specs.declared.instruction.Instruction.{Instruction}
-use Rattle.instructions.specs.{declared.operand.Operand.TheVariants.Forward, declared.operand.Operand.TheVariants.Backward}
-use Rattle.instructions.specs.{declared.line.Line.TheVariants.Plain, declared.line.Line.TheVariants.Decoded}
+use Rattle.instructions.specs.declared.operand.Operand.{Operand}
+use Rattle.instructions.specs.declared.operand.Operand.TheVariants.{General, Register, Forward, Backward}
+use Rattle.instructions.specs.declared.mode.Mode.TheVariants.{Direct, Decrement, DecrementDeferred}
+use Rattle.instructions.specs.{Modes.{is_pc, addressing, counts_from_pc}, declared.mode.Register.TheVariants.Sp}
+use Rattle.instructions.specs.{declared.instruction.Instruction.Instruction, declared.line.Line.TheVariants.{Plain, Decoded}}
 use Rattle.instructions.specs.{declared.call.SystemCall.SystemCall, declared.unix.Decoder.TheVariants.Unix, declared.unix.UnixLine.UnixLine}
-use Rattle.instructions.specs.{declared.unix.UnixLine.TheVariants.Machine, declared.unix.UnixLine.TheVariants.Call, Modes.addressing}
-use Rattle.instructions.specs.{Modes.counts_from_pc, Instructions.jumps, Instructions.word_count_of, Relocated.is_relocated, Texts.number}
-use Rattle.instructions.specs.{Texts.branch_target, Texts.branch_back_target, UnixLines.unix_length}
-use Rattle.disassemblies.specs.{Lines.unix_line_in, Listed.listed_line, Starts.starts, Starts.is_start}
-use Rattle.suspicions.specs.declared.evidence.Evidence.{Evidence}
-use Rattle.suspicions.specs.declared.evidence.Evidence.TheVariants.{Names, Flow, Promise}
+use Rattle.instructions.specs.{declared.unix.UnixLine.TheVariants.{Machine, Call}, Instructions.{jumps, word_count_of}}
+use Rattle.instructions.specs.{Relocated.is_relocated, Texts.{number, branch_target, branch_back_target}, UnixLines.unix_length}
 use Rattle.instructions.specs.declared.operation.Operation.TheVariants as operations
 use Rattle.instructions.specs.declared.mode.Addressing.TheVariants as ways
 use Rattle.instructions.specs.declared.call.SystemCall.TheVariants as calls
+use Rattle.disassemblies.specs.{Lines.unix_line_in, Listed.listed_line, Starts.starts, Starts.is_start}
+use Rattle.suspicions.specs.{declared.evidence.Evidence.Evidence, declared.evidence.Evidence.TheVariants.{Names, Flow, Promise}}
 
 -- the pc itself is an operand
 abbrev pub is_pc_itself : Option Operand → Bool

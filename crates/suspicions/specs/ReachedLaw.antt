@@ -1,6 +1,5 @@
 -- What it means that a place is reached, without how it is found. (own choice)
-use Rattle.std.specs.Prelude.{◌≡◌, ℕ, ◌/◌, ◌%◌, ◌<◌, Bool, true, false, ◌&&◌, ◌↔◌, eqb, length, Option, Some, None}
-use Rattle.std.specs.List.{list_any}
+use Rattle.std.specs.{Prelude.{◌≡◌, ℕ, ◌/◌, ◌%◌, ◌<◌, Bool, true, false, ◌&&◌, ◌↔◌, eqb, length, Option, Some, None}, List.list_any}
 use Rattle.aout_core.specs.Contents.{Contents}
 use Rattle.suspicions.specs.{declared.evidence.Evidence.Evidence, Reached.leads_to, Reached.evident, Reached.is_reached}
 

@@ -8,28 +8,26 @@
 -- Where the line is sure, so is what is wrong, with four exceptions. A number may be the address of a symbol of data or bss by accident. An
 -- address below 001000 may be that of a vector. A function may be entered beyond its first instruction, as by `jsr pc,_f+4`, but not at an
 -- odd address. Code in data or in a common may be called; by the promise there is none.
-use Rattle.std.specs.Prelude.{ℕ, ◌+◌, ◌*◌, ◌%◌, Bool, true, false, not, ◌&&◌, ◌||◌, eqb, nat_le, nat_lt, if◌then◌else◌, List, [], ◌++◌, length}
-use Rattle.std.specs.Prelude.{slice_get, Option, Some, None}
-use Rattle.std.specs.List.{list_any}
+use Rattle.std.specs.Prelude.{ℕ, ◌+◌, ◌*◌, ◌%◌, Bool, true, false, not, ◌&&◌, ◌||◌, eqb, nat_le, nat_lt, if◌then◌else◌, List, [], ◌++◌}
+use Rattle.std.specs.{Prelude.{length, slice_get, Option, Some, None}, List.list_any}
 use Rattle.aout_core.specs.{declared.header.Header.Header, declared.symbol.Symbol.Symbol, declared.reloc.Reloc.Reloc}
 use Rattle.aout_core.specs.{declared.symbol.Segment.TheVariants.DataSeg, declared.symbol.Segment.TheVariants.BssSeg}
 use Rattle.aout_core.specs.{declared.reloc.Kind.Kind, Contents.Contents, Words.plus, Addresses.data_start_in}
 use Rattle.aout_core.specs.WellFormed.{kind_of, is_pc_relative, symbol_number, is_undefined, masked_type, segment_number}
+use Rattle.aout_core.specs.declared.reloc.Kind.TheVariants as kinds
 use Rattle.instructions.specs.{declared.mode.Addressing.Addressing}
 use Rattle.instructions.specs.{declared.operand.Operand.Operand, declared.operand.Operand.TheVariants.General}
 use Rattle.instructions.specs.{declared.line.Line.TheVariants.Decoded, declared.unix.UnixLine.UnixLine}
 use Rattle.instructions.specs.{declared.unix.UnixLine.TheVariants.Machine, Modes.addressing, Modes.counts_from_pc}
 use Rattle.instructions.specs.{Instructions.jumps, Instructions.word_count_of, Relocated.is_relocated, Texts.number}
-use Rattle.findings.specs.declared.finding.FindingKind.TheVariants.{UnsuitableReference}
-use Rattle.findings.specs.{Found.Found, Found.found_as, Segments.bss_to}
+use Rattle.instructions.specs.declared.mode.Addressing.TheVariants as ways
+use Rattle.findings.specs.{declared.finding.FindingKind.TheVariants.UnsuitableReference, Found.{Found, found_as}, Segments.bss_to}
 use Rattle.suspicions.specs.declared.referent.Referent.TheVariants.{Nothing, Number, Near, Fixed, InText, InData, External}
 use Rattle.suspicions.specs.declared.referent.Access.TheVariants.{Goes, Touches, Neither}
 use Rattle.suspicions.specs.declared.referent.Mismatch.TheVariants.{Unmarked, Unrelocated, Absolute, Beyond, CommonCalled, Outgrown, OddPlace, DataCalled}
 use Rattle.suspicions.specs.{declared.referent.Referent.Referent, declared.referent.Access.Access, declared.referent.Mismatch.Mismatch}
 use Rattle.suspicions.specs.{declared.evidence.Evidence.Evidence, declared.trust.Trust.Trust, Reached.is_promised}
 use Rattle.suspicions.specs.Branches.{word_place}
-use Rattle.aout_core.specs.declared.reloc.Kind.TheVariants as kinds
-use Rattle.instructions.specs.declared.mode.Addressing.TheVariants as ways
 
 -- what a number refers to, by the kind of its relocation word
 abbrev pub referent_of : Reloc → ℕ → Option Kind → Referent

@@ -1,19 +1,16 @@
 -- What holds of the places of a text in which nothing is suspicious for sure. (own choice)
-use Rattle.std.specs.Prelude.{◌≡◌, ℕ, ◌+◌, ◌*◌, ◌/◌, ◌<◌, ◌≤◌, true, false, List, [], ◌∷◌, Bool, length, slice_get, Option, Some}
-use Rattle.std.specs.Prelude.{None}
+use Rattle.std.specs.Prelude.{◌≡◌, ℕ, ◌+◌, ◌*◌, ◌/◌, ◌<◌, ◌≤◌, true, false, List, [], ◌∷◌, Bool, length, slice_get, Option, Some, None}
 use Rattle.std.specs.List.{AllByRecursion}
 use Rattle.aout_core.specs.{declared.reloc.Reloc.Reloc, Contents.Contents, WellFormed.is_pc_relative}
 use Rattle.instructions.specs.{declared.mode.Addressing.Addressing, declared.operand.Operand.Operand}
-use Rattle.instructions.specs.{declared.operand.Operand.TheVariants.General, declared.line.Line.TheVariants.Decoded}
-use Rattle.instructions.specs.declared.line.Line.TheVariants.{Plain}
+use Rattle.instructions.specs.{declared.operand.Operand.TheVariants.General, declared.line.Line.TheVariants.{Decoded, Plain}}
 use Rattle.instructions.specs.{declared.unix.Decoder.TheVariants.Unix, declared.unix.UnixLine.UnixLine}
-use Rattle.instructions.specs.{declared.unix.UnixLine.TheVariants.Machine, Modes.addressing, Modes.counts_from_pc}
-use Rattle.instructions.specs.{Instructions.word_count_of, Relocated.is_relocated, UnixLines.unix_length}
+use Rattle.instructions.specs.{declared.unix.UnixLine.TheVariants.Machine, Modes.{addressing, counts_from_pc}, Instructions.word_count_of}
+use Rattle.instructions.specs.{Relocated.is_relocated, UnixLines.unix_length}
 use Rattle.disassemblies.specs.Lines.{unix_line_in}
 use Rattle.findings.specs.Found.{Found}
 use Rattle.suspicions.specs.{declared.evidence.Evidence.Evidence, declared.evidence.Evidence.TheVariants.Promise, Reached.branch_of}
-use Rattle.suspicions.specs.{ReachedLaw.IsReached, Trust.is_sure, Suspicions.is_foreign, Suspicions.is_immediate}
-use Rattle.suspicions.specs.Suspicions.{suspicions}
+use Rattle.suspicions.specs.{ReachedLaw.IsReached, Trust.is_sure, Suspicions.{is_foreign, is_immediate, suspicions}}
 
 -- none of these is sure
 abbrev pub NoneIsSure : List Found → Type 0

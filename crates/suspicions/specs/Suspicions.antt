@@ -13,13 +13,11 @@ use Rattle.std.specs.Prelude.{ℕ, ◌+◌, ◌-◌, ◌*◌, ◌/◌, Bool, tru
 use Rattle.std.specs.Prelude.{Option, Some, None}
 use Rattle.aout_core.specs.{declared.reloc.Reloc.Reloc, Contents.Contents, Encoding.relocation_at, WellFormed.is_pc_relative}
 use Rattle.instructions.specs.{declared.mode.Addressing.Addressing, declared.mode.Addressing.TheVariants.Immediate}
-use Rattle.instructions.specs.declared.operand.Operand.{Operand}
-use Rattle.instructions.specs.{declared.operand.Operand.TheVariants.General, declared.instruction.Instruction.Instruction}
-use Rattle.instructions.specs.{declared.line.Line.TheVariants.Plain, declared.line.Line.TheVariants.Decoded}
+use Rattle.instructions.specs.{declared.operand.Operand.Operand, declared.operand.Operand.TheVariants.General}
+use Rattle.instructions.specs.{declared.instruction.Instruction.Instruction, declared.line.Line.TheVariants.{Plain, Decoded}}
 use Rattle.instructions.specs.{declared.unix.Decoder.TheVariants.Unix, declared.unix.UnixLine.UnixLine}
-use Rattle.instructions.specs.{declared.unix.UnixLine.TheVariants.Machine, declared.unix.UnixLine.TheVariants.Call, Modes.addressing}
-use Rattle.instructions.specs.{Modes.counts_from_pc, Instructions.instruction_of, Instructions.word_count_of, Lines.line_at}
-use Rattle.instructions.specs.{Lines.line_length, Relocated.is_relocated}
+use Rattle.instructions.specs.{declared.unix.UnixLine.TheVariants.{Machine, Call}, Modes.{addressing, counts_from_pc}}
+use Rattle.instructions.specs.{Instructions.{instruction_of, word_count_of}, Lines.{line_at, line_length}, Relocated.is_relocated}
 use Rattle.disassemblies.specs.{Lines.unix_line_in, Starts.starts, Starts.is_start}
 use Rattle.findings.specs.declared.finding.FindingKind.TheVariants.{RelocatedFirstWord, UnsuitablePcBit, CutInstruction, NoInstruction}
 use Rattle.findings.specs.{Found.Found, Found.found_as, Odd.odd}

@@ -7,15 +7,13 @@ use Rattle.std.specs.Prelude.{ℕ, ◌+◌, ◌/◌, ◌%◌, Bool, false, not, 
 use Rattle.std.specs.Prelude.{slice_index, Option, Some, None}
 use Rattle.aout_core.specs.{declared.reloc.Reloc.Reloc, Contents.Contents}
 use Rattle.instructions.specs.{declared.mode.Addressing.Addressing, declared.mode.Register.Register}
-use Rattle.instructions.specs.{declared.mode.Register.TheVariants.R5, declared.mode.Register.TheVariants.Sp}
-use Rattle.instructions.specs.{declared.operand.Operand.Operand, declared.operand.Operand.TheVariants.General}
-use Rattle.instructions.specs.{declared.line.Line.TheVariants.Decoded, declared.unix.UnixLine.UnixLine}
-use Rattle.instructions.specs.{declared.unix.UnixLine.TheVariants.Machine, Modes.addressing, Instructions.jumps}
-use Rattle.instructions.specs.{Instructions.word_count_of, Texts.number, UnixLines.unix_length}
-use Rattle.findings.specs.declared.finding.FindingKind.TheVariants.{UnsuitableJump, OddOperand, NoEnd}
-use Rattle.findings.specs.Found.{Found, found_as}
-use Rattle.suspicions.specs.{declared.trust.Trust.Trust, Branches.word_place, Reached.flows}
+use Rattle.instructions.specs.{declared.mode.Register.TheVariants.{R5, Sp}, declared.operand.Operand.Operand}
+use Rattle.instructions.specs.{declared.operand.Operand.TheVariants.General, declared.line.Line.TheVariants.Decoded}
+use Rattle.instructions.specs.{declared.unix.UnixLine.UnixLine, declared.unix.UnixLine.TheVariants.Machine, Modes.addressing}
+use Rattle.instructions.specs.{Instructions.{jumps, word_count_of}, Texts.number, UnixLines.unix_length}
 use Rattle.instructions.specs.declared.mode.Addressing.TheVariants as ways
+use Rattle.findings.specs.{declared.finding.FindingKind.TheVariants.{UnsuitableJump, OddOperand, NoEnd}, Found.{Found, found_as}}
+use Rattle.suspicions.specs.{declared.trust.Trust.Trust, Branches.word_place, Reached.flows}
 
 -- the destination of this word of `jmp` or `jsr` is a register, or `$N`
 abbrev pub leads_nowhere : ℕ → Bool

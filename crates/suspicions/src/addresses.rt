@@ -1,8 +1,6 @@
 //! Addresses in text at which no instruction begins.
-ghost use Rattle.std.specs.Prelude.{◌≡◌, ◌+◌, ◌*◌, ◌^◌, ◌<◌, if◌then◌else◌, [], length, slice_get};
-ghost use Rattle.std.specs.List.{flat_map, list_any};
-ghost use Rattle.aout_core.specs.Encoding.{symbols_at};
-ghost use Rattle.aout_core.specs.Placed.{placed_word, placed_words, relocs_of, words_of};
+ghost use Rattle.std.specs.{Prelude.{◌≡◌, ◌+◌, ◌*◌, ◌^◌, ◌<◌, if◌then◌else◌, [], length, slice_get}, List.{flat_map, list_any}};
+ghost use Rattle.aout_core.specs.{Encoding.symbols_at, Placed.{placed_word, placed_words, relocs_of, words_of}};
 ghost use Rattle.findings.specs.Found.{Finds};
 ghost use Rattle.suspicions.specs.Reached.{is_text};
 ghost use Rattle.suspicions.specs.Addresses.{misplaced_even, misplaced_at, misplaced_found, is_absolute_text, suspicious_symbol, suspicious_symbols, suspicious_reloc, suspicious_word, suspicious_addresses};

@@ -1,8 +1,7 @@
 //! What is suspicious of branches.
 ghost use Rattle.std.specs.Prelude.{◌/◌};
 ghost use Rattle.findings.specs.Found.{Finds};
-ghost use Rattle.suspicions.specs.Trust.{entered};
-ghost use Rattle.suspicions.specs.Branches.{suspicious_entry, suspicious_branch};
+ghost use Rattle.suspicions.specs.{Trust.entered, Branches.{suspicious_entry, suspicious_branch}};
 
 use crate::leads::is_promised;
 use crate::suspect::{Suspect, doubt_text};

@@ -1,6 +1,5 @@
 //! Laws of the places that are reached and of those that are sure: contracts of functions with empty bodies.
-ghost use Rattle.suspicions.specs.ReachedLaw.{ReachedLaw};
-ghost use Rattle.suspicions.specs.SureLaw.{SureLaw, SureWordsLaw};
+ghost use Rattle.suspicions.specs.{ReachedLaw.ReachedLaw, SureLaw.{SureLaw, SureWordsLaw}};
 
 /// Exactly the places are found of which there is evidence, or to which the line at such a place leads, and so on. (own choice)
 pub fn reached_law()

@@ -1,6 +1,5 @@
 //! The addresses to which a line leads.
-ghost use Rattle.std.specs.Prelude.{◌≡◌, ◌<◌, ◌≤◌, ◌+◌, ◌*◌, length, option_map, slice_get};
-ghost use Rattle.std.specs.List.{list_any};
+ghost use Rattle.std.specs.{Prelude.{◌≡◌, ◌<◌, ◌≤◌, ◌+◌, ◌*◌, length, option_map, slice_get}, List.list_any};
 ghost use Rattle.instructions.specs.UnixLines.{unix_length};
 ghost use Rattle.suspicions.specs.Reached.{is_pc_itself, only_reads, ends_with_pc, counts_down, may_write_pc, passes, is_csv, is_some_csv, is_external_csv, is_csv_at, refers_to_csv, calls_by_r5, calls_csv, flows, returns, is_promised, is_flow, may_leave, is_between, is_followed, goes_on, next_of, parent_of, branch_of, is_own_distance, is_own_address, jump_by, jump};
 

@@ -1,10 +1,7 @@
 //! The places that are reached.
 ghost use Rattle.std.specs.Prelude.{◌≡◌, ◌<◌, ◌+◌, ◌++◌, ◌∷◌, [], ℕ, false, length, map, get_or, IfOk, OnOk};
-ghost use Rattle.instructions.specs.Modes.{counts_from_pc};
-ghost use Rattle.instructions.specs.UnixLines.{unix_length};
-ghost use Rattle.instructions.specs.declared.line.Line.TheVariants.{Decoded};
-ghost use Rattle.instructions.specs.declared.unix.UnixLine.TheVariants.{Machine};
-ghost use Rattle.instructions.specs.Instructions.{word_count_of};
+ghost use Rattle.instructions.specs.{Modes.counts_from_pc, UnixLines.unix_length, declared.line.Line.TheVariants.Decoded};
+ghost use Rattle.instructions.specs.{declared.unix.UnixLine.TheVariants.Machine, Instructions.word_count_of};
 ghost use Rattle.suspicions.specs.Reached.{leads_by, leads_to, visited, visited_all, is_still, begins, named, is_distance, has_distance, is_shown_by, shown, shown_from, entry, nameless, evident, spread, reached, is_reached};
 ghost use Rattle.suspicions.specs.internal.Marks.{AreMarks, is_unmarked};
 

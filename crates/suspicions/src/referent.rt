@@ -1,12 +1,8 @@
 //! What the words of operands refer to.
-ghost use Rattle.std.specs.Prelude.{◌≡◌, ◌+◌, ◌*◌, ◌^◌, ◌<◌, ◌≤◌, ◌++◌, option_map, slice_get};
-ghost use Rattle.std.specs.List.{list_any};
+ghost use Rattle.std.specs.{Prelude.{◌≡◌, ◌+◌, ◌*◌, ◌^◌, ◌<◌, ◌≤◌, ◌++◌, option_map, slice_get}, List.list_any};
 ghost use Rattle.aout_core.specs.WellFormed.{kind_of};
-ghost use Rattle.findings.specs.Segments.{bss_to};
-ghost use Rattle.instructions.specs.Modes.{counts_from_pc};
-ghost use Rattle.instructions.specs.Instructions.{jumps, word_count_of};
-ghost use Rattle.instructions.specs.Texts.{number};
-ghost use Rattle.findings.specs.Found.{Finds};
+ghost use Rattle.findings.specs.{Segments.bss_to, Found.Finds};
+ghost use Rattle.instructions.specs.{Modes.counts_from_pc, Instructions.{jumps, word_count_of}, Texts.number};
 ghost use Rattle.suspicions.specs.Branches.{word_place};
 ghost use Rattle.suspicions.specs.Referents.{referent_of, referred, access_by, goes, is_after_text, is_storage, is_stored_at, common_size, wrong_place, wrong_storage, wrong_external, mismatch_of};
 ghost use Rattle.suspicions.specs.Referents.{is_certain, suspicious_mismatch, suspicious_referent, suspicious_way, suspicious_reference, suspicious_references};

@@ -1,19 +1,15 @@
 //! What is suspicious in a text. Only tested: what the findings say.
 ghost use Rattle.std.specs.Prelude.{◌≡◌, ◌+◌, ◌*◌, ◌^◌, ◌<◌, ◌&&◌, ◌++◌, Some, length, slice_get, IfOk};
 ghost use Rattle.aout_core.specs.WellFormed.{is_pc_relative};
-ghost use Rattle.instructions.specs.Modes.{counts_from_pc};
-ghost use Rattle.instructions.specs.declared.unix.Decoder.TheVariants.{Unix};
-ghost use Rattle.instructions.specs.Instructions.{instruction_of, word_count_of};
-ghost use Rattle.instructions.specs.Relocated.{is_relocated};
+ghost use Rattle.instructions.specs.{Modes.counts_from_pc, declared.unix.Decoder.TheVariants.Unix};
+ghost use Rattle.instructions.specs.{Instructions.{instruction_of, word_count_of}, Relocated.is_relocated};
 ghost use Rattle.disassemblies.specs.Starts.{starts, is_start};
 ghost use Rattle.findings.specs.Found.{all_found, Finds};
-ghost use Rattle.suspicions.specs.declared.evidence.Evidence.TheVariants.{Names};
-ghost use Rattle.suspicions.specs.Reached.{branch_of};
-ghost use Rattle.suspicions.specs.internal.Marks.{ShowReached};
-ghost use Rattle.suspicions.specs.Trust.{trust};
-ghost use Rattle.suspicions.specs.Branches.{of_lines, suspicious_branch};
-ghost use Rattle.suspicions.specs.Suspicions.{reloc_place, may_begin, suspicious_first, differ, is_immediate, suspicious_bit, suspicious_by, suspicious_operand};
-ghost use Rattle.suspicions.specs.Suspicions.{is_foreign, suspicious_lack, suspicious_plain, suspicious_line, suspicious_at, suspicious_place, suspicious_words, suspicions, all_odd};
+ghost use Rattle.suspicions.specs.{declared.evidence.Evidence.TheVariants.Names, Reached.branch_of, internal.Marks.ShowReached};
+ghost use Rattle.suspicions.specs.{Trust.trust, Branches.{of_lines, suspicious_branch}};
+ghost use Rattle.suspicions.specs.Suspicions.{reloc_place, may_begin, suspicious_first, differ, is_immediate, suspicious_bit};
+ghost use Rattle.suspicions.specs.Suspicions.{suspicious_by, suspicious_operand, is_foreign, suspicious_lack, suspicious_plain};
+ghost use Rattle.suspicions.specs.Suspicions.{suspicious_line, suspicious_at, suspicious_place, suspicious_words, suspicions, all_odd};
 
 use crate::addresses::find_addresses;
 use crate::branches::find_branch;

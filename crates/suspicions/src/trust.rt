@@ -1,7 +1,6 @@
 //! How far it is sure that a line is an instruction.
 ghost use Rattle.std.specs.Prelude.{◌≡◌, ◌≤◌, ◌<◌, ◌^◌, length, IfSome};
-ghost use Rattle.instructions.specs.UnixLines.{unix_length};
-ghost use Rattle.instructions.specs.declared.unix.Decoder.TheVariants.{Unix};
+ghost use Rattle.instructions.specs.{UnixLines.unix_length, declared.unix.Decoder.TheVariants.Unix};
 ghost use Rattle.disassemblies.specs.Lines.{unix_line_in};
 ghost use Rattle.suspicions.specs.Trust as spec;
 

@@ -1,11 +1,8 @@
 //! What is suspicious of instructions by themselves.
 ghost use Rattle.std.specs.Prelude.{◌≡◌, ◌+◌, ◌++◌, ◌&&◌, ◌^◌, ◌<◌, ◌≤◌, eqb, false, true, length, slice_get, slice_index};
-ghost use Rattle.findings.specs.Found.{Finds, found_as};
-ghost use Rattle.findings.specs.declared.finding.FindingKind.TheVariants.{NoEnd};
-ghost use Rattle.instructions.specs.Instructions.{word_count_of};
-ghost use Rattle.instructions.specs.UnixLines.{unix_length};
-ghost use Rattle.suspicions.specs.Branches.{word_place};
-ghost use Rattle.suspicions.specs.Reached.{flows};
+ghost use Rattle.findings.specs.{Found.{Finds, found_as}, declared.finding.FindingKind.TheVariants.NoEnd};
+ghost use Rattle.instructions.specs.{Instructions.word_count_of, UnixLines.unix_length};
+ghost use Rattle.suspicions.specs.{Branches.word_place, Reached.flows};
 ghost use Rattle.suspicions.specs.Uses.{leads_nowhere, has_words, counts_from_even, is_odd, odd_operand, suspicious_uses};
 
 use crate::leads::{flows, reloc_at};

@@ -1,9 +1,7 @@
 -- The orders of nm are those of std's comparisons by a key.
 use Rattle.std.proofs.Common.{◌≡◌, ℕ, Bool, true, false, ◌&&◌, ◌||◌, cond, eqb, List, refl, ap, ◌∙◌, nat_lt, nat_cmp, is_lt}
-use Rattle.std.proofs.lemmas.Cmp.{nat_cmp_total, nat_list_cmp_total, on_total, then_total}
-use Rattle.std.proofs.lemmas.List.MinMax.{ranks_by}
-use Rattle.std.specs.List.Sorted.{IsSortedByKey, IsStableByKey}
-use Rattle.std.specs.declared.cmp.Ordering.TheVariants.{Less, Equal, Greater}
+use Rattle.std.proofs.{lemmas.Cmp.{nat_cmp_total, nat_list_cmp_total, on_total, then_total}, lemmas.List.MinMax.ranks_by}
+use Rattle.std.specs.{List.Sorted.{IsSortedByKey, IsStableByKey}, declared.cmp.Ordering.TheVariants.{Less, Equal, Greater}}
 use Rattle.std.specs.{Cmp.Lexicographic.slice_cmp, Ordering.ordering_then, declared.cmp.Ordering.Ordering}
 use Rattle.aout_core.specs.declared.symbol.Symbol.{Symbol}
 use Rattle.symtools.specs.NmLists.{name_before, value_before, in_order}

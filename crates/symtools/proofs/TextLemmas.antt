@@ -5,8 +5,7 @@ use Rattle.std.proofs.{lemmas.List.length-map, lemmas.List.map-append, lemmas.Li
 use Rattle.std.specs.{List.flat_map, Io.KnownBytes.Appends}
 use Rattle.aout_core.specs.Contents.{Contents}
 use Rattle.tool_options.specs.declared.nm_options.NmOptions.{NmOptions}
-use Rattle.symtools.specs.NmLists.{ListsUpTo, file_lines, is_shown, nm_text}
-use Rattle.symtools.specs.{Files.by_bytes, SizeLines.file_size_line, SizeLines.size_text}
+use Rattle.symtools.specs.{NmLists.{ListsUpTo, file_lines, is_shown, nm_text}, Files.by_bytes, SizeLines.{file_size_line, size_text}}
 
 module _ {A : Type 0} where
   -- what stands for a file, one of so many

@@ -1,10 +1,8 @@
 //! The list of nm.
 ghost use Rattle.std.specs.Prelude.{◌≡◌, ◌≢◌, ◌↔◌, ◌++◌, ◌∷◌, [], false, if◌then◌else◌, IfErr, IfOk, IsOk, IsTrue, OnErr, OnOk, Err, filter, string_bytes};
 ghost use Rattle.std.specs.List.{flat_map};
-ghost use Rattle.aout_core.specs.Refusals.{device_fault, refused};
-ghost use Rattle.aout_core.specs.Wires.{Puts, Writes};
-ghost use Rattle.symtools.specs.Files.{by_bytes};
-ghost use Rattle.symtools.specs.SymbolLines.{symbol_line};
+ghost use Rattle.aout_core.specs.{Refusals.{device_fault, refused}, Wires.{Puts, Writes}};
+ghost use Rattle.symtools.specs.{Files.by_bytes, SymbolLines.symbol_line};
 ghost use Rattle.symtools.specs.NmLists.{is_shown, name_before, value_before, in_order, arranged, line_heading, shown, nm_text, ListsUpTo};
 ghost use Rattle.symtools.specs.declared.fault.ToolFault.TheVariants.{Memory, Device};
 

@@ -1,10 +1,7 @@
 //! The lines of size.
 ghost use Rattle.std.specs.Prelude.{◌≡◌, ◌++◌, ◌∷◌, [], false, if◌then◌else◌, codes, IfErr};
-ghost use Rattle.aout_core.specs.Wires.{Writes};
-ghost use Rattle.symtools.specs.Files.{by_bytes};
-ghost use Rattle.symtools.specs.SizeLines.{size_line, size_text};
-ghost use Rattle.symtools.specs.declared.fault.ToolFault.TheVariants.{Device};
-ghost use Rattle.aout_core.specs.Refusals.{device_fault};
+ghost use Rattle.aout_core.specs.{Wires.Writes, Refusals.device_fault};
+ghost use Rattle.symtools.specs.{Files.by_bytes, SizeLines.{size_line, size_text}, declared.fault.ToolFault.TheVariants.Device};
 
 use crate::buffer::LineBuffer;
 use crate::fault::ToolFault;

@@ -1,7 +1,6 @@
 //! The nm line of one symbol.
 ghost use Rattle.std.specs.Prelude.{◌≡◌, ◌≤◌};
-ghost use Rattle.aout_core.specs.Wires.{Writes};
-ghost use Rattle.aout_core.specs.WellFormed.{masked_type};
+ghost use Rattle.aout_core.specs.{Wires.Writes, WellFormed.masked_type};
 ghost use Rattle.symtools.specs.SymbolLines.{small_letter, letter, is_shown_undefined, value_column, symbol_line};
 
 use crate::buffer::LineBuffer;

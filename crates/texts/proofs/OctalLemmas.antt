@@ -1,8 +1,7 @@
 -- Octal digits that are written from the last to the first.
 use Rattle.std.proofs.Common.{◌≡◌, ℕ, zero, suc, ◌+◌, ◌-◌, ◌*◌, ◌/◌, ◌%◌, ◌^◌, ◌<◌, ◌≤◌, ◌==◌, false, true, if◌then◌else◌, List, [], ◌∷◌}
-use Rattle.std.proofs.Common.{sym, ap, ◌∙◌, subst, arith, nat_lt}
-use Rattle.std.proofs.lemmas.Bool.{cond-true, cond-false}
-use Rattle.std.proofs.{lemmas.Bool.Decides.nat_tests, lemmas.Nat.div_below, Math.Nat.pow-zero, Math.Nat.pow-suc, Math.Numerals.add-one}
+use Rattle.std.proofs.{Common.{sym, ap, ◌∙◌, subst, arith, nat_lt}, lemmas.Bool.{cond-true, cond-false}, lemmas.Bool.Decides.nat_tests}
+use Rattle.std.proofs.{lemmas.Nat.div_below, Math.Nat.{pow-zero, pow-suc}, Math.Numerals.add-one}
 use Rattle.std.specs.Fmt.{digits, digits_onto, digit_glyph}
 use Rattle.texts.specs.Numbers.{digit, octal}
 

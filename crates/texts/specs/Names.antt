@@ -1,8 +1,7 @@
 -- Names in bytes that print. (own choice)
 --
 -- A byte that prints is shown as it is, except the blank and the backslash. Any other byte is a backslash and three octal digits.
-use Rattle.std.specs.Prelude.{ℕ, Bool, ◌&&◌, not, nat_lt, eqb, if◌then◌else◌, List, [], ◌∷◌}
-use Rattle.std.specs.List.{flat_map}
+use Rattle.std.specs.{Prelude.{ℕ, Bool, ◌&&◌, not, nat_lt, eqb, if◌then◌else◌, List, [], ◌∷◌}, List.flat_map}
 use Rattle.texts.specs.Numbers.{three_digits}
 
 abbrev pub is_printable : ℕ → Bool

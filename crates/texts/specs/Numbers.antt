@@ -1,6 +1,5 @@
 -- Numbers in octal: the last six or three digits, or all with no zeros in front. Decimal numbers are those of std. (own choice)
-use Rattle.std.specs.Prelude.{ℕ, ◌+◌, ◌/◌, ◌%◌, false, nat_lt, if◌then◌else◌, List, [], ◌∷◌, ◌++◌, codes, decimal}
-use Rattle.std.specs.Fmt.{digits}
+use Rattle.std.specs.{Prelude.{ℕ, ◌+◌, ◌/◌, ◌%◌, false, nat_lt, if◌then◌else◌, List, [], ◌∷◌, ◌++◌, codes, decimal}, Fmt.digits}
 
 -- the last octal digit
 abbrev pub digit : ℕ → ℕ

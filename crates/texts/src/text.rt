@@ -1,8 +1,7 @@
 //! A text that grows, and remembers whether memory ran out for it.
 ghost use Rattle.std.specs.Prelude.{◌≡◌, ◌∷◌, [], true, false, decimal, IfOk, IsErr};
 ghost use Rattle.texts.specs.Numbers.{six_digits, three_digits, octal, octal_and_decimal, padded_octal};
-ghost use Rattle.texts.specs.Names.{escaped, printable_byte, printable_bytes, printable_name};
-ghost use Rattle.texts.specs.Columns.{blanks, at_left, at_right};
+ghost use Rattle.texts.specs.{Names.{escaped, printable_byte, printable_bytes, printable_name}, Columns.{blanks, at_left, at_right}};
 ghost use Rattle.texts.specs.Texts.{nothing_written, Puts};
 
 use crate::names::{escaped, is_printable};

@@ -1,7 +1,6 @@
 -- A name put after the names in the slots.
 use Rattle.std.proofs.Common.{◌≡◌, ℕ, zero, suc, ◌+◌, ◌<◌, ◌≤◌, true, false, cond, List, [], ◌∷◌, ◌++◌, take, replicate, length, refl, sym}
-use Rattle.std.proofs.Common.{◌∙◌, ap, arith, add-one, length-take, length-append}
-use Rattle.std.proofs.{lemmas.Bool.lt-ltb, lemmas.List.length-replicate}
+use Rattle.std.proofs.{Common.{◌∙◌, ap, arith, add-one, length-take, length-append}, lemmas.Bool.lt-ltb, lemmas.List.length-replicate}
 use Rattle.std.specs.Prelude.{slice_set, nat_lt}
 use Rattle.tool_options.specs.{NameLists.is_among, internal.ForcedSlots.filled, internal.ForcedSlots.IsForced, ForcedNames.AreDifferent}
 use Rattle.tool_options.specs.{ForcedNames.takes, ForcedNames.with_name, declared.forced.Forced.TheInside.Inside}

@@ -1,10 +1,9 @@
 -- Which options the flags of ld ask for. (ld(1); which flags exclude each other: own choice)
 use Rattle.std.specs.Prelude.{ℕ, Bool, true, false, if◌then◌else◌, List, Option, Some, None, option_and_then}
-use Rattle.tool_options.specs.declared.options.Keep.TheVariants.{All, NotL, Externals, Nothing}
-use Rattle.tool_options.specs.Choices.{Choices, option_fault}
-use Rattle.tool_options.specs.{declared.flags.Flags.Flags, declared.options.Layout.Layout, declared.options.Layout.TheVariants.Plain}
-use Rattle.tool_options.specs.{declared.options.Layout.TheVariants.Pure, declared.options.Layout.TheVariants.Split}
-use Rattle.tool_options.specs.{declared.options.Keep.Keep, declared.options.OptionFault.OptionFault}
+use Rattle.tool_options.specs.{declared.options.Keep.TheVariants.{All, NotL, Externals, Nothing}, Choices.{Choices, option_fault}}
+use Rattle.tool_options.specs.{declared.flags.Flags.Flags, declared.options.Layout.Layout}
+use Rattle.tool_options.specs.{declared.options.Layout.TheVariants.{Plain, Pure, Split}, declared.options.Keep.Keep}
+use Rattle.tool_options.specs.declared.options.OptionFault.{OptionFault}
 
 -- -n and -i exclude each other
 abbrev pub layout_by : Bool → Bool → Option Layout

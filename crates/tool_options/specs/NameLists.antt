@@ -1,6 +1,5 @@
 -- Names in a list, compared by their bytes. (own choice)
-use Rattle.std.specs.Prelude.{ℕ, Bool, cond, List, [], ◌∷◌, ◌++◌, bytes_eq}
-use Rattle.std.specs.List.{list_any}
+use Rattle.std.specs.{Prelude.{ℕ, Bool, cond, List, [], ◌∷◌, ◌++◌, bytes_eq}, List.list_any}
 
 abbrev pub is_among : List (List ℕ) → List ℕ → Bool
 is_among names name = list_any (bytes_eq name) names

@@ -1,7 +1,6 @@
 //! The forced names, which are mentioned before all objects.
 ghost use Rattle.std.specs.Prelude.{◌≡◌, ◌≤◌, length, []};
-ghost use Rattle.tool_options.specs.ForcedNames.{AreDifferent, takes, with_name};
-ghost use Rattle.tool_options.specs.NameLists.{is_among};
+ghost use Rattle.tool_options.specs.{ForcedNames.{AreDifferent, takes, with_name}, NameLists.is_among};
 
 use aout_core::Name;
 use std::marker::Model;
@@ -29,8 +28,7 @@ impl Model for Forced {
 
     ghost Value = { List (List ℕ) };
 
-    ghost use Rattle.tool_options.specs.ForcedNames.{forced_of};
-    ghost use Rattle.tool_options.specs.internal.ForcedSlots.{IsForced, slots_of, slots_back};
+    ghost use Rattle.tool_options.specs.{ForcedNames.forced_of, internal.ForcedSlots.{IsForced, slots_of, slots_back}};
 
     ghost view = { forced_of };
 

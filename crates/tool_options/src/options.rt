@@ -45,9 +45,8 @@ impl Model for Options {
 
     ghost Value = { Choices };
 
-    ghost use Rattle.std.specs.Prelude.{◌≡◌};
+    ghost use Rattle.std.specs.Prelude.{◌≡◌, None};
     ghost use Rattle.tool_options.specs.Choices.{option_fault};
-    ghost use Rattle.std.specs.Prelude.{None};
 
     ghost view = { λ a. record { layout = a.layout; relocatable = a.relocatable; keep = a.keep; entry = a.entry; force_commons = a.force_commons } };
 

@@ -1,9 +1,7 @@
 //! The program at a terminal: pages of help, why arguments are refused, what else looks into a file, and a session with a prompt.
 //! Nothing of this is written if standard error is not a terminal.
 ghost use Rattle.std.specs.Prelude.{◌≡◌, ◌≤◌, ◌⊎◌, ℕ, List, Option, Result, map, string_bytes, IfErr, IfOk};
-ghost use Rattle.v7tools.specs.CommandRuns.{RunsWords};
-ghost use Rattle.v7tools.specs.declared.fault.CliFault.{CliFault};
-ghost use Rattle.v7tools.specs.declared.fault.CliFault.TheVariants.{Usage};
+ghost use Rattle.v7tools.specs.{CommandRuns.RunsWords, declared.fault.CliFault.CliFault, declared.fault.CliFault.TheVariants.Usage};
 
 mod answers;
 mod lines;

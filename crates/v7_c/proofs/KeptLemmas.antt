@@ -1,12 +1,10 @@
 -- What calls on a session that is kept leave, by what the library returned.
 use Rattle.std.proofs.Common.{◌≡◌, ◌≢◌, ℕ, List, Option, Some, None, Result, Ok, Err, ap, sym, ◌∙◌}
-use Rattle.std.specs.Prelude.{IfOk, IfErr, IsOk, OnOk, OnErr, Vec}
-use Rattle.std.specs.declared.alloc.Global.{Global}
+use Rattle.std.specs.{Prelude.{IfOk, IfErr, IsOk, OnOk, OnErr, Vec}, declared.alloc.Global.Global}
 use Rattle.aout_core.specs.Refusals.{refused}
 use Rattle.link_session.specs.Undo.{Kept}
-use Rattle.library_calls.specs.declared.cause.Cause.TheVariants.{Memory}
-use Rattle.library_calls.specs.{declared.cause.Cause.Cause, declared.cause.Refusal.Refusal, declared.map_call.LinkOutput.LinkOutput}
-use Rattle.library_calls.specs.KeptAnswers.{HasJournal, MayRunOutToLink, kept_run, shown_in}
+use Rattle.library_calls.specs.{declared.cause.Cause.TheVariants.Memory, declared.cause.Cause.Cause, declared.cause.Refusal.Refusal}
+use Rattle.library_calls.specs.{declared.map_call.LinkOutput.LinkOutput, KeptAnswers.{HasJournal, MayRunOutToLink, kept_run, shown_in}}
 use Rattle.library_calls.specs.RunAnswers.{RunOutput, results_of}
 use Rattle.v7_c.specs.KeptLeft.{Keeps, LeavesChange, LeavesShown, LinkMayRunOut, kept_in, of_session}
 use Rattle.v7_c.specs.Left.{IsGiven, Left, Unplaced, bytes_left, bytes_or, done_by, of_none, refusal_in}

@@ -1,7 +1,6 @@
 -- What a call leaves, by what the library returned.
 use Rattle.std.proofs.Common.{◌≡◌, ◌≢◌, ℕ, List, Result, Ok, Err, IfOk, IfErr, refl, ap}
-use Rattle.std.specs.Prelude.{Vec}
-use Rattle.std.specs.declared.alloc.Global.{Global}
+use Rattle.std.specs.{Prelude.Vec, declared.alloc.Global.Global}
 use Rattle.library_calls.specs.{declared.cause.Cause.Cause, declared.cause.Refusal.Refusal, declared.cause.Cause.TheVariants.Memory}
 use Rattle.library_calls.specs.{declared.parts.FileLists.FileLists, declared.parts.ObjectWord.ObjectWord, declared.parts.PartLists.PartLists}
 use Rattle.library_calls.specs.{declared.parts.SymbolRow.SymbolRow, declared.remarks_call.RemarkRecord.RemarkRecord}

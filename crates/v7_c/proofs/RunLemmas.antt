@@ -7,10 +7,9 @@ use Rattle.library_calls.specs.RunAnswers.{RunOutput, link_run, no_run, results_
 use Rattle.library_calls.specs.declared.cause.Cause.TheVariants.{Memory, NoWant, NotKept, ShortStruct}
 use Rattle.library_calls.specs.{declared.cause.Cause.Cause, declared.cause.Refusal.Refusal, declared.map_call.LinkOutput.LinkOutput, declared.run_call.RunResult.RunResult}
 use Rattle.library_calls.specs.{Causes.number_of, Causes.word_of, FileAnswers.has_bit, LinkAnswers.each_of, MemoryWanted.LinkMayRunOut}
-use Rattle.v7_c.specs.{Left.refused as refused_as_said, declared.answer.Answer.Answer}
-use Rattle.v7_c.specs.{declared.run.Request.Request, RunLeft.AnswerBy, RunLeft.IsAnswer, RunLeft.MapRunsOut, RunLeft.RunMayRunOut, RunLeft.is_enough}
-use Rattle.v7_c.specs.{Left.of_none, RunLeft.RunCounts, RunLeft.RunLeft, RunLeft.answered, RunLeft.counts_of, RunLeft.map_in, RunLeft.nothing}
-use Rattle.v7_c.specs.{RunLeft.or_unread, RunLeft.run_in, RunLeft.unread, RunLeft.wants_of}
+use Rattle.v7_c.specs.{Left.{refused as refused_as_said, of_none}, declared.answer.Answer.Answer, declared.run.Request.Request}
+use Rattle.v7_c.specs.RunLeft.{AnswerBy, IsAnswer, MapRunsOut, RunMayRunOut, is_enough, RunCounts, RunLeft, answered, counts_of, map_in}
+use Rattle.v7_c.specs.RunLeft.{nothing, or_unread, run_in, unread, wants_of}
 use Rattle.v7_c.proofs.LeftLemmas.{refusal_by}
 
 never_by : (short unknown unkept enough : Bool) → (if short then Some ShortStruct else if unknown then Some NoWant

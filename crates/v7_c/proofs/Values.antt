@@ -18,19 +18,15 @@ use denote.Param.{layout}
 use denote.Struct.Struct.{within}
 use denote.Struct.Owning.{shape, fields}
 use denote.Struct.Values.{intos}
-use Rattle.core.proofs.alloc.Calls.{Al, handle_tells}
-use Rattle.core.proofs.cell.Inside.{Good}
-use Rattle.std.specs.Prelude.{Option, None, Some, IsSome}
-use Rattle.std.specs.Box.Ownership.{box_owns}
-use Rattle.std.specs.declared.alloc.Global.{Global}
+use Rattle.core.proofs.{alloc.Calls.{Al, handle_tells}, cell.Inside.Good}
+use Rattle.std.specs.{Prelude.{Option, None, Some, IsSome}, Box.Ownership.box_owns, declared.alloc.Global.Global}
+use Rattle.std.specs.contracts.impls.GlobalAllocator.TheImpl.{ghosts}
 use Rattle.std.specs.contracts.alloc.Global as heap
 use Rattle.std.proofs.alloc.Global.TheLaws as heap_laws
-use Rattle.std.specs.contracts.impls.GlobalAllocator.TheImpl.{ghosts}
 use Rattle.v7_c.proofs.LooseValues.{both}
 use Rattle.link_session.specs.Undo.{Kept}
 use Rattle.link_session.specs.contracts.session.Session as session
-use Rattle.v7_c.specs.Slots.{slot_owns}
-use Rattle.v7_c.specs.declared.slot.Slot.{Slot}
+use Rattle.v7_c.specs.{Slots.slot_owns, declared.slot.Slot.Slot}
 use Rattle.v7_c.specs.contracts.slot.Slot as slot
 
 abbrev pub R : RattleType

@@ -6,8 +6,7 @@ use Rattle.library_calls.specs.{declared.cause.Cause.Cause, declared.cause.Refus
 use Rattle.library_calls.specs.KeptAnswers.{AddsBytes, HasJournal, MayRunOutToAdd, MayRunOutToLink, TakesLast, begun_in, kept_run, last_in, shown_in, taken_in}
 use Rattle.library_calls.specs.{MapAnswers.HasNoMap, RunAnswers.RunOutput}
 use Rattle.v7_c.specs.Left.{IsGiven, IsRefusal, Left, Unplaced, bytes_left, done_by, of_none}
-use Rattle.v7_c.specs.{RunLeft.answer_left, RunLeft.or_unread, RunLeft.unread}
-use Rattle.v7_c.specs.{RunLeft.left_in, RunLeft.results_or, RunLeft.wants_of, declared.handle.Handle.Handle}
+use Rattle.v7_c.specs.{RunLeft.{answer_left, or_unread, unread, left_in, results_or, wants_of}, declared.handle.Handle.Handle}
 use Rattle.v7_c.specs.{declared.run.Request.Request, declared.run.RunAnswer.RunAnswer}
 
 -- what a handle keeps, if a session is begun

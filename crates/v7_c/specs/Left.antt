@@ -5,15 +5,14 @@
 use Rattle.std.specs.declared.alloc.Global.{Global}
 use Rattle.std.specs.Prelude.{◌≡◌, ◌≢◌, ℕ, ◌||◌, nat_lt, if◌then◌else◌, List, [], ◌++◌, drop, length, Option, Some, None, Vec, Result, Ok, Err}
 use Rattle.aout_core.specs.declared.header.Header.{Header}
+use Rattle.aout_core.specs.Refusals as memory
 use Rattle.library_calls.specs.{declared.cause.Cause.Cause, declared.cause.Cause.TheVariants.Memory, declared.cause.Refusal.Refusal}
 use Rattle.library_calls.specs.{declared.parts.FileLists.FileLists, declared.parts.ObjectWord.ObjectWord}
 use Rattle.library_calls.specs.{declared.parts.PartLists.PartLists, declared.parts.SymbolRow.SymbolRow}
 use Rattle.library_calls.specs.{declared.remarks_call.RemarkRecord.RemarkRecord, declared.remarks_call.Remarks.Remarks}
-use Rattle.library_calls.specs.{Causes.at, Causes.number_of, Causes.word_of, ObjectParts.Pieces, ObjectParts.Whole}
-use Rattle.library_calls.specs.{ObjectParts.pieces_in, ObjectParts.whole_of}
+use Rattle.library_calls.specs.{Causes.{at, number_of, word_of}, ObjectParts.{Pieces, Whole, pieces_in, whole_of}}
 use Rattle.library_calls.specs.RemarkAnswers.{IsRemarked, Output, remarks_in}
 use Rattle.v7_c.specs.{declared.answer.Answer.Answer, declared.answer.Counts.Counts, declared.answer.FileHeader.FileHeader}
-use Rattle.aout_core.specs.Refusals as memory
 
 -- these at the beginning of a buffer
 abbrev pub put_in : {A : Type 0} → List A → List A → List A

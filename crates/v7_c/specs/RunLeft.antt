@@ -7,12 +7,10 @@ use Rattle.std.specs.Prelude.{◌≡◌, ℕ, Bool, true, false, ◌||◌, ◌&&
 use Rattle.std.specs.Prelude.{Option, None, Some, Ok, Err}
 use Rattle.library_calls.specs.MapAnswers.{HasNoMap, IsMapAnswer, MapMayRunOut, MapOf, map_asked}
 use Rattle.library_calls.specs.RunAnswers.{RunOutput, link_run, results_of}
-use Rattle.library_calls.specs.declared.cause.Cause.TheVariants.{NoWant, NotKept, ShortStruct}
-use Rattle.library_calls.specs.declared.run_call.Wants.{Wants}
+use Rattle.library_calls.specs.{declared.cause.Cause.TheVariants.{NoWant, NotKept, ShortStruct}, declared.run_call.Wants.Wants}
 use Rattle.library_calls.specs.{declared.cause.Cause.Cause, declared.cause.Refusal.Refusal, declared.reported.ReportedName.ReportedName}
-use Rattle.library_calls.specs.{declared.map_call.LinkOutput.LinkOutput, Causes.number_of, Causes.word_of, FileAnswers.has_bit}
-use Rattle.library_calls.specs.{LinkAnswers.each_of, MemoryWanted.LinkMayRunOut}
-use Rattle.library_calls.specs.declared.places.FindingPlace.{FindingPlace}
+use Rattle.library_calls.specs.{declared.map_call.LinkOutput.LinkOutput, Causes.{number_of, word_of}, FileAnswers.has_bit}
+use Rattle.library_calls.specs.{LinkAnswers.each_of, MemoryWanted.LinkMayRunOut, declared.places.FindingPlace.FindingPlace}
 use Rattle.v7_c.specs.MapLeft.{MapLeft, RecordCounts, counted, no_records, left_in as map_left_in, counts_of as record_counts}
 use Rattle.v7_c.specs.MapLeft.{filled as map_filled, is_short as map_is_short}
 use Rattle.v7_c.specs.{Left.IsRefusal, Left.of_none, Left.put_in, declared.run.Request.Request, declared.run.RunAnswer.RunAnswer}

@@ -1,7 +1,6 @@
 //! What a call gives, written into the buffers of its caller.
 ghost use Rattle.std.specs.Prelude.{◌≡◌, ◌≤◌, [], length, Ok};
-ghost use Rattle.library_calls.specs.ObjectParts.{pieces_in};
-ghost use Rattle.library_calls.specs.RemarkAnswers.{remarks_in};
+ghost use Rattle.library_calls.specs.{ObjectParts.pieces_in, RemarkAnswers.remarks_in};
 ghost use Rattle.v7_c.specs.Left.{apart_left, both_left, bytes_left, bytes_of, bytes_or, count_left, count_of, counts_of, done_by, file_left, left, parts_left, pieces_or, put_in, read_left, refusal_in, refused, remarks_left, remarks_of, whole_or};
 
 use crate::answer::{Answer, Counts, FileHeader};

@@ -1,13 +1,11 @@
 //! Calls on a session that a handle keeps.
 ghost use Rattle.std.specs.Prelude.{◌≡◌, ◌≢◌, None, Ok, Err, IsOk, IfOk, IfErr, OnOk, OnErr};
 ghost use Rattle.aout_core.specs.Refusals.{refused};
-ghost use Rattle.library_calls.specs.KeptAnswers.{AddsBytes, HasJournal, MayRunOutToAdd, MayRunOutToLink, TakesLast, kept_run, last_in, shown_in, taken_in};
-ghost use Rattle.library_calls.specs.MapAnswers.{HasNoMap};
-ghost use Rattle.library_calls.specs.RunAnswers.{results_of};
+ghost use Rattle.library_calls.specs.KeptAnswers.{AddsBytes, HasJournal, MayRunOutToAdd, MayRunOutToLink, TakesLast, kept_run, last_in};
+ghost use Rattle.library_calls.specs.{KeptAnswers.{shown_in, taken_in}, MapAnswers.HasNoMap, RunAnswers.results_of};
 ghost use Rattle.library_calls.specs.declared.cause.Cause.TheVariants.{Memory};
 ghost use Rattle.v7_c.specs.KeptLeft.{Begins, Both, Keeps, LeavesLink, LinkMayRunOut, beginning, kept_in, of_session, kept_by};
-ghost use Rattle.v7_c.specs.Left.{IsGiven, Unplaced};
-ghost use Rattle.v7_c.specs.RunLeft.{results_or, wants_of};
+ghost use Rattle.v7_c.specs.{Left.{IsGiven, Unplaced}, RunLeft.{results_or, wants_of}};
 
 use crate::handle::Handle;
 use crate::run::{Request, RunAnswer, leave, unread, wants_of};

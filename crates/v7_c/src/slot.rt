@@ -1,8 +1,6 @@
 //! A pointer that owns a session, or nothing.
-ghost use Rattle.std.specs.Prelude.{◌≡◌, Option, None, Some, IsSome};
-ghost use Rattle.std.specs.contracts.impls.GlobalAllocator.TheImpl.{ghosts};
-ghost use Rattle.link_session.specs.Undo.{Kept};
-ghost use Rattle.link_session.specs.contracts.session.Session.{the_row as R};
+ghost use Rattle.std.specs.{Prelude.{◌≡◌, Option, None, Some, IsSome}, contracts.impls.GlobalAllocator.TheImpl.ghosts};
+ghost use Rattle.link_session.specs.{Undo.Kept, contracts.session.Session.the_row as R};
 ghost use Rattle.v7_c.specs.Slots.{slot_owns};
 
 use crate::loose::Loose;

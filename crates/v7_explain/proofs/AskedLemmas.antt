@@ -1,18 +1,15 @@
 -- A call as the code has it; and what a map is asked for.
-use Rattle.std.proofs.Common.{◌≡◌, ℕ, ◌-◌, ◌≤◌, Bool, true, List, [], ◌∷◌, ◌++◌, length, map, take, drop, get_or, Option, Some, None}
-use Rattle.std.proofs.Common.{refl, sym, ap, ◌∙◌, subst, inl, arith}
-use Rattle.std.proofs.lemmas.List.{take_all}
-use Rattle.std.specs.Prelude.{Ok, Err, Result, String, string_bytes, if◌then◌else◌}
-use Rattle.std.specs.declared.alloc.Global.{Global}
+use Rattle.std.proofs.Common.{◌≡◌, ℕ, ◌-◌, ◌≤◌, Bool, true, List, [], ◌∷◌, ◌++◌, length, map, take, drop, get_or, Option, Some, None, refl}
+use Rattle.std.proofs.{Common.{sym, ap, ◌∙◌, subst, inl, arith}, lemmas.List.take_all}
+use Rattle.std.specs.{Prelude.{Ok, Err, Result, String, string_bytes, if◌then◌else◌}, declared.alloc.Global.Global}
 use Rattle.aout_core.specs.Refusals.{refused}
 use Rattle.surroundings.proofs.ShownLemmas.{some_words}
 use Rattle.surroundings.specs.{Answer.Answer, Answers.Ends, Events.History, Programs.CallsOr, Programs.DoesWords, declared.answer.Fault.Fault}
 use Rattle.surroundings.specs.declared.reasons.Reason.{Reason}
-use Rattle.v7_explain.specs.Asked.{has_some}
-use Rattle.v7_explain.specs.Calls.{Mapping, after_map, asked_in, asked_or, map_link, mapping, mapping_after}
-use Rattle.v7_explain.specs.{Maps.IsMapCall, Runs.IsCall, Runs.MapsAsked}
-use Rattle.v7_explain.specs.{Walks.Folders, declared.arguments.Call.Call as Code, internal.Asked.asks_of_map, internal.Asked.call_in}
 use Rattle.surroundings.specs.declared.answer.Fault.TheVariants as faults
+use Rattle.v7_explain.specs.{Asked.has_some, Calls.{Mapping, after_map, asked_in, asked_or, map_link, mapping, mapping_after}}
+use Rattle.v7_explain.specs.{Maps.IsMapCall, Runs.{IsCall, MapsAsked}, Walks.Folders, declared.arguments.Call.Call as Code}
+use Rattle.v7_explain.specs.internal.Asked.{asks_of_map, call_in}
 
 -- a call is done, as the code has it
 pub call_done : (folders : Option Folders) (call same : Code) (old new : History) (result : Result Answer Fault) → call ≡ same →

@@ -5,14 +5,11 @@ use Rattle.std.specs.{Prelude.Result, Prelude.Ok, Prelude.Err, Prelude.String, d
 use Rattle.aout_core.specs.Refusals.{refused}
 use Rattle.surroundings.specs.{Answer.Answer, Answers.Ends, Answers.Stops, Events.History, Programs.either, declared.answer.Fault.Fault}
 use Rattle.surroundings.specs.Sources.{EndsReading}
-use Rattle.explanations.specs.declared.file_kind.FileKind.{FileKind}
-use Rattle.v7_explain.specs.{Files.IsRow, Files.IsUnnamed, Joined.GivesOr, Joined.joined, Joined.nothing_said}
-use Rattle.v7_explain.specs.{Walks.Folders, Walks.Found, Walks.kind_in, Walks.path_found}
-use Rattle.v7_explain.specs.Runs.{Explains, ExplainsFound, ExplainsNamed, IsExplaining, IsKind, IsSaid, ReadsFor}
-use Rattle.v7_explain.specs.{declared.explaining.Mode.TheVariants.Listing, declared.explaining.Mode.TheVariants.Show}
-use Rattle.v7_explain.specs.{declared.explaining.Mode.TheVariants.Check, declared.explaining.Mode.TheVariants.Inventory}
-use Rattle.v7_explain.specs.{declared.explaining.Mode.Mode}
 use Rattle.surroundings.specs.declared.answer.Fault.TheVariants as faults
+use Rattle.explanations.specs.declared.file_kind.FileKind.{FileKind}
+use Rattle.v7_explain.specs.{Files.{IsRow, IsUnnamed}, Joined.{GivesOr, joined, nothing_said}, Walks.{Folders, Found, kind_in, path_found}}
+use Rattle.v7_explain.specs.Runs.{Explains, ExplainsFound, ExplainsNamed, IsExplaining, IsKind, IsSaid, ReadsFor}
+use Rattle.v7_explain.specs.{declared.explaining.Mode.TheVariants.{Listing, Show, Check, Inventory}, declared.explaining.Mode.Mode}
 
 -- ---- one file
 

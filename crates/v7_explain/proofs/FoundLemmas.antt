@@ -1,8 +1,7 @@
 -- What is sure among findings, and what is reported of them.
 use Rattle.std.proofs.Common.{◌≡◌, ◌≢◌, ℕ, Bool, true, false, ◌&&◌, ◌||◌, Option, List, [], ◌∷◌, Result, IfOk, refl, ap, sym, ◌∙◌}
 use Rattle.std.proofs.lemmas.Result.{IfOk-weaker}
-use Rattle.std.specs.Prelude.{if◌then◌else◌}
-use Rattle.std.specs.List.{list_any}
+use Rattle.std.specs.{Prelude.if◌then◌else◌, List.list_any}
 use Rattle.aout_core.specs.{Contents.Contents, declared.object.ObjectFault.ObjectFault}
 use Rattle.surroundings.specs.{Answer.Answer, Answers.only_errors}
 use Rattle.suspicions.specs.{Suspicions.all_odd, declared.evidence.Evidence.Evidence}

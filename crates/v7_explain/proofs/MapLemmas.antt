@@ -1,28 +1,25 @@
 -- The objects of a map as a session takes them, and the map of these.
-use Rattle.std.proofs.Common.{◌≡◌, ◌≢◌, ℕ, Bool, false, eqb, List, [], ◌∷◌, length, Option, Some, None, map, refl, sym, ap, ◌∙◌}
-use Rattle.std.proofs.Common.{◌⊎◌, subst, inl, inr, arith}
-use Rattle.std.proofs.lemmas.Bool.Decides.{nat_tests}
-use Rattle.std.specs.Prelude.{Result, Ok, Err, IfSome, String, Vec, is_some, not}
-use Rattle.std.specs.declared.alloc.Global.{Global}
+use Rattle.std.proofs.Common.{◌≡◌, ◌≢◌, ℕ, Bool, false, eqb, List, [], ◌∷◌, length, Option, Some, None, map, refl, sym, ap, ◌∙◌, ◌⊎◌, subst}
+use Rattle.std.proofs.{Common.{inl, inr, arith}, lemmas.Bool.Decides.nat_tests}
+use Rattle.std.specs.{Prelude.{Result, Ok, Err, IfSome, String, Vec, is_some, not}, declared.alloc.Global.Global}
 use Rattle.aout_core.specs.{Contents.Contents, Refusals.refused}
 use Rattle.command_words.specs.Calls.{AsksForNone, IsAsked, IsWhole, dashes_in, files_of}
 use Rattle.command_words.specs.declared.words.Call.TheVariants.{Ld, Nm, Session, Size, Strip}
 use Rattle.command_words.specs.{declared.fault.WordsFault.TheVariants.Usage, declared.words.Call.Call}
-use Rattle.link_maps.specs.Links.{ShowsLink, link_shown, path_at, read_inputs}
-use Rattle.link_maps.specs.Taking.{split, split_of, with_object}
-use Rattle.link_maps.specs.{Members.all_of, Rows.linked_by, declared.map.LinkMap.LinkMap, declared.members.Objects.Objects}
+use Rattle.link_maps.specs.{Links.{ShowsLink, link_shown, path_at, read_inputs}, Taking.{split, split_of, with_object}, Members.all_of}
+use Rattle.link_maps.specs.{Rows.linked_by, declared.map.LinkMap.LinkMap, declared.members.Objects.Objects}
 use Rattle.link_maps.specs.{declared.members.Refused.Refused, declared.outcome.Outcome.Outcome as Made}
 use Rattle.link_maps.proofs.{LinkLemmas.shows_link, TakingLemmas.none_split, TakingLemmas.split_more}
 use Rattle.link_out.specs.Inputs.{Cause, Refusal, at_path, linked, not_added, of_input}
 use Rattle.link_out.specs.{Steps.and_then, declared.linked.LinkFault.LinkFault, declared.linked.Linked.Linked, function.Link.Outcome}
 use Rattle.link_session.specs.{Labelled.Labelled, Labelled.objects, Sessions.nothing_kept, Undo.Kept}
 use Rattle.surroundings.specs.{Answer.Answer, Answers.EndsOr, Events.History, Programs.either, declared.answer.Fault.Fault}
+use Rattle.surroundings.specs.declared.answer.Fault.TheVariants as faults
 use Rattle.tool_options.specs.Choices.{Choices}
 use Rattle.v7_explain.specs.Maps.{AreTaken, HaveObjects, IsMap, IsMapCall, IsMapping, IsTaking, MapsCall, link_words, nothing_taken}
 use Rattle.v7_explain.specs.Maps.{status_asked, status_linked}
 use Rattle.v7_explain.specs.internal.Takes.{IsMapAnswer, KeepsSplit, TakesAll, status_made, status_mapped}
 use Rattle.v7_explain.proofs.TakingLemmas.{taking_memory}
-use Rattle.surroundings.specs.declared.answer.Fault.TheVariants as faults
 
 -- ---- objects that a session takes, up to a limit
 

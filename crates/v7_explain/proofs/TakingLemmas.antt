@@ -1,16 +1,14 @@
 -- Objects that are taken one after another: which there are then, and what comes of the files that are left.
-use Rattle.std.proofs.Common.{◌≡◌, ℕ, List, [], ◌∷◌, ◌++◌, refl, sym, ap, ◌∙◌, subst, inl, inr}
-use Rattle.std.proofs.lemmas.Bool.{false≢true}
+use Rattle.std.proofs.{Common.{◌≡◌, ℕ, List, [], ◌∷◌, ◌++◌, refl, sym, ap, ◌∙◌, subst, inl, inr}, lemmas.Bool.false≢true}
 use Rattle.std.specs.Prelude.{IsOk, Result, Ok, Err, OnOk, is_err}
 use Rattle.aout_core.specs.{Contents.Contents, Decoding.decode, Refusals.refused, declared.refused.Refused.Refused}
 use Rattle.link_out.specs.Inputs.{Cause, object_in}
 use Rattle.link_session.specs.Labelled.{Labelled}
 use Rattle.surroundings.specs.Sources.{EndsReading, ReadsAt}
 use Rattle.surroundings.specs.{Answer.Answer, Answers.Ends, Answers.Stops, Answers.only_errors, Events.History, declared.answer.Fault.Fault}
-use Rattle.v7_explain.specs.Maps.{HaveObjects, IsInput, IsTaking, Taken, nothing_taken, with_found}
-use Rattle.v7_explain.specs.internal.Takes.{AddsOrSays, Holds, TakesAll, TakesNext, TakesOne}
-use Rattle.v7_explain.specs.{Joined.joined, Joined.nothing_said}
 use Rattle.surroundings.specs.declared.answer.Fault.TheVariants as faults
+use Rattle.v7_explain.specs.Maps.{HaveObjects, IsInput, IsTaking, Taken, nothing_taken, with_found}
+use Rattle.v7_explain.specs.{internal.Takes.{AddsOrSays, Holds, TakesAll, TakesNext, TakesOne}, Joined.{joined, nothing_said}}
 
 -- ---- one after another
 

@@ -3,8 +3,7 @@
 -- An argument is a name of the link or of a local of its objects, which counts up to its eighth byte, or else the path of an object, or else
 -- an address in octal digits. What is none of these, or an address that the link does not have, is absent.
 use Rattle.std.specs.Prelude.{ℕ, ◌+◌, ◌-◌, ◌*◌, Bool, true, false, ◌&&◌, ◌||◌, bytes_eq, nat_le, nat_lt, not, if◌then◌else◌, List, [], ◌∷◌}
-use Rattle.std.specs.Prelude.{take, Option, Some, None}
-use Rattle.std.specs.List.{list_any}
+use Rattle.std.specs.{Prelude.{take, Option, Some, None}, List.list_any}
 use Rattle.aout_core.specs.{Names.before_nul, declared.symbol.Symbol.Symbol}
 use Rattle.link_maps.specs.{Spots.spots_at, Uses.Use, Uses.name_of, declared.map.LinkMap.LinkMap}
 use Rattle.link_session.specs.Labelled.{Labelled}

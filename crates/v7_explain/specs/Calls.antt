@@ -2,18 +2,15 @@
 --
 -- Options and paths may be in any order, but for -m, which is the first argument: those after it are of a map. With no option the files
 -- at these paths are listed.
-use Rattle.std.specs.Prelude.{ℕ, Bool, ◌&&◌, not, if◌then◌else◌, bytes_eq, codes, List, [], ◌∷◌, ◌++◌}
-use Rattle.std.specs.Prelude.{Option, Some, None, Result, Ok, Err}
+use Rattle.std.specs.Prelude.{ℕ, Bool, ◌&&◌, not, if◌then◌else◌, bytes_eq, codes, List, [], ◌∷◌, ◌++◌, Option, Some, None, Result, Ok, Err}
 use Rattle.std.specs.Option.{option_or}
 use Rattle.aout_core.specs.{Words.letter_of}
 use Rattle.instructions.specs.declared.unix.Decoder.TheVariants.{Pdp11, Unix}
-use Rattle.surroundings.specs.Arguments.{Given, excluded_in, given_in, has_letter, if_given, value_of}
-use Rattle.surroundings.specs.declared.reasons.Reason.{Reason}
+use Rattle.surroundings.specs.{Arguments.{Given, excluded_in, given_in, has_letter, if_given, value_of}, declared.reasons.Reason.Reason}
 use Rattle.surroundings.specs.declared.reasons.Reason.TheVariants.{Needs, NoFile, NoValue, NotFirst, NotOneFile}
 use Rattle.suspicions.specs.declared.evidence.Evidence.TheVariants.{Flow, Promise}
-use Rattle.v7_explain.specs.declared.explaining.Mode.TheVariants.{Listing, Show, Check, Inventory}
-use Rattle.v7_explain.specs.{declared.explaining.Mode.Mode, declared.views.View.View, declared.views.View.TheVariants.Instructions}
-use Rattle.v7_explain.specs.{declared.views.View.TheVariants.Rows}
+use Rattle.v7_explain.specs.{declared.explaining.Mode.TheVariants.{Listing, Show, Check, Inventory}, declared.explaining.Mode.Mode}
+use Rattle.v7_explain.specs.{declared.views.View.View, declared.views.View.TheVariants.{Instructions, Rows}}
 
 -- to explain files, or those in folders, to store the listing of a file, to ask a file for a name or an address, or the map that the arguments
 -- after -m ask for

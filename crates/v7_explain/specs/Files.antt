@@ -3,8 +3,7 @@
 --
 -- What goes to standard output comes with lines for standard error and a status: 1 if there is something to report. A listing reads back as
 -- its file. What else is said of a file, and in which words, is in no definition.
-use Rattle.std.specs.Prelude.{◌≡◌, ℕ, Bool, false, ◌&&◌, if◌then◌else◌, List, [], Option, Some, None, Result, Ok, Err}
-use Rattle.std.specs.List.{list_any}
+use Rattle.std.specs.{Prelude.{◌≡◌, ℕ, Bool, false, ◌&&◌, if◌then◌else◌, List, [], Option, Some, None, Result, Ok, Err}, List.list_any}
 use Rattle.aout_core.specs.{Contents.Contents, Decoding.decode, WellFormed.first_object_fault}
 use Rattle.aout_core.specs.{declared.file.ReadFault.ReadFault, declared.object.ObjectFault.ObjectFault}
 use Rattle.findings.specs.{Found.Found, Wrong.is_damaged}

@@ -8,15 +8,13 @@ use Rattle.command_words.specs.Calls.{AsksForNone, IsAsked, IsWhole, dashes_in, 
 use Rattle.command_words.specs.{declared.fault.WordsFault.TheVariants.Usage, declared.words.Call.Call, declared.words.Call.TheVariants.Ld}
 use Rattle.link_maps.specs.{Links.ShowsLink, Maps.IsMapOf, Members.all_of, Taking.split, Taking.split_of}
 use Rattle.link_maps.specs.{declared.map.LinkMap.LinkMap, declared.members.Objects.Objects}
-use Rattle.link_out.specs.Inputs.{Cause, Refusal, linked, object_in}
-use Rattle.link_out.specs.{function.Link.Outcome, function.Reports.status_of}
+use Rattle.link_out.specs.{Inputs.{Cause, Refusal, linked, object_in}, function.Link.Outcome, function.Reports.status_of}
 use Rattle.link_session.specs.Labelled.{Labelled}
-use Rattle.v7_explain.specs.Asked.{has_absent}
+use Rattle.v7_explain.specs.{Asked.has_absent, Joined.{joined, nothing_said}}
 use Rattle.surroundings.specs.{Answer.Answer, Answers.Ends, Answers.EndsOr, Events.History, Programs.either}
 use Rattle.surroundings.specs.{Sources.ReadsAt, Sources.ReadsNone, declared.answer.Fault.Fault}
-use Rattle.tool_options.specs.Choices.{Choices}
-use Rattle.v7_explain.specs.{Joined.joined, Joined.nothing_said}
 use Rattle.surroundings.specs.declared.answer.Fault.TheVariants as faults
+use Rattle.tool_options.specs.Choices.{Choices}
 
 -- ---- objects
 

@@ -5,19 +5,14 @@
 use Rattle.std.specs.Prelude.{◌≡◌, ◌⊎◌, ℕ, true, false, eqb, List, [], ◌∷◌, map, Option, Some, None, Result, Ok, Err}
 use Rattle.aout_core.specs.Refusals.{refused}
 use Rattle.explanations.specs.declared.file_kind.FileKind.{FileKind}
-use Rattle.surroundings.specs.Answers.{AnswersOr, EndsOr, IsPerformed, only_errors}
-use Rattle.surroundings.specs.Events.{History, Surroundings, written}
+use Rattle.surroundings.specs.{Answers.{AnswersOr, EndsOr, IsPerformed, only_errors}, Events.{History, Surroundings, written}}
 use Rattle.surroundings.specs.Programs.{AnswersGiven, CallsOr, Reads, Step, Stores, Then, either}
-use Rattle.surroundings.specs.Sources.{ReadsAt, ReadsFront, ReadsNone}
-use Rattle.surroundings.specs.{Answer.Answer, Nodes.ChecksOutput, declared.answer.Fault.Fault}
-use Rattle.v7_explain.specs.Calls.{Call, ask, asked_in, explain, map_link, mapping, store, walk}
-use Rattle.v7_explain.specs.Questions.{AnswersAt}
-use Rattle.v7_explain.specs.Files.{IsChecked, IsListed, IsRow, IsUnnamed, IsViewed}
-use Rattle.v7_explain.specs.Joined.{GivesOr, joined, nothing_said}
-use Rattle.v7_explain.specs.declared.explaining.Mode.TheVariants.{Listing, Show, Check, Inventory}
-use Rattle.v7_explain.specs.Walks.{AreWalked, Folders, Found, kind_in, path_found}
-use Rattle.v7_explain.specs.{Maps.IsMapCall, declared.explaining.Mode.Mode}
+use Rattle.surroundings.specs.{Sources.{ReadsAt, ReadsFront, ReadsNone}, Answer.Answer, Nodes.ChecksOutput, declared.answer.Fault.Fault}
 use Rattle.surroundings.specs.declared.answer.Fault.TheVariants as faults
+use Rattle.v7_explain.specs.{Calls.{Call, ask, asked_in, explain, map_link, mapping, store, walk}, Questions.AnswersAt}
+use Rattle.v7_explain.specs.{Files.{IsChecked, IsListed, IsRow, IsUnnamed, IsViewed}, Joined.{GivesOr, joined, nothing_said}}
+use Rattle.v7_explain.specs.declared.explaining.Mode.TheVariants.{Listing, Show, Check, Inventory}
+use Rattle.v7_explain.specs.{Walks.{AreWalked, Folders, Found, kind_in, path_found}, Maps.IsMapCall, declared.explaining.Mode.Mode}
 
 -- ---- files one after another
 

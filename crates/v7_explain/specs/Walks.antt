@@ -1,9 +1,8 @@
 -- The files in folders, folder by folder, in the order of their names. (own choice)
 --
 -- No contract can say what a disk has. Where it is known what is at each path, the files of a walk are determined.
-use Rattle.std.specs.Prelude.{◌≡◌, ℕ, zero, suc, Bool, true, false, nat_eq, if◌then◌else◌, codes, List, [], ◌∷◌, ◌++◌, map}
-use Rattle.std.specs.Prelude.{Option, Some, None}
-use Rattle.std.specs.{Cmp.Lexicographic.slice_cmp, List.ends_with, List.flat_map, Ordering.is_lt, Ordering.nat_cmp}
+use Rattle.std.specs.Prelude.{◌≡◌, ℕ, zero, suc, Bool, true, false, nat_eq, if◌then◌else◌, codes, List, [], ◌∷◌, ◌++◌, map, Option, Some}
+use Rattle.std.specs.{Prelude.None, Cmp.Lexicographic.slice_cmp, List.{ends_with, flat_map}, Ordering.{is_lt, nat_cmp}}
 use Rattle.explanations.specs.declared.file_kind.FileKind.{FileKind}
 use Rattle.symtools.specs.NmLists.{in_order}
 

@@ -1,9 +1,7 @@
 //! What a map is asked for: names, objects and addresses, and what the link does not have. Only tested: its text.
-ghost use Rattle.std.specs.Prelude.{◌≡◌, if◌then◌else◌, false, true, map, option_map, IfOk, OnOk, string_bytes};
-ghost use Rattle.std.specs.List.{list_any};
+ghost use Rattle.std.specs.{Prelude.{◌≡◌, if◌then◌else◌, false, true, map, option_map, IfOk, OnOk, string_bytes}, List.list_any};
 ghost use Rattle.v7_explain.specs.Asked.{has_absent, has_path, has_use, is_absent, is_in_any, is_name, is_named, octal_number};
-ghost use Rattle.v7_explain.specs.Calls.{mapping_after};
-ghost use Rattle.v7_explain.specs.internal.Asked.{asks_of_map, mapping_with};
+ghost use Rattle.v7_explain.specs.{Calls.mapping_after, internal.Asked.{asks_of_map, mapping_with}};
 
 use aout_core::{Name, Symbol};
 use link_maps::{LinkMap, Listed, Spot, Use, spots_at};

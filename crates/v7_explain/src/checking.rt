@@ -1,6 +1,5 @@
 //! Why files are not objects, and what is odd in objects. Only tested: what is said of them.
-ghost use Rattle.std.specs.Prelude.{◌≡◌, None, IfOk};
-ghost use Rattle.std.specs.List.{list_any};
+ghost use Rattle.std.specs.{Prelude.{◌≡◌, None, IfOk}, List.list_any};
 ghost use Rattle.aout_core.specs.WellFormed.{first_object_fault};
 ghost use Rattle.findings.specs.Found.{all_found};
 ghost use Rattle.v7_explain.specs.Files.{IsCheck, IsChecked, IsNoObject, has_sure, status_of};

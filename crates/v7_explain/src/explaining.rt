@@ -1,8 +1,7 @@
 //! Files that are explained one after another: each is read whole and explained before the next one is opened.
 ghost use Rattle.std.specs.Prelude.{◌≡◌, OnOk, IfErr, IfOk, map, string_bytes};
 ghost use Rattle.surroundings.specs.Sources.{EndsReading};
-ghost use Rattle.v7_explain.specs.Joined.{joined, nothing_said};
-ghost use Rattle.v7_explain.specs.Walks.{path_found};
+ghost use Rattle.v7_explain.specs.{Joined.{joined, nothing_said}, Walks.path_found};
 ghost use Rattle.v7_explain.specs.Runs.{Explains, ExplainsFound, ExplainsNamed, IsExplaining, IsKind, IsSaid, IsWalk, ReadsFor};
 
 use crate::checking::check;

@@ -1,8 +1,7 @@
 //! Files as listings, in the form that `read_listing` of `listings` reads. Only tested: what their notes say.
 ghost use Rattle.std.specs.Prelude.{◌≡◌, Ok, IfOk};
 ghost use Rattle.aout_core.specs.WellFormed.{first_object_fault};
-ghost use Rattle.listings.specs.Reading.{read};
-ghost use Rattle.listings.specs.declared.draft.Addresses.TheVariants.{Compared};
+ghost use Rattle.listings.specs.{Reading.read, declared.draft.Addresses.TheVariants.Compared};
 ghost use Rattle.v7_explain.specs.Files.{IsListed, IsListing};
 
 use crate::source::{

@@ -1,10 +1,8 @@
 //! The map of a link, made or refused.
 ghost use Rattle.std.specs.Prelude.{◌≡◌, ◌⊎◌, IfOk, Err, map, string_bytes};
 ghost use Rattle.aout_core.specs.Refusals.{refused};
-ghost use Rattle.surroundings.specs.Answers.{Ends};
-ghost use Rattle.surroundings.specs.declared.answer.Fault.TheVariants.{Memory};
-ghost use Rattle.v7_explain.specs.Maps.{IsMapCall, IsMapping, MapsCall, link_words, status_with};
-ghost use Rattle.v7_explain.specs.Runs.{MapsAsked};
+ghost use Rattle.surroundings.specs.{Answers.Ends, declared.answer.Fault.TheVariants.Memory};
+ghost use Rattle.v7_explain.specs.{Maps.{IsMapCall, IsMapping, MapsCall, link_words, status_with}, Runs.MapsAsked};
 ghost use Rattle.v7_explain.specs.internal.Takes.{IsMapAnswer, status_mapped};
 
 use crate::asked::{Asked, take_asked};

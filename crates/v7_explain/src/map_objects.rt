@@ -1,11 +1,9 @@
 //! The objects of a link, from their files.
 ghost use Rattle.std.specs.Prelude.{◌≡◌, ◌≢◌, [], true, IfErr, IfOk, Err, Ok, is_err, map, string_bytes};
-ghost use Rattle.aout_core.specs.Decoding.{decode};
-ghost use Rattle.aout_core.specs.Refusals.{refused};
+ghost use Rattle.aout_core.specs.{Decoding.decode, Refusals.refused};
 ghost use Rattle.link_maps.specs.Members.{all_of};
 ghost use Rattle.link_out.specs.Inputs.{object_in};
-ghost use Rattle.surroundings.specs.Answers.{Stops};
-ghost use Rattle.surroundings.specs.declared.answer.Fault.TheVariants.{Memory};
+ghost use Rattle.surroundings.specs.{Answers.Stops, declared.answer.Fault.TheVariants.Memory};
 ghost use Rattle.v7_explain.specs.internal.Takes.{KeepsSplit, TakesAll, TakesNext, TakesOne};
 
 use crate::explaining::{MOST_BYTES, join, nothing_said};

@@ -1,9 +1,7 @@
 //! The program, over any files and any streams.
 ghost use Rattle.std.specs.Prelude.{None, map, string_bytes};
 ghost use Rattle.surroundings.specs.Programs.{AnswersGiven, DoesWords};
-ghost use Rattle.v7_explain.specs.Calls.{asked_in, asked_or, call_of};
-ghost use Rattle.v7_explain.specs.Runs.{IsCall, PerformsExplain};
-ghost use Rattle.v7_explain.specs.internal.Asked.{call_in};
+ghost use Rattle.v7_explain.specs.{Calls.{asked_in, asked_or, call_of}, Runs.{IsCall, PerformsExplain}, internal.Asked.call_in};
 
 use crate::arguments::{Call, after_map, call_of};
 use crate::explaining::{explain_all, explain_walked};

@@ -4,12 +4,10 @@ use Rattle.std.proofs.lemmas.Bool.{false≢true}
 use Rattle.std.specs.Prelude.{if◌then◌else◌, Option, Result, Ok, Err}
 use Rattle.aout_core.specs.{Contents.Contents, Refusals.refused}
 use Rattle.gnu_objects.specs.{Clashes.has_clash, Converted.converted, declared.options.Options.Options, declared.refusal.Refusal.Refusal}
-use Rattle.surroundings.specs.declared.answer.Fault.{Fault}
-use Rattle.surroundings.specs.declared.answer.Fault.TheVariants.{Answered, Memory}
-use Rattle.surroundings.specs.Answers.{Stops, is_none}
+use Rattle.gnu_objects.specs.declared.refusal.Refusal.TheVariants as refusals
+use Rattle.surroundings.specs.{declared.answer.Fault.Fault, declared.answer.Fault.TheVariants.{Answered, Memory}, Answers.{Stops, is_none}}
 use Rattle.v7_from_gnu.specs.Converting.{and_then, converted_from, outcome, target_of, target_with, with_names}
 use Rattle.v7_from_gnu.specs.{Checks.bytes_of, Jobs.Source, Jobs.Target, internal.Lists.RefusedAs}
-use Rattle.gnu_objects.specs.declared.refusal.Refusal.TheVariants as refusals
 
 abbrev pub refuses : Refusal → Result Contents Refusal
 refuses refusal = Err refusal

@@ -5,11 +5,9 @@
 -- was stored only if one was not.
 use Rattle.std.specs.Prelude.{◌≡◌, ◌⊎◌, ℕ, List, [], ◌∷◌, Option, Err}
 use Rattle.aout_core.specs.Refusals.{refused}
-use Rattle.surroundings.specs.Answers.{EndsOr, FindsOr, IsPerformed, Refuses}
-use Rattle.surroundings.specs.Events.{Extends, History, Surroundings, stored}
-use Rattle.surroundings.specs.Programs.{AnswersGiven, Quietly, Step, Then, either}
-use Rattle.surroundings.specs.{Answer.Answer, Sources.is_kept, declared.office.Stored.Stored}
-use Rattle.surroundings.specs.declared.answer.Fault.TheVariants.{Memory}
+use Rattle.surroundings.specs.{Answers.{EndsOr, FindsOr, IsPerformed, Refuses}, Events.{Extends, History, Surroundings, stored}}
+use Rattle.surroundings.specs.{Programs.{AnswersGiven, Quietly, Step, Then, either}, Answer.Answer, Sources.is_kept}
+use Rattle.surroundings.specs.{declared.office.Stored.Stored, declared.answer.Fault.TheVariants.Memory}
 use Rattle.v7_from_gnu.specs.{Calls.conversion_asked, Checks.ChecksInputs, Checks.has_path_twice, Converting.outcome, Jobs.Conversion}
 use Rattle.v7_from_gnu.specs.{Jobs.Target, Readings.IsReading}
 

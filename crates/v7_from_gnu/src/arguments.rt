@@ -1,8 +1,6 @@
 //! What the arguments ask for.
-ghost use Rattle.std.specs.Prelude.{◌≡◌, ◌++◌, codes, ◌∷◌, [], None, map, string_bytes, IfOk};
-ghost use Rattle.std.specs.Option.{option_map};
-ghost use Rattle.v7_from_gnu.specs.Calls.{after_slash, conversion_of, into_folder, jobs_of, locals_in};
-ghost use Rattle.v7_from_gnu.specs.internal.Lists.{listed};
+ghost use Rattle.std.specs.{Prelude.{◌≡◌, ◌++◌, codes, ◌∷◌, [], None, map, string_bytes, IfOk}, Option.option_map};
+ghost use Rattle.v7_from_gnu.specs.{Calls.{after_slash, conversion_of, into_folder, jobs_of, locals_in}, internal.Lists.listed};
 
 use gnu_objects::{Locals, Options};
 use std::alloc::{AllocError, Global};

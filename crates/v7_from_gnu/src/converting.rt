@@ -1,8 +1,7 @@
 //! Conversions of files that were read. Nothing is written before all are converted.
 ghost use Rattle.std.specs.Prelude.{◌≡◌, [], IfErr, IfOk, Some};
 ghost use Rattle.surroundings.specs.Answers.{Ends, FindsOr, Stops, is_none};
-ghost use Rattle.v7_from_gnu.specs.Converting.{converted_from, outcome, target_of};
-ghost use Rattle.v7_from_gnu.specs.Runs.{IsConversion, IsConverting};
+ghost use Rattle.v7_from_gnu.specs.{Converting.{converted_from, outcome, target_of}, Runs.{IsConversion, IsConverting}};
 ghost use Rattle.v7_from_gnu.specs.internal.Lists.{RefusedAs};
 
 use crate::arguments::{Conversion, Job};

@@ -1,8 +1,7 @@
 //! The program, over any files and any streams.
 ghost use Rattle.std.specs.Prelude.{map, string_bytes};
 ghost use Rattle.surroundings.specs.Programs.{AnswersGiven, DoesWords};
-ghost use Rattle.v7_from_gnu.specs.Calls.{conversion_asked, conversion_of};
-ghost use Rattle.v7_from_gnu.specs.Runs.{IsConversion, PerformsFromGnu};
+ghost use Rattle.v7_from_gnu.specs.{Calls.{conversion_asked, conversion_of}, Runs.{IsConversion, PerformsFromGnu}};
 
 use crate::arguments::conversion_of;
 use crate::converting::convert_files;

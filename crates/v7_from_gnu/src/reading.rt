@@ -1,7 +1,6 @@
 //! The files that are to be converted, read whole.
 ghost use Rattle.std.specs.Prelude.{[]};
-ghost use Rattle.v7_from_gnu.specs.Readings.{IsReading};
-ghost use Rattle.v7_from_gnu.specs.internal.Lists.{listed};
+ghost use Rattle.v7_from_gnu.specs.{Readings.IsReading, internal.Lists.listed};
 
 use crate::arguments::Job;
 use crate::program::NAME;

@@ -1,12 +1,10 @@
 -- What the arguments of v7-lesson ask for. (own choice)
 --
 -- With -p it is a page, and without it steps. -q is for a page alone, and -c and -n are for steps alone.
-use Rattle.std.specs.Prelude.{◌≡◌, ℕ, ◌<◌, ◌^◌, not, ◌&&◌, if◌then◌else◌, codes, List, [], ◌∷◌, Option, Some, None, Result, Ok, Err}
-use Rattle.std.specs.Prelude.{map, option_map, string_bytes}
-use Rattle.std.specs.{Option.option_or, Str.Parse.IsNumeral, Str.Parse.digits_value, Str.Parse.without_leading_plus}
+use Rattle.std.specs.Prelude.{◌≡◌, ℕ, ◌<◌, ◌^◌, not, ◌&&◌, if◌then◌else◌, codes, List, [], ◌∷◌, Option, Some, None, Result, Ok, Err, map}
+use Rattle.std.specs.{Prelude.{option_map, string_bytes}, Option.option_or, Str.Parse.{IsNumeral, digits_value, without_leading_plus}}
 use Rattle.aout_core.specs.Words.{letter_of}
-use Rattle.surroundings.specs.Arguments.{Given, excluded_in, has_letter, value_of}
-use Rattle.surroundings.specs.declared.reasons.Reason.{Reason}
+use Rattle.surroundings.specs.{Arguments.{Given, excluded_in, has_letter, value_of}, declared.reasons.Reason.Reason}
 use Rattle.surroundings.specs.declared.reasons.Reason.TheVariants.{Needs, NoFile, NotANumber}
 use Rattle.v7_lesson.specs.declared.steps.Shown.{Shown}
 use Rattle.v7_lesson.specs.{declared.arguments.Call.Call as Code, declared.arguments.Call.TheVariants.Page, declared.arguments.Call.TheVariants.Steps}

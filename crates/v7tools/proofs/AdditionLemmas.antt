@@ -1,17 +1,16 @@
 -- What came of adding the file at a path.
-use Rattle.std.proofs.Common.{rules}
+use Rattle.std.proofs.Common.{rules, ◌≡◌, ℕ, List, Option, Some, None, Result, Ok, Err, refl, sym, ap, ◌∙◌, inl, inr}
 use Rattle.aout_core.specs.{Refusals.device_fault, Refusals.refused, declared.file.ReadFault.ReadFault, Contents.Contents}
 use Rattle.aout_core.specs.{Decoding.decode, Reading.IsReadOf, Reading.LeavesAfter}
+use Rattle.aout_core.specs.declared.file.ReadFault.TheVariants as reads
 use Rattle.std.specs.{declared.alloc.Global.Global, Prelude.String, Prelude.IfSome}
-use Rattle.std.proofs.Common.{◌≡◌, ℕ, List, Option, Some, None, Result, Ok, Err, refl, sym, ap, ◌∙◌, inl, inr}
 use Rattle.link_session.specs.Sessions.{Adds, IsCause, labelled}
 use Rattle.link_session.specs.{declared.entry.AddFault.AddFault, Limits.refusal, Labelled.objects, Undo.Kept}
+use Rattle.link_session.specs.declared.entry.AddFault.TheVariants as adds
 use Rattle.v7tools.specs.{declared.fault.CliFault.CliFault, FaultTexts.fault_of_addition, Loads.read_of, Loads.IsAtPath}
 use Rattle.v7tools.specs.{internal.InputParts.IsCheckOf, internal.StepParts.IsFound, internal.StepParts.IsAddition}
-use Rattle.link_out.specs.Inputs.{Cause, bad_file, bad_object, not_added, object_in}
-use Rattle.aout_core.specs.declared.file.ReadFault.TheVariants as reads
-use Rattle.link_session.specs.declared.entry.AddFault.TheVariants as adds
 use Rattle.v7tools.specs.declared.fault.CliFault.TheVariants as faults
+use Rattle.link_out.specs.Inputs.{Cause, bad_file, bad_object, not_added, object_in}
 
 -- ---- what was read
 

@@ -1,13 +1,16 @@
 -- The inputs one after another, and the link of what is kept of them.
 use Rattle.aout_core.specs.{Refusals.device_fault, Refusals.refused, Contents.Contents, Decoding.decode}
+use Rattle.aout_core.specs.declared.file.ReadFault.TheVariants as reads
 use Rattle.std.specs.{declared.alloc.Global.Global, Prelude.String, Prelude.string_bytes, Prelude.IfSome, Prelude.IsErrAnd, Prelude.IsOk}
 use Rattle.std.proofs.Common.{◌≡◌, ◌≢◌, ℕ, false, List, [], ◌∷◌, Option, Some, None, option_and_then, option_map, Result, Ok, Err, refl}
 use Rattle.std.proofs.Common.{sym, ap, ◌∙◌, subst, inl, inr}
 use Rattle.link_session.specs.{Labelled.Labelled, Labelled.objects, Sessions.nothing_kept, Undo.Kept}
-use Rattle.link_out.specs.Inputs.{Cause, cannot_open, bad_file, not_added, Refusal, of_input, not_linked, object_in, kept_with}
-use Rattle.link_out.specs.Inputs.{with_input, with_inputs, at_path, linked}
-use Rattle.link_out.specs.{declared.linked.Linked.Linked, declared.linked.LinkFault.LinkFault, Steps.and_then, Steps.refused_as}
-use Rattle.link_out.specs.{function.Link.Outcome, function.Link.link}
+use Rattle.link_session.specs.declared.entry.AddFault.TheVariants as adds
+use Rattle.link_out.specs.Inputs.{Cause, cannot_open, bad_file, not_added, Refusal, of_input, not_linked, object_in, kept_with, with_input}
+use Rattle.link_out.specs.{Inputs.{with_inputs, at_path, linked}, declared.linked.Linked.Linked, declared.linked.LinkFault.LinkFault}
+use Rattle.link_out.specs.{Steps.{and_then, refused_as}, function.Link.{Outcome, link}}
+use Rattle.link_out.specs.declared.linked.LinkFault.TheVariants as links
+use Rattle.link_out.specs.Outcomes as outcomes
 use Rattle.tool_options.specs.Choices.{Choices}
 use Rattle.v7tools.specs.LinkAnswers.{Input, Said, said_by, refuses, breaks, runs_out, never, Takes, Rejects, WantsMemory, StopsAt}
 use Rattle.v7tools.specs.LinkAnswers.{TakesAll, StopsIn, HasNoLink, MayLackMemory, IsNotLinked, IsLinkOver, known_inputs, IsTrueOf}
@@ -15,10 +18,6 @@ use Rattle.v7tools.specs.LinkAnswers.{IsLinkOfBytes, IsLinkOf}
 use Rattle.v7tools.specs.internal.InputParts.{AreTaken, IsFinalLink, IsPossible, StopsWith, without_session}
 use Rattle.v7tools.specs.{declared.fault.CliFault.CliFault, FaultTexts.fault_at, FaultTexts.fault_of_link, internal.StepParts.IsAccepted}
 use Rattle.v7tools.specs.{internal.StepParts.IsAddition, internal.StepParts.IsFound}
-use Rattle.aout_core.specs.declared.file.ReadFault.TheVariants as reads
-use Rattle.link_session.specs.declared.entry.AddFault.TheVariants as adds
-use Rattle.link_out.specs.declared.linked.LinkFault.TheVariants as links
-use Rattle.link_out.specs.Outcomes as outcomes
 use Rattle.v7tools.specs.declared.fault.CliFault.TheVariants as faults
 
 -- ---- one input

@@ -1,29 +1,27 @@
 -- A line of a script, from the step or the link that answers it.
-use Rattle.aout_core.specs.Refusals.{device_fault}
+use Rattle.aout_core.specs.{Refusals.device_fault, Wires.{AppendsPrefix, Latched, Puts}}
 use Rattle.std.proofs.Common.{◌≡◌, ℕ, List, [], ◌∷◌, Option, Some, None, Result, Ok, Err, refl, sym, ap, ◌∙◌, subst, inl, inr, append-nil}
 use Rattle.std.proofs.KnownBytes.{Appends-kept}
 use Rattle.std.specs.Prelude.{IfErr, IfOk, IsErr, IsTrue, ◌↔◌, String, string_bytes}
 use Rattle.std.specs.{declared.alloc.Global.Global, Io.KnownBytes.Appends, Io.KnownBytes.Keeps}
-use Rattle.aout_core.specs.Wires.{AppendsPrefix, Latched, Puts}
 use Rattle.link_session.specs.{Edits.last_of, Labelled.Labelled, Labelled.objects, Undo.Kept}
 use Rattle.tool_options.specs.Choices.{Choices}
 use Rattle.link_out.specs.Outcomes.{report_names, outcome_of}
 use Rattle.link_out.specs.{declared.linked.Linked.Linked, function.Link.Outcome, function.Link.link, Inputs.Cause, Inputs.kept_with}
 use Rattle.v7tools.specs.Answers.{absent, Verdict, done, refused, to_store, Stepped, add_step, input_from, failing, giving, withdraw_step}
-use Rattle.v7tools.specs.Answers.{link_answer_text, link_status}
-use Rattle.v7tools.specs.LineRuns.{DoesStep, IsAddOf, IsLineOf, LineRun, status_after}
+use Rattle.v7tools.specs.{Answers.{link_answer_text, link_status}, LineRuns.{DoesStep, IsAddOf, IsLineOf, LineRun, status_after}}
 use Rattle.v7tools.specs.internal.SessionParts.{AnswersLine, AnswersStep, IsCommandOf, IsNoLink, IsOpenedAt, PassesOn, TakesPlainStep}
 use Rattle.v7tools.specs.SessionSteps.{AddsIf, Does, GoesOut, IsAddBy, IsAddOn, IsStepOn, TakesStep, WithdrawsIf, verdict_of}
 use Rattle.v7tools.specs.declared.session.commands.Command.TheVariants.{Add, Withdraw, Externals, Undefined, Link, Bad}
-use Rattle.v7tools.specs.{FaultTexts.cli_text, FaultTexts.fault_of_link, internal.StepParts.RefusesLink}
-use Rattle.v7tools.specs.{declared.session.commands.Command.Command, declared.session.commands.Step.Step, declared.fault.CliFault.CliFault}
+use Rattle.v7tools.specs.{FaultTexts.{cli_text, fault_of_link}, internal.StepParts.RefusesLink, declared.session.commands.Command.Command}
+use Rattle.v7tools.specs.{declared.session.commands.Step.Step, declared.fault.CliFault.CliFault}
+use Rattle.v7tools.specs.declared.fault.CliFault.TheVariants as faults
 use Rattle.surroundings.specs.{Events.Event, Events.History, Events.Extends, Events.opened, Events.stored, declared.office.Stored.Stored}
 use Rattle.command_words.specs.Scripts.{Asked, to_add, to_withdraw, for_externals, for_undefined, to_link, for_nothing}
 use Rattle.command_words.specs.{declared.lines.Line.Line, ScriptAnswers.asked_by}
+use Rattle.command_words.specs.declared.lines.Line.TheVariants as lines
 use Rattle.surroundings.proofs.EventLemmas.{nothing_asked}
 use Rattle.v7tools.proofs.StepLemmas.{link_refused_by, refused_as}
-use Rattle.command_words.specs.declared.lines.Line.TheVariants as lines
-use Rattle.v7tools.specs.declared.fault.CliFault.TheVariants as faults
 
 -- ---- a step that is no link
 

@@ -1,8 +1,6 @@
 -- A link over an office, from its parts.
-use Rattle.std.proofs.Common.{rules}
-use Rattle.std.proofs.Common.{arith}
+use Rattle.std.proofs.Common.{rules, arith, ◌≡◌, ℕ, List, [], ◌∷◌, map, Option, Result, Ok, Err, refl, inl, inr}
 use Rattle.std.specs.{declared.alloc.Global.Global, Prelude.String, Prelude.string_bytes, List.AllByRecursion}
-use Rattle.std.proofs.Common.{◌≡◌, ℕ, List, [], ◌∷◌, map, Option, Result, Ok, Err, refl, inl, inr}
 use Rattle.aout_core.specs.Wires.{Latched}
 use Rattle.link_out.specs.{declared.linked.Linked.Linked, Outcomes.report_names}
 use Rattle.tool_options.specs.Choices.{Choices}
@@ -10,9 +8,9 @@ use Rattle.surroundings.specs.{Events.History, Events.Extends, Events.stored, de
 use Rattle.v7tools.specs.internal.Openings.{sources, IsOpening, IsWorking, OpensAll}
 use Rattle.v7tools.specs.LinkRuns.{inputs_opened, IsLinkOfFiles, IsLinkRun, ReportsIf}
 use Rattle.v7tools.specs.{LinkAnswers.inputs_of, LinkAnswers.IsLinkOf, declared.fault.CliFault.CliFault}
+use Rattle.v7tools.specs.declared.fault.CliFault.TheVariants as faults
 use Rattle.surroundings.proofs.EventLemmas.{asked_after}
 use Rattle.v7tools.proofs.EventLemmas.{paths_opened}
-use Rattle.v7tools.specs.declared.fault.CliFault.TheVariants as faults
 
 module _ {R : Type 0} (remaining : R → Option (List ℕ)) where
   -- the inputs are the files that were opened

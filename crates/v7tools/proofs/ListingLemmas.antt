@@ -1,8 +1,7 @@
 -- Lists that go out entry by entry, and the lines of undefined names.
 use Rattle.std.proofs.Common.{◌≡◌, ℕ, ◌+◌, ◌≤◌, Bool, true, false, cond, List, [], ◌∷◌, ◌++◌, length, take, slice_index_or, Option, Some}
-use Rattle.std.proofs.Common.{refl, sym, ◌∙◌, ap, subst, append-nil}
-use Rattle.std.proofs.lemmas.Option.{slice_get_within, get_or_from_slice_get}
-use Rattle.std.proofs.{KnownBytes.Appends-trans, lemmas.Grind.flat_map-append, lemmas.List.take_more, lemmas.List.take_all}
+use Rattle.std.proofs.{Common.{refl, sym, ◌∙◌, ap, subst, append-nil}, lemmas.Option.{slice_get_within, get_or_from_slice_get}}
+use Rattle.std.proofs.{KnownBytes.Appends-trans, lemmas.Grind.flat_map-append, lemmas.List.{take_more, take_all}}
 use Rattle.std.specs.{Prelude.slice_get, Prelude.filter, List.flat_map, Io.KnownBytes.Appends}
 use Rattle.aout_core.specs.Wires.{AppendsPrefix}
 use Rattle.aout_core.proofs.PutsLemmas.{front_of_row}

@@ -1,8 +1,8 @@
 -- What a call of a script returned, and what its lines gave.
 use Rattle.std.proofs.Common.{◌≡◌, ◌↔◌, ◌∙◌, Option, Some, None, Result, Ok, Err, refl, ap}
 use Rattle.command_words.specs.{ScriptAnswers.Answer, declared.lines.Line.Line}
-use Rattle.v7tools.specs.{ScriptCalls.returned, declared.fault.CliFault.CliFault}
 use Rattle.command_words.specs.declared.line_reader.Stop.TheVariants as stops
+use Rattle.v7tools.specs.{ScriptCalls.returned, declared.fault.CliFault.CliFault}
 use Rattle.v7tools.specs.declared.fault.CliFault.TheVariants as faults
 
 read_failed : (answer : Answer) → returned answer ≡ Err faults.ScriptFailed → answer ≡ Err stops.ReadFailed

@@ -1,26 +1,23 @@
 -- The lines of a script, run one after another on a session.
 use Rattle.aout_core.specs.{Refusals.refused, Wires.Latched}
 use Rattle.std.proofs.Common.{◌≡◌, ℕ, ◌+◌, max, List, [], ◌∷◌, ◌++◌, Option, Some, None, Result, Ok, Err, refl, sym, ap, ◌∙◌, subst, inl}
-use Rattle.std.proofs.Common.{inr, append_assoc, append-nil, arith}
-use Rattle.std.proofs.{KnownBytes.Appends-nil, KnownBytes.Appends-trans, KnownBytes.prepend_known-nil, lemmas.List.flat_map_more}
-use Rattle.std.proofs.lemmas.List.{map-append}
-use Rattle.std.specs.{Prelude.IfSome, Prelude.IsSome, Prelude.IsTrue, Prelude.◌⊎◌, Io.KnownBytes.Appends}
-use Rattle.std.specs.{Io.KnownBytes.prepend_known}
+use Rattle.std.proofs.{Common.{inr, append_assoc, append-nil, arith}, KnownBytes.{Appends-nil, Appends-trans, prepend_known-nil}}
+use Rattle.std.proofs.lemmas.List.{flat_map_more, map-append}
+use Rattle.std.specs.{Prelude.{IfSome, IsSome, IsTrue, ◌⊎◌}, Io.KnownBytes.{Appends, prepend_known}}
 use Rattle.link_session.specs.{Labelled.Labelled, Sessions.nothing_kept, Undo.Kept}
 use Rattle.tool_options.specs.Choices.{Choices}
 use Rattle.surroundings.specs.Events.{History, Extends}
 use Rattle.command_words.specs.Scripts.{Asked, Given, ScriptFault, long_line, many_lines, and_given, given_after}
 use Rattle.command_words.specs.ScriptAnswers.{Answer, GivesNext, GivesNone, NamesPath, WhereKnown, IsNextOf, Progress, Settles, asked_by, lines_of}
 use Rattle.command_words.specs.{declared.line_reader.Stop.Stop, declared.lines.Line.Line}
+use Rattle.command_words.specs.declared.line_reader.Stop.TheVariants as stops
 use Rattle.texts.specs.Lines.{lines_in}
 use Rattle.v7tools.specs.SessionRuns.{AreFirst, AreLines, Chains, EndsAfter, IsSessionRun, Ran, StopsAfter, answers_of, events_of, given}
-use Rattle.v7tools.specs.SessionRuns.{lines_asked, worst}
-use Rattle.v7tools.specs.{LineRuns.IsLineOf, LineRuns.LineRun, internal.SessionParts.AnswersLine, ScriptCalls.returned}
-use Rattle.v7tools.specs.{declared.fault.CliFault.CliFault}
+use Rattle.v7tools.specs.{SessionRuns.{lines_asked, worst}, LineRuns.{IsLineOf, LineRun}, internal.SessionParts.AnswersLine}
+use Rattle.v7tools.specs.{ScriptCalls.returned, declared.fault.CliFault.CliFault}
+use Rattle.v7tools.specs.declared.fault.CliFault.TheVariants as faults
 use Rattle.surroundings.proofs.EventLemmas.{asked_after, nothing_asked}
 use Rattle.command_words.proofs.ScriptLemmas.{after_last_line}
-use Rattle.v7tools.specs.declared.fault.CliFault.TheVariants as faults
-use Rattle.command_words.specs.declared.line_reader.Stop.TheVariants as stops
 
 -- ---- one more line
 

@@ -1,27 +1,21 @@
 -- What the parts of a step say of the whole.
-use Rattle.std.proofs.Common.{rules}
+use Rattle.std.proofs.Common.{rules, ◌≡◌, ◌↔◌, ℕ, suc, ◌-◌, length, arith, Bool, false, List, [], ◌∷◌, ◌++◌, Option, Some, None, Result, Ok}
+use Rattle.std.proofs.{Common.{Err, refl, sym, ap, ◌∙◌, ◌⊎◌, inl, inr}, lemmas.Bool.false_from_ne_true}
 use Rattle.aout_core.specs.{Refusals.device_fault, Refusals.refused as refused_request, Contents.Contents, Decoding.decode, Wires.Latched, Wires.Writes}
-use Rattle.std.specs.declared.alloc.Global.{Global}
-use Rattle.std.specs.Prelude.{String, string_bytes, codes, slice_get, IfErr, IfOk, IfSome, IsErr, IsTrue}
-use Rattle.std.proofs.Common.{◌≡◌, ◌↔◌, ℕ, suc, ◌-◌, length, arith, Bool, false, List, [], ◌∷◌, ◌++◌, Option, Some, None, Result, Ok}
-use Rattle.std.proofs.Common.{Err, refl, sym, ap, ◌∙◌, ◌⊎◌, inl, inr}
-use Rattle.std.proofs.lemmas.Bool.{false_from_ne_true}
+use Rattle.aout_core.specs.declared.file.ReadFault.TheVariants as reads
+use Rattle.std.specs.{declared.alloc.Global.Global, Prelude.{String, string_bytes, codes, slice_get, IfErr, IfOk, IfSome, IsErr, IsTrue}}
 use Rattle.aout_core.proofs.PutsLemmas.{writes_broke_off}
 use Rattle.link_session.specs.{Edits.last_of, Labelled.Labelled, Sessions.Adds, Sessions.Withdraws, Undo.Kept}
-use Rattle.link_out.specs.Outcomes.{IsLinkOf, outcome_of}
-use Rattle.link_out.specs.Inputs.{Cause, bad_file, object_in, kept_with}
+use Rattle.link_out.specs.{Outcomes.{IsLinkOf, outcome_of}, Inputs.{Cause, bad_file, object_in, kept_with}}
 use Rattle.link_out.specs.{declared.linked.LinkFault.LinkFault, function.Link.Outcome, declared.linked.Linked.Linked, function.Reports.line}
-use Rattle.link_session.proofs.EditLemmas.{last_of-put_last, without_last-put_last}
-use Rattle.v7tools.specs.FaultTexts.{cli_text, fault_of_link}
-use Rattle.v7tools.specs.Answers.{done, refused, Stepped, add_step, withdraw_step, link_step}
-use Rattle.v7tools.specs.internal.StepParts.{IsRefusal, IsAccepted, IsAddition, IsAddOver, IsAddWorking, MakesLink, RefusesLink}
-use Rattle.v7tools.specs.internal.StepParts.{TakesWithdrawal, label_of}
-use Rattle.v7tools.specs.SessionSteps.{Does, IsAddBy, IsLinkBy, verdict_of}
-use Rattle.v7tools.specs.{declared.fault.CliFault.CliFault, declared.session.commands.Step.Step}
-use Rattle.v7tools.specs.{declared.session.commands.Step.TheVariants.Refused, declared.session.commands.Step.TheVariants.ToStore}
-use Rattle.v7tools.specs.{LinkAnswers.WantsMemory, internal.InputParts.IsDeviceFault}
-use Rattle.aout_core.specs.declared.file.ReadFault.TheVariants as reads
 use Rattle.link_out.specs.declared.linked.LinkFault.TheVariants as links
+use Rattle.link_session.proofs.EditLemmas.{last_of-put_last, without_last-put_last}
+use Rattle.v7tools.specs.{FaultTexts.{cli_text, fault_of_link}, Answers.{done, refused, Stepped, add_step, withdraw_step, link_step}}
+use Rattle.v7tools.specs.internal.StepParts.{IsRefusal, IsAccepted, IsAddition, IsAddOver, IsAddWorking, MakesLink, RefusesLink}
+use Rattle.v7tools.specs.{internal.StepParts.{TakesWithdrawal, label_of}, SessionSteps.{Does, IsAddBy, IsLinkBy, verdict_of}}
+use Rattle.v7tools.specs.{declared.fault.CliFault.CliFault, declared.session.commands.Step.Step}
+use Rattle.v7tools.specs.{declared.session.commands.Step.TheVariants.{Refused, ToStore}, LinkAnswers.WantsMemory}
+use Rattle.v7tools.specs.internal.InputParts.{IsDeviceFault}
 use Rattle.v7tools.specs.declared.fault.CliFault.TheVariants as faults
 
 -- ---- the last object

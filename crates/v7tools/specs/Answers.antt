@@ -2,8 +2,7 @@
 --
 -- Each command has its answer by the objects that are kept: what was added or withdrawn, the list that was asked for, or the text of
 -- the fault. A link is answered once it is known what became of its file.
-use Rattle.std.specs.Prelude.{ℕ, ◌+◌, List, [], ◌++◌, Option, Some, None, Result, Ok, Err, codes, decimal}
-use Rattle.std.specs.List.{flat_map}
+use Rattle.std.specs.{Prelude.{ℕ, ◌+◌, List, [], ◌++◌, Option, Some, None, Result, Ok, Err, codes, decimal}, List.flat_map}
 use Rattle.aout_core.specs.{declared.symbol.Symbol.Symbol, declared.file.ReadFault.TheVariants.Device, Refusals.device_fault, WellFormed.segment_number}
 use Rattle.link_session.specs.Edits.{without_last, last_of}
 use Rattle.link_session.specs.{declared.state.State.State, declared.state.State.TheVariants.Defined}
@@ -14,8 +13,7 @@ use Rattle.link_out.specs.{FaultTexts.link_text, declared.linked.LinkFault.LinkF
 use Rattle.tool_options.specs.Choices.{Choices}
 use Rattle.symtools.specs.SymbolLines.{symbol_line}
 use Rattle.v7tools.specs.FaultTexts.{cause_text, at_file}
-use Rattle.surroundings.specs.declared.office.Stored.{Stored}
-use Rattle.surroundings.specs.declared.office.Stored.TheVariants.{Kept, NotCreated, Failed}
+use Rattle.surroundings.specs.{declared.office.Stored.Stored, declared.office.Stored.TheVariants.{Kept, NotCreated, Failed}}
 
 -- what a path leads to: nothing, a device that fails, or these bytes
 pub data Source : Type 0 where

@@ -2,8 +2,8 @@
 use Rattle.aout_core.specs.Refusals.{refused}
 use Rattle.std.specs.Prelude.{◌≡◌, ℕ, List}
 use Rattle.command_words.specs.{Calls.AsksForNone, declared.fault.WordsFault.WordsFault}
-use Rattle.v7tools.specs.declared.fault.CliFault.{CliFault}
 use Rattle.command_words.specs.declared.fault.WordsFault.TheVariants as words
+use Rattle.v7tools.specs.declared.fault.CliFault.{CliFault}
 use Rattle.v7tools.specs.declared.fault.CliFault.TheVariants as faults
 
 abbrev pub fault_of_words : WordsFault → CliFault

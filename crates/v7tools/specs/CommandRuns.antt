@@ -5,12 +5,10 @@
 use Rattle.std.specs.Prelude.{◌≡◌, ◌⊎◌, ℕ, List, [], map, Option, Result, Ok, Err, string_bytes}
 use Rattle.aout_core.specs.Wires.{Latched}
 use Rattle.symtools.specs.{NmLists.nm_text, SizeLines.size_text}
-use Rattle.command_words.specs.Calls.{IsAsked, IsWhole, dashes_in, files_of}
-use Rattle.command_words.specs.declared.words.Call.{Call}
+use Rattle.command_words.specs.{Calls.{IsAsked, IsWhole, dashes_in, files_of}, declared.words.Call.Call}
 use Rattle.command_words.specs.declared.words.Call.TheVariants.{Ld, Nm, Size, Strip, Session}
-use Rattle.v7tools.specs.FileRuns.{IsListRun, IsStripRun, OnlyWriteFailed, OrMemory}
-use Rattle.v7tools.specs.{Calls.IsOfWords, FaultTexts.fault_line, LinkRuns.IsLinkRun, LinkRuns.Refuses, SessionRuns.IsSessionRun}
-use Rattle.v7tools.specs.{declared.fault.CliFault.CliFault}
+use Rattle.v7tools.specs.{FileRuns.{IsListRun, IsStripRun, OnlyWriteFailed, OrMemory}, Calls.IsOfWords, FaultTexts.fault_line}
+use Rattle.v7tools.specs.{LinkRuns.{IsLinkRun, Refuses}, SessionRuns.IsSessionRun, declared.fault.CliFault.CliFault}
 use Rattle.surroundings.specs.{Events.History, Events.Extends, Events.Surroundings, Emits.PutsUnless}
 
 -- a call was run, with a script of these bytes, if they are known

@@ -1,19 +1,17 @@
 -- The texts of faults. (own choice)
 --
 -- Each fault has one text, which the program writes after `v7: `, and a session without it. A fault of a file begins with its path.
-use Rattle.aout_core.specs.Refusals.{device_fault}
-use Rattle.aout_core.specs.{Refusals.refused, declared.file.ReadFault.ReadFault, FaultTexts.object_text, FaultTexts.read_text}
-use Rattle.std.specs.Prelude.{ℕ, List, ◌++◌, codes, String, string_bytes, [], ◌∷◌}
-use Rattle.std.specs.declared.alloc.Global.{Global}
+use Rattle.aout_core.specs.{Refusals.{device_fault, refused}, declared.file.ReadFault.ReadFault, FaultTexts.{object_text, read_text}}
+use Rattle.aout_core.specs.declared.file.ReadFault.TheVariants as reads
+use Rattle.std.specs.{Prelude.{ℕ, List, ◌++◌, codes, String, string_bytes, [], ◌∷◌}, declared.alloc.Global.Global}
 use Rattle.link_session.specs.{declared.entry.AddFault.AddFault, FaultTexts.add_text}
+use Rattle.link_session.specs.declared.entry.AddFault.TheVariants as adds
 use Rattle.link_out.specs.Inputs.{Cause, cannot_open, bad_file, bad_object, not_added}
 use Rattle.link_out.specs.{declared.linked.LinkFault.LinkFault, FaultTexts.link_text}
-use Rattle.symtools.specs.declared.fault.ToolFault.{ToolFault}
-use Rattle.v7tools.specs.declared.fault.CliFault.{CliFault}
-use Rattle.aout_core.specs.declared.file.ReadFault.TheVariants as reads
-use Rattle.link_session.specs.declared.entry.AddFault.TheVariants as adds
 use Rattle.link_out.specs.declared.linked.LinkFault.TheVariants as links
+use Rattle.symtools.specs.declared.fault.ToolFault.{ToolFault}
 use Rattle.symtools.specs.declared.fault.ToolFault.TheVariants as tools
+use Rattle.v7tools.specs.declared.fault.CliFault.{CliFault}
 use Rattle.v7tools.specs.declared.fault.CliFault.TheVariants as faults
 
 abbrev pub no_memory : List ℕ

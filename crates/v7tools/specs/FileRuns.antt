@@ -2,19 +2,17 @@
 --
 -- Each file is opened and read before the next one is opened, and nothing is written or stored before all are read, so that one bad
 -- file leaves all as it was (own choice).
-use Rattle.aout_core.specs.Refusals.{device_fault}
-use Rattle.aout_core.specs.{Refusals.refused, Contents.Contents, Decoding.decode, Reading.IsReadOf, Strip.stripped, Wires.Latched}
-use Rattle.aout_core.specs.{Wires.Puts}
+use Rattle.aout_core.specs.{Refusals.{device_fault, refused}, Contents.Contents, Decoding.decode, Reading.IsReadOf, Strip.stripped}
+use Rattle.aout_core.specs.Wires.{Latched, Puts}
+use Rattle.aout_core.specs.declared.file.ReadFault.TheVariants as reads
 use Rattle.std.specs.declared.alloc.Global.{Global}
 use Rattle.std.specs.Prelude.{◌≡◌, ◌≢◌, ◌↔◌, ◌⊎◌, ℕ, List, [], ◌∷◌, ◌++◌, map, Option, Some, None, Result, Ok, Err, IfErr, IfOk, IfSome}
 use Rattle.std.specs.Prelude.{IsTrue, String, string_bytes}
 use Rattle.symtools.specs.{Files.by_bytes, NmLists.ListsUpTo}
 use Rattle.tool_options.specs.declared.nm_options.NmOptions.{NmOptions}
-use Rattle.surroundings.specs.Events.{Event, History, Extends, Opened, opened, opens, stored}
-use Rattle.surroundings.specs.declared.office.Stored.{Stored}
+use Rattle.surroundings.specs.{Events.{Event, History, Extends, Opened, opened, opens, stored}, declared.office.Stored.Stored}
 use Rattle.surroundings.specs.declared.office.Stored.TheVariants.{Kept, NotCreated, Failed}
 use Rattle.v7tools.specs.{LinkRuns.Refuses, declared.fault.CliFault.CliFault}
-use Rattle.aout_core.specs.declared.file.ReadFault.TheVariants as reads
 use Rattle.v7tools.specs.declared.fault.CliFault.TheVariants as faults
 
 -- a path with what was read there

@@ -7,8 +7,7 @@ use Rattle.link_session.specs.Labelled.{Labelled, objects}
 use Rattle.tool_options.specs.Choices.{Choices}
 use Rattle.link_out.specs.function.Link.{Outcome, link}
 use Rattle.v7tools.specs.Answers.{absent, failing, adding, withdrawing, listing_externals, listing_undefined, anything_else, Verdict, done}
-use Rattle.v7tools.specs.Answers.{refused, Stepped, add_step, input_from, step, link_answer_text, link_status}
-use Rattle.v7tools.specs.LinkAnswers.{WantsMemory}
+use Rattle.v7tools.specs.{Answers.{refused, Stepped, add_step, input_from, step, link_answer_text, link_status}, LinkAnswers.WantsMemory}
 use Rattle.v7tools.specs.SessionSteps.{IsAddOn, IsLinkBy, without_memory}
 use Rattle.surroundings.specs.{Events.Event, Events.opened, Events.stored, declared.office.Stored.Stored}
 use Rattle.command_words.specs.Scripts.{Asked, to_add, to_withdraw, for_externals, for_undefined, to_link, for_nothing}

@@ -8,18 +8,18 @@
 -- at that stage is refused. The result does not reveal which stage ran out: once an object has been accepted, memory may have run out
 -- there. So for the result as a whole only the first input can rule out `Memory`.
 use Rattle.aout_core.specs.{Refusals.refused, Contents.Contents, Decoding.decode, Reading.IsReadOf, Wires.Latched}
+use Rattle.aout_core.specs.declared.file.ReadFault.TheVariants as reads
 use Rattle.std.specs.declared.alloc.Global.{Global}
 use Rattle.std.specs.Prelude.{◌≡◌, ◌⊎◌, ℕ, Bool, false, List, [], ◌∷◌, map, Option, Some, option_and_then, option_map, Result, Ok, Err}
 use Rattle.std.specs.Prelude.{IfSome, IsOk, String, string_bytes}
 use Rattle.link_session.specs.Labelled.{Labelled, objects}
+use Rattle.link_session.specs.declared.entry.AddFault.TheVariants as adds
 use Rattle.link_out.specs.{declared.linked.Linked.Linked, declared.linked.LinkFault.LinkFault, function.Link.Outcome, function.Link.link}
 use Rattle.link_out.specs.{Outcomes.outcome_of, Inputs.Cause, Inputs.bad_file, Inputs.bad_object, Inputs.not_added, Inputs.Refusal}
 use Rattle.link_out.specs.{Inputs.of_input, Inputs.not_linked, Inputs.object_in, Inputs.kept_with, Inputs.with_input, Inputs.linked}
+use Rattle.link_out.specs.declared.linked.LinkFault.TheVariants as links
 use Rattle.tool_options.specs.Choices.{Choices}
 use Rattle.v7tools.specs.declared.fault.CliFault.{CliFault}
-use Rattle.aout_core.specs.declared.file.ReadFault.TheVariants as reads
-use Rattle.link_session.specs.declared.entry.AddFault.TheVariants as adds
-use Rattle.link_out.specs.declared.linked.LinkFault.TheVariants as links
 use Rattle.v7tools.specs.declared.fault.CliFault.TheVariants as faults
 
 -- an input: its path, its bytes if they are known, and whether its device has failed before

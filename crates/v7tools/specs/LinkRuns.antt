@@ -2,16 +2,13 @@
 --
 -- All inputs are opened, whatever they hold, or the first that can't be is the fault. Only a link is stored, and only what was stored is
 -- reported.
-use Rattle.aout_core.specs.Refusals.{device_fault}
-use Rattle.aout_core.specs.{Refusals.refused, Wires.Latched, Wires.Writes}
+use Rattle.aout_core.specs.{Refusals.{device_fault, refused}, Wires.{Latched, Writes}}
 use Rattle.std.specs.declared.alloc.Global.{Global}
 use Rattle.std.specs.Prelude.{◌≡◌, ◌⊎◌, ℕ, List, [], ◌∷◌, ◌++◌, map, false, Option, None, Result, Ok, Err, IfErr, IfOk, String}
 use Rattle.std.specs.Prelude.{string_bytes}
-use Rattle.link_out.specs.function.Reports.{ReportNames, report_text, status_of}
-use Rattle.link_out.specs.{declared.linked.Linked.Linked, Outcomes.report_names}
+use Rattle.link_out.specs.{function.Reports.{ReportNames, report_text, status_of}, declared.linked.Linked.Linked, Outcomes.report_names}
 use Rattle.tool_options.specs.Choices.{Choices}
-use Rattle.surroundings.specs.Events.{History, Extends, Opened, opened, opens, paths_of, stored}
-use Rattle.surroundings.specs.declared.office.Stored.{Stored}
+use Rattle.surroundings.specs.{Events.{History, Extends, Opened, opened, opens, paths_of, stored}, declared.office.Stored.Stored}
 use Rattle.surroundings.specs.declared.office.Stored.TheVariants.{Kept, NotCreated, Failed}
 use Rattle.v7tools.specs.{LinkAnswers.Input, LinkAnswers.IsLinkOf, declared.fault.CliFault.CliFault}
 use Rattle.v7tools.specs.declared.fault.CliFault.TheVariants as faults

@@ -2,9 +2,9 @@
 --
 -- `load` is `read_file` with the path: the path comes back with the file, or is in the fault.
 use Rattle.aout_core.specs.{Refusals.refused, declared.file.ReadFault.ReadFault, Contents.Contents}
+use Rattle.aout_core.specs.declared.file.ReadFault.TheVariants as reads
 use Rattle.std.specs.{Prelude.◌≡◌, Prelude.◌≢◌, Prelude.Result, Prelude.Ok, Prelude.Err, Prelude.String, declared.alloc.Global.Global}
 use Rattle.v7tools.specs.declared.fault.CliFault.{CliFault}
-use Rattle.aout_core.specs.declared.file.ReadFault.TheVariants as reads
 use Rattle.v7tools.specs.declared.fault.CliFault.TheVariants as faults
 
 -- what `read_file` returned

@@ -2,8 +2,8 @@
 use Rattle.aout_core.specs.Refusals.{refused}
 use Rattle.std.specs.Prelude.{◌≡◌, ℕ, List, Option, Some, None, Result, Ok, Err}
 use Rattle.command_words.specs.{ScriptAnswers.Answer, ScriptAnswers.GivesNext, ScriptAnswers.Progress, declared.lines.Line.Line}
-use Rattle.v7tools.specs.declared.fault.CliFault.{CliFault}
 use Rattle.command_words.specs.declared.line_reader.Stop.TheVariants as stops
+use Rattle.v7tools.specs.declared.fault.CliFault.{CliFault}
 use Rattle.v7tools.specs.declared.fault.CliFault.TheVariants as faults
 
 -- the line, the end, or the fault

@@ -3,18 +3,16 @@
 -- Each line is run on what the line before it left (LineRuns). What a session asks of the system, and what it answers, is that of
 -- its lines, one after another, and its status is the largest of theirs. It ends after the last line, at a fault of the script, or
 -- at an answer that can't be written.
-use Rattle.aout_core.specs.Refusals.{device_fault}
-use Rattle.aout_core.specs.{Refusals.refused, Wires.Latched}
+use Rattle.aout_core.specs.{Refusals.{device_fault, refused}, Wires.Latched}
 use Rattle.std.specs.Prelude.{◌≡◌, ◌⊎◌, ℕ, max, List, [], ◌∷◌, ◌++◌, map, Option, Some, None, Result, Ok, Err, IfSome, IsTrue}
 use Rattle.std.specs.{List.flat_map, Io.KnownBytes.Appends}
 use Rattle.link_session.specs.Labelled.{Labelled}
 use Rattle.tool_options.specs.Choices.{Choices}
 use Rattle.surroundings.specs.Events.{Event, History, Extends}
 use Rattle.v7tools.specs.{LinkRuns.Refuses, declared.fault.CliFault.CliFault, LineRuns.IsLineOf, LineRuns.LineRun}
-use Rattle.command_words.specs.Scripts.{Asked, Given, ScriptFault, long_line, many_lines, given_after}
-use Rattle.command_words.specs.ScriptAnswers.{NamesPath}
-use Rattle.texts.specs.Lines.{lines_in}
 use Rattle.v7tools.specs.declared.fault.CliFault.TheVariants as faults
+use Rattle.command_words.specs.{Scripts.{Asked, Given, ScriptFault, long_line, many_lines, given_after}, ScriptAnswers.NamesPath}
+use Rattle.texts.specs.Lines.{lines_in}
 
 -- the lines were run in order, each on the objects that the one before it left
 abbrev pub Chains : List (List ℕ) → Choices → List Labelled → List LineRun → List Labelled → Type 0

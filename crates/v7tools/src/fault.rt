@@ -1,9 +1,7 @@
 //! The faults of the program, and their lines.
 ghost use Rattle.std.specs.Prelude.{◌≡◌, ◌++◌, codes, Some};
-ghost use Rattle.aout_core.specs.Wires.{Writes};
-ghost use Rattle.aout_core.specs.Refusals.{device_fault, refused};
-ghost use Rattle.v7tools.specs.Calls.{fault_of_words};
-ghost use Rattle.v7tools.specs.declared.fault.CliFault.TheVariants.{Memory, WriteFailed};
+ghost use Rattle.aout_core.specs.{Wires.Writes, Refusals.{device_fault, refused}};
+ghost use Rattle.v7tools.specs.{Calls.fault_of_words, declared.fault.CliFault.TheVariants.{Memory, WriteFailed}};
 ghost use Rattle.v7tools.specs.FaultTexts.{cli_text, fault_line, fault_of_addition, fault_of_link, fault_of_tool};
 ghost use Rattle.v7tools.specs.internal.FaultParts.{text_of};
 

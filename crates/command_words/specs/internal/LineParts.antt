@@ -1,8 +1,7 @@
 -- What ends a line of a script, and what was taken of it.
 use Rattle.std.specs.Prelude.{◌≡◌, ◌↔◌, ℕ, Bool, true, List, [], ◌∷◌, ◌++◌, drop, Option, Some, None, Result, Ok, Err}
 use Rattle.std.specs.Io.KnownBytes.{Consumes, IsAtEnd}
-use Rattle.command_words.specs.Scripts.{asked, long_line, many_lines}
-use Rattle.command_words.specs.ScriptAnswers.{HasNone, TakesLine, GivesNone, FailsInLine}
+use Rattle.command_words.specs.{Scripts.{asked, long_line, many_lines}, ScriptAnswers.{HasNone, TakesLine, GivesNone, FailsInLine}}
 use Rattle.command_words.specs.{declared.line_reader.Ending.Ending, declared.line_reader.Stop.Stop}
 use Rattle.command_words.specs.declared.line_reader.Ending.TheVariants as endings
 use Rattle.command_words.specs.declared.line_reader.Stop.TheVariants as stops

@@ -1,6 +1,5 @@
 -- The greatest value of a segment's symbols near an address.
-use Rattle.std.specs.Prelude.{◌≡◌, ℕ, ◌+◌, ◌<◌, ◌≤◌, false, List, Option, Some, None, IsSome}
-use Rattle.std.specs.Ordering.{is_gt, is_lt}
+use Rattle.std.specs.{Prelude.{◌≡◌, ℕ, ◌+◌, ◌<◌, ◌≤◌, false, List, Option, Some, None, IsSome}, Ordering.{is_gt, is_lt}}
 use Rattle.aout_core.specs.{declared.symbol.Symbol.Symbol, declared.symbol.Segment.Segment}
 use Rattle.disassemblies.specs.{Naming.symbol_at, internal.FirstNamed.key_cmp, internal.FirstNamed.named}
 

@@ -1,7 +1,6 @@
 -- Where the operands of an instruction at a place are.
 use Rattle.std.specs.Prelude.{ℕ, ◌+◌, ◌*◌}
-use Rattle.instructions.specs.Texts.{first_next, second_next}
-use Rattle.instructions.specs.{declared.instruction.Instruction.Instruction, Instructions.word_count_of}
+use Rattle.instructions.specs.{Texts.{first_next, second_next}, declared.instruction.Instruction.Instruction, Instructions.word_count_of}
 use Rattle.disassemblies.specs.declared.line.Spot.{Spot}
 
 abbrev pub first_spot : ℕ → Instruction → Spot

@@ -3,8 +3,9 @@ use Rattle.std.proofs.Common.{◌≡◌, ℕ, ◌≤◌, Bool, true, false, ltb,
 use Rattle.std.proofs.lemmas.Bool.{ltb-false}
 use Rattle.std.specs.{List.AllByRecursion, List.list_all, Prelude.◌*◌, Prelude.◌&&◌, Prelude.eqb, Prelude.nat_lt, Prelude.if◌then◌else◌, Prelude.length}
 use Rattle.aout_core.specs.{Contents.Contents, declared.part.Part.Part}
-use Rattle.listings.specs.Laws.{IsLine, IsLabel, IsWordRemark, AreRemarks}
-use Rattle.listings.specs.{Columns.column, Reading.is_decimal, Reading.is_numbered}
+use Rattle.aout_core.specs.declared.part.Part.TheVariants as parts
+use Rattle.aout_core.specs.declared.symbol.Segment.TheVariants as segments
+use Rattle.listings.specs.{Laws.{IsLine, IsLabel, IsWordRemark, AreRemarks}, Columns.column, Reading.{is_decimal, is_numbered}}
 use Rattle.instructions.specs.{declared.unix.Decoder.TheVariants.Unix, UnixLines.unix_length}
 use Rattle.disassemblies.specs.{Listed.listed_line, Labels.label_lines, Starts.is_start}
 use Rattle.disassemblies.proofs.ListedLemmas.{listed_short}
@@ -12,8 +13,6 @@ use Rattle.explanations.specs.internal.SilentLabels.{are_labels, labels_append}
 use Rattle.explanations.specs.Said.{printed_byte, printed, from_slash, without_number, word_said_in, data_address, labels_before, explained}
 use Rattle.symtools.specs.SymbolLines.{letter}
 use Rattle.texts.specs.Texts.{Written}
-use Rattle.aout_core.specs.declared.part.Part.TheVariants as parts
-use Rattle.aout_core.specs.declared.symbol.Segment.TheVariants as segments
 
 -- a text has these bytes, unless memory ran out for it
 abbrev pub Holds : Written → List ℕ → Type 0

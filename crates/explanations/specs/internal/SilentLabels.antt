@@ -1,11 +1,9 @@
 -- A reader of listings skips each label.
 use Rattle.std.proofs.Common.{◌≡◌, ℕ, ◌+◌, ◌-◌, ◌<◌, ◌≤◌, Bool, true, false, eqb, nat_lt, List, [], ◌∷◌, ◌++◌, length, refl, sym, ◌∙◌, ap}
-use Rattle.std.proofs.Common.{subst, arith, length-append}
-use Rattle.std.proofs.{lemmas.Bool.Decides.nat_tests, lemmas.List.append-nil, lemmas.List.drop_at}
+use Rattle.std.proofs.{Common.{subst, arith, length-append}, lemmas.Bool.Decides.nat_tests, lemmas.List.{append-nil, drop_at}}
 use Rattle.std.specs.Prelude.{nat_le, ◌*◌, ◌&&◌, ◌||◌, if◌then◌else◌, codes, Ok}
 use Rattle.std.specs.{Cmp.Lexicographic.pointwise, List.AllByRecursion, List.flat_map, List.ends_with}
-use Rattle.aout_core.specs.{declared.symbol.Symbol.Symbol, declared.symbol.Segment.Segment, WellFormed.masked_type}
-use Rattle.aout_core.specs.WellFormed.{segment_number}
+use Rattle.aout_core.specs.{declared.symbol.Symbol.Symbol, declared.symbol.Segment.Segment, WellFormed.{masked_type, segment_number}}
 use Rattle.listings.specs.Reading.{is_decimal, is_label, entry_in, named, row_by}
 use Rattle.listings.specs.{Columns.Row, Columns.row_of, Columns.column, Columns.from_fourth, Drafts.Draft, Listing.gap, Laws.IsLabel}
 use Rattle.listings.proofs.ColumnLemmas.{IsInk, IsColumn, ink as ink_of, row_one, row_three, line_of_column, line_gap}

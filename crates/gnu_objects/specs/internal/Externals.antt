@@ -1,6 +1,5 @@
 -- Externals of several files, and what a map has of their names.
-use Rattle.std.specs.Prelude.{◌≡◌, ℕ, List, map}
-use Rattle.std.specs.{List.list_any, Option.is_some}
+use Rattle.std.specs.{Prelude.{◌≡◌, ℕ, List, map}, List.list_any, Option.is_some}
 use Rattle.indexmap.specs.IndexMap.{IndexMap}
 use Rattle.gnu_objects.specs.{declared.alike.Equals.Equals, declared.external.External.External, Staying.are_alike}
 use Rattle.gnu_objects.specs.internal.AlikeNames.{found}

@@ -1,6 +1,5 @@
 -- How many symbols stay before each.
-use Rattle.std.specs.Prelude.{ℕ, ◌+◌, Bool, if◌then◌else◌, List, map, take, length}
-use Rattle.std.specs.List.{range_with_len}
+use Rattle.std.specs.{Prelude.{ℕ, ◌+◌, Bool, if◌then◌else◌, List, map, take, length}, List.range_with_len}
 use Rattle.gnu_objects.specs.Staying.{count}
 
 abbrev pub one_if : Bool → ℕ

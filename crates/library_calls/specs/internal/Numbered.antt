@@ -1,11 +1,9 @@
 -- Numbers of objects by names, put in object after object and symbol after symbol.
-use Rattle.std.specs.Prelude.{◌≡◌, ℕ, Bool, if◌then◌else◌, bytes_eq, List, Some}
-use Rattle.std.specs.List.{list_any}
+use Rattle.std.specs.{Prelude.{◌≡◌, ℕ, Bool, if◌then◌else◌, bytes_eq, List, Some}, List.list_any}
 use Rattle.indexmap.specs.IndexMap.{IndexMap, get}
 use Rattle.aout_core.specs.{declared.symbol.Symbol.Symbol, Contents.Contents, WellFormed.first_of}
 use Rattle.link_session.specs.Labelled.{number_or_none}
-use Rattle.library_calls.specs.FindingPlaces.{first_from, first_number, shows}
-use Rattle.library_calls.specs.{declared.places.Index.Index}
+use Rattle.library_calls.specs.{FindingPlaces.{first_from, first_number, shows}, declared.places.Index.Index}
 
 module _ {S : Type 0} where
   -- the number of an object for the name of a symbol, if that is looked for

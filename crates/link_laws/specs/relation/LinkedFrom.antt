@@ -3,8 +3,7 @@
 -- This relation is what a reader has to trust of a link that is made, as Refusals is for one that is refused. It states part by part
 -- what the file has: the objects' words, relocated, the rows of the symbol table, and the entry point. With relocation, each word still
 -- has its relocation word. It states what is reported, too. `LinkedExactly` and `LinkedOnce`, both proved, tie it to the function `link`.
-use Rattle.std.specs.Prelude.{◌≡◌, ◌↔◌, ℕ, ◌+◌, ◌*◌, ◌≤◌, true, cond, List, ◌++◌, map, length, Ok}
-use Rattle.std.specs.List.{AllByRecursion}
+use Rattle.std.specs.{Prelude.{◌≡◌, ◌↔◌, ℕ, ◌+◌, ◌*◌, ◌≤◌, true, cond, List, ◌++◌, map, length, Ok}, List.AllByRecursion}
 use Rattle.aout_core.specs.declared.symbol.Segment.TheVariants.{TextSeg, DataSeg, BssSeg}
 use Rattle.aout_core.specs.{declared.symbol.Symbol.Symbol, Contents.Contents, Addresses.data_start_in}
 use Rattle.link_session.specs.{Starts.total, Sessions.IsObject, Mentions.mentions, Mentions.externals}

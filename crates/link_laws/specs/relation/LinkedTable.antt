@@ -3,16 +3,14 @@
 -- Each external has one row. A defined name is moved with its segment. Commons that are laid out come one after another, and
 -- the three reserved names may be defined by the linker. Any other row is undefined, with the size that is wanted as its value. The
 -- locals that are kept are moved with their segments, too.
-use Rattle.std.specs.Prelude.{◌≡◌, ℕ, ◌+◌, ◌%◌, cond, eqb, if◌then◌else◌, List, [], ◌∷◌, map, filter, bytes_eq}
-use Rattle.std.specs.List.{flat_map}
+use Rattle.std.specs.{Prelude.{◌≡◌, ℕ, ◌+◌, ◌%◌, cond, eqb, if◌then◌else◌, List, [], ◌∷◌, map, filter, bytes_eq}, List.flat_map}
 use Rattle.aout_core.specs.declared.symbol.Segment.TheVariants.{TextSeg, DataSeg, BssSeg}
 use Rattle.aout_core.specs.{declared.header.Header.Header, declared.symbol.Symbol.Symbol, declared.symbol.Segment.Segment}
 use Rattle.aout_core.specs.{Contents.Contents, Words.plus, WellFormed.segment_of, Addresses.data_start_in}
 use Rattle.link_session.specs.{declared.state.State.State, declared.state.State.TheVariants.Defined}
 use Rattle.link_session.specs.{declared.state.State.TheVariants.Wanted, Earlier.with_earlier, Mentions.Mention}
 use Rattle.tool_options.specs.Choices.{Choices, lays_commons}
-use Rattle.link_laws.specs.relation.NameStates.{HasState}
-use Rattle.link_laws.specs.relation.Relocated.{base_in, move_in, external_type}
+use Rattle.link_laws.specs.{relation.NameStates.HasState, relation.Relocated.{base_in, move_in, external_type}}
 use Rattle.link_out.specs.{KeptSymbols.is_kept_local, ReservedNames.etext, ReservedNames.edata, ReservedNames.end_name}
 
 abbrev pub shown : List ℕ → ℕ → ℕ → Symbol

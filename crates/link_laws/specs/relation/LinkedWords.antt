@@ -4,12 +4,11 @@
 -- which keeps its pc bit, and names the segment that the word is bound in now, or the row of the name that it still waits for.
 use Rattle.std.specs.Prelude.{◌≡◌, ℕ, ◌+◌, ◌-◌, ◌*◌, ◌/◌, ◌%◌, ◌≤◌, true, eqb, if◌then◌else◌, List, ◌∷◌, ◌++◌, map, Option, Some, None}
 use Rattle.std.specs.Prelude.{slice_get}
-use Rattle.aout_core.specs.WellFormed.{masked_type, kind_of, symbol_number}
-use Rattle.aout_core.specs.{declared.symbol.Symbol.Symbol, declared.symbol.Segment.Segment, declared.reloc.Reloc.Reloc}
-use Rattle.aout_core.specs.{declared.reloc.Kind.Kind, Contents.Contents}
+use Rattle.aout_core.specs.{WellFormed.{masked_type, kind_of, symbol_number}, declared.symbol.Symbol.Symbol}
+use Rattle.aout_core.specs.{declared.symbol.Segment.Segment, declared.reloc.Reloc.Reloc, declared.reloc.Kind.Kind, Contents.Contents}
+use Rattle.aout_core.specs.declared.reloc.Kind.TheVariants as kinds
 use Rattle.link_session.specs.{Starts.total, Mentions.place_of, Cells.segment_words, Cells.segment_relocs}
 use Rattle.link_laws.specs.relation.Relocated.{entry_of, IsRelocated}
-use Rattle.aout_core.specs.declared.reloc.Kind.TheVariants as kinds
 
 -- each word of each object is at its place, relocated
 abbrev pub AreRelocated : Contents → List Symbol → List Contents → Segment → Type 0

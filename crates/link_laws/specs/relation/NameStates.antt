@@ -2,11 +2,9 @@
 --
 -- Either one mention is the first that defines the name, and the name has that definition; or no mention defines it, and it is
 -- wanted at the largest size that a mention asks for.
-use Rattle.std.specs.Prelude.{◌≡◌, ◌≢◌, ℕ, ◌≤◌, ◌⊎◌, List, [], ◌∷◌}
-use Rattle.std.specs.List.{AllByRecursion}
+use Rattle.std.specs.{Prelude.{◌≡◌, ◌≢◌, ℕ, ◌≤◌, ◌⊎◌, List, [], ◌∷◌}, List.AllByRecursion}
 use Rattle.aout_core.specs.declared.symbol.Segment.{Segment}
-use Rattle.link_session.specs.{declared.state.State.State, declared.state.State.TheVariants.Defined}
-use Rattle.link_session.specs.{declared.state.State.TheVariants.Wanted, Mentions.Mention}
+use Rattle.link_session.specs.{declared.state.State.State, declared.state.State.TheVariants.{Defined, Wanted}, Mentions.Mention}
 
 -- a mention that does not define this name
 abbrev pub LeavesOpen : List ℕ → Mention → Type 0

@@ -5,8 +5,7 @@
 -- symbol.
 use Rattle.std.specs.Prelude.{◌≡◌, ◌↔◌, ℕ, ◌+◌, ◌<◌, ◌≤◌, ◌⊎◌, true, false, List, [], ◌∷◌, ◌++◌, filter, length, Some, Err, slice_get}
 use Rattle.std.specs.List.{flat_map, AllByRecursion}
-use Rattle.aout_core.specs.declared.symbol.Segment.TheVariants.{TextSeg, DataSeg, BssSeg}
-use Rattle.aout_core.specs.WellFormed.{kind_of, symbol_number}
+use Rattle.aout_core.specs.{declared.symbol.Segment.TheVariants.{TextSeg, DataSeg, BssSeg}, WellFormed.{kind_of, symbol_number}}
 use Rattle.aout_core.specs.{declared.symbol.Symbol.Symbol, declared.symbol.Segment.Segment, declared.reloc.Reloc.Reloc}
 use Rattle.aout_core.specs.{declared.reloc.Kind.TheVariants.External, Contents.Contents}
 use Rattle.link_session.specs.{declared.state.State.State, Starts.total, Sessions.IsObject, Mentions.Mention, Mentions.mentions}

@@ -6,12 +6,11 @@
 use Rattle.std.specs.Prelude.{◌≡◌, ℕ, ◌+◌, ◌-◌, ◌*◌, ◌/◌, ◌≤◌, ◌⊎◌, false, cond, ◌&&◌, eqb, List, [], ◌∷◌, length, Option, Some, None}
 use Rattle.std.specs.Prelude.{slice_get, bytes_eq}
 use Rattle.aout_core.specs.declared.symbol.Segment.TheVariants.{TextSeg, DataSeg, BssSeg}
-use Rattle.aout_core.specs.WellFormed.{is_external, masked_type, kind_of, is_pc_relative, symbol_number}
-use Rattle.aout_core.specs.{declared.header.Header.Header, declared.symbol.Symbol.Symbol, declared.symbol.Segment.Segment}
-use Rattle.aout_core.specs.{declared.reloc.Reloc.Reloc, declared.reloc.Kind.Kind, Contents.Contents, Addresses.data_start_in, Words.plus}
-use Rattle.aout_core.specs.{Words.minus}
-use Rattle.link_session.specs.{Starts.total, Starts.own, Cells.segment_words}
+use Rattle.aout_core.specs.{WellFormed.{is_external, masked_type, kind_of, is_pc_relative, symbol_number}, declared.header.Header.Header}
+use Rattle.aout_core.specs.{declared.symbol.Symbol.Symbol, declared.symbol.Segment.Segment, declared.reloc.Reloc.Reloc}
+use Rattle.aout_core.specs.{declared.reloc.Kind.Kind, Contents.Contents, Addresses.data_start_in, Words.{plus, minus}}
 use Rattle.aout_core.specs.declared.reloc.Kind.TheVariants as kinds
+use Rattle.link_session.specs.{Starts.total, Starts.own, Cells.segment_words}
 
 -- the address at which a segment begins in core, by the header and the objects' bytes of bss
 abbrev pub base_in : Header → ℕ → Segment → ℕ

@@ -1,8 +1,6 @@
 -- The labels of a segment, the highest address first, and the search among them.
-use Rattle.std.specs.Prelude.{◌≡◌, ℕ, Bool, eqb, nat_lt, if◌then◌else◌, List, [], ◌∷◌, filter, Option, Some, None}
-use Rattle.std.specs.List.Sorted.{IsSortedBy}
-use Rattle.aout_core.specs.{declared.symbol.Symbol.Symbol, declared.symbol.Segment.Segment}
-use Rattle.aout_core.specs.{WellFormed.segment_of, WellFormed.segment_number}
+use Rattle.std.specs.{Prelude.{◌≡◌, ℕ, Bool, eqb, nat_lt, if◌then◌else◌, List, [], ◌∷◌, filter, Option, Some, None}, List.Sorted.IsSortedBy}
+use Rattle.aout_core.specs.{declared.symbol.Symbol.Symbol, declared.symbol.Segment.Segment, WellFormed.{segment_of, segment_number}}
 use Rattle.symtools.specs.NmLists.{in_order}
 
 abbrev pub is_of : Segment → Symbol → Bool

@@ -2,9 +2,8 @@
 --
 -- A word that leads to a symbol has the key of the symbol's number, or that of its address. Numbers that are the same modulo 0200000 share
 -- a key.
-use Rattle.std.specs.Prelude.{◌≡◌, ℕ, ◌+◌, ◌*◌, ◌%◌, Bool, eqb, List, [], filter, Vec}
-use Rattle.std.specs.{BTreeMap.BTreeMap, BTreeMap.get, List.flat_map, Option.option_map_or, Ordering.nat_cmp}
-use Rattle.std.specs.declared.alloc.Global.{Global}
+use Rattle.std.specs.{Prelude.{◌≡◌, ℕ, ◌+◌, ◌*◌, ◌%◌, Bool, eqb, List, [], filter, Vec}, BTreeMap.{BTreeMap, get}, List.flat_map}
+use Rattle.std.specs.{Option.option_map_or, Ordering.nat_cmp, declared.alloc.Global.Global}
 use Rattle.aout_core.specs.{declared.symbol.Symbol.Symbol, Contents.Contents, WellFormed.segment_number}
 use Rattle.link_maps.specs.{declared.leads.Aim.Aim, declared.leads.Lead.Lead, Leads.reference_if}
 use Rattle.link_maps.specs.declared.leads.Aim.TheVariants.{Numbered, Addressed}

@@ -1,27 +1,23 @@
 -- The cells of a partial link among neighbours are those of its objects.
 use Rattle.std.proofs.lemmas.Grind.{common_steps}
-use Rattle.std.proofs.Common.{◌≡◌, ℕ, ◌+◌, ◌*◌, ◌/◌, ◌%◌, Bool, true, cond, eqb, List, [], ◌∷◌, ◌++◌, map, Option, None, refl, sym}
-use Rattle.std.proofs.Common.{◌∙◌, ap, append_assoc, append-nil, arith, rules}
-use Rattle.std.proofs.lemmas.List.{map-append}
+use Rattle.std.proofs.Common.{◌≡◌, ℕ, ◌+◌, ◌*◌, ◌/◌, ◌%◌, Bool, true, cond, eqb, List, [], ◌∷◌, ◌++◌, map, Option, None, refl, sym, ◌∙◌, ap}
+use Rattle.std.proofs.{Common.{append_assoc, append-nil, arith, rules}, lemmas.List.map-append}
 use Rattle.std.specs.{Prelude.zip, Prelude.slice_get, List.flat_map, List.AllByRecursion}
 use Rattle.aout_core.specs.declared.symbol.Segment.TheVariants.{Undefined, Absolute, TextSeg, DataSeg, BssSeg, Other}
-use Rattle.aout_core.specs.WellFormed.{is_pc_relative, kind_numbered, IsWellFormed}
-use Rattle.aout_core.specs.{declared.symbol.Segment.Segment, declared.reloc.Reloc.Reloc, Contents.Contents}
-use Rattle.aout_core.specs.{Words.plus, Words.minus}
+use Rattle.aout_core.specs.{WellFormed.{is_pc_relative, kind_numbered, IsWellFormed}, declared.symbol.Segment.Segment}
+use Rattle.aout_core.specs.{declared.reloc.Reloc.Reloc, Contents.Contents, Words.{plus, minus}}
 use Rattle.aout_core.proofs.AlikeLemmas.{slice_get_after}
 use Rattle.link_session.specs.Mentions.{Mention, mentions, names_of, names_by_first_mention, place_of}
 use Rattle.link_session.specs.Cells.{Referent, to_segment, to_name, referent, referent_by, name_in, segment_target, name_target, target_of}
-use Rattle.link_session.specs.Cells.{offset_in, target_shift, if_pc, cell, words_of, cells_in, cells}
-use Rattle.link_session.specs.{declared.cell.Cell.Cell, declared.cell.Target.Target, declared.state.State.State}
-use Rattle.link_session.specs.{declared.state.State.TheVariants.Defined, declared.state.State.TheVariants.Wanted, Earlier.with_earlier}
-use Rattle.link_session.specs.{Starts.shift, States.state}
+use Rattle.link_session.specs.{Cells.{offset_in, target_shift, if_pc, cell, words_of, cells_in, cells}, declared.cell.Cell.Cell}
+use Rattle.link_session.specs.{declared.cell.Target.Target, declared.state.State.State, declared.state.State.TheVariants.{Defined, Wanted}}
+use Rattle.link_session.specs.{Earlier.with_earlier, Starts.shift, States.state}
 use Rattle.tool_options.specs.{NameLists.is_among, declared.options.Keep.Keep}
 use Rattle.link_session.proofs.CellLemmas.{RefersAmong, AllReferAmong, words_made}
 use Rattle.link_session.proofs.NeighbourLemmas.{AreAsLong, shift_same, start, shift_raised, blocks, one_for_many}
 use Rattle.link_session.proofs.{MentionLemmas.is_among-externals, WellFormedLemmas.objects_refer}
 use Rattle.link_out.specs.function.Words.{move, referent_move, final_word}
-use Rattle.link_out.specs.function.Tables.{row_of, name_bits, referent_bits, final_reloc}
-use Rattle.link_out.specs.{Layouts.base, function.Finals.final_by}
+use Rattle.link_out.specs.{function.Tables.{row_of, name_bits, referent_bits, final_reloc}, Layouts.base, function.Finals.final_by}
 use Rattle.link_out.proofs.partial_links.PartialLemmas.{IsProper, state_is_proper, partial_plan, partial_file}
 use Rattle.link_out.proofs.{CellWordLemmas.mapped_at_place, partial_links.PartialNames.HasTable}
 use Rattle.link_out.proofs.{partial_links.NeighbourMentions.partial_as_long}

@@ -7,8 +7,7 @@ use Rattle.link_session.specs.Mentions.{Mention, mentions_in, mentions, forced_m
 use Rattle.link_session.specs.{declared.state.State.State, declared.state.State.TheVariants.Defined}
 use Rattle.link_session.specs.{declared.state.State.TheVariants.Wanted, States.state, internal.Updates.updated_state}
 use Rattle.tool_options.specs.{declared.options.Keep.Keep}
-use Rattle.link_session.proofs.MentionLemmas.{mentions-append, names_of-append, names_of-map}
-use Rattle.link_session.proofs.StateLemmas.{state-append}
+use Rattle.link_session.proofs.{MentionLemmas.{mentions-append, names_of-append, names_of-map}, StateLemmas.state-append}
 use Rattle.link_session.proofs.NeighbourLemmas.{AreAsLong, as_long_append, as_long_self, blocks_same, blocks-append, mentions_in_same}
 use Rattle.link_session.proofs.NeighbourLemmas.{mentions_after, raised, raise, mentions_in_raised, mentions_after-raised, names_of_raised}
 use Rattle.link_session.proofs.NeighbourLemmas.{forced_front, names_of_forced, names_mentioned_once}

@@ -1,8 +1,7 @@
 -- The kept locals of a partial link among others are those of its objects.
 use Rattle.std.proofs.lemmas.Grind.{common_steps}
 use Rattle.std.proofs.Common.{◌≡◌, ℕ, Bool, true, false, cond, not, ◌&&◌, List, [], ◌∷◌, ◌++◌, map, Option, refl, sym, ◌∙◌, ap, rules}
-use Rattle.std.proofs.Common.{append_assoc, append-nil, arith}
-use Rattle.std.proofs.{lemmas.List.map-append, lemmas.List.Elements.filter-append}
+use Rattle.std.proofs.{Common.{append_assoc, append-nil, arith}, lemmas.List.map-append, lemmas.List.Elements.filter-append}
 use Rattle.std.specs.Prelude.{filter}
 use Rattle.aout_core.specs.declared.symbol.Segment.TheVariants.{Undefined, Absolute, TextSeg, DataSeg, BssSeg, Other}
 use Rattle.aout_core.specs.WellFormed.{is_external, segment_of}

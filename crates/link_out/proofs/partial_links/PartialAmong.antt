@@ -1,6 +1,5 @@
 -- A partial link among others, with forced names of its own: it stands for its objects where their definitions stand.
-use Rattle.std.proofs.Common.{◌≡◌, ◌≢◌, ℕ, false, List, [], ◌∷◌, ◌++◌, Option, sym, ◌∙◌, ap, subst, append-nil}
-use Rattle.std.proofs.Common.{rules}
+use Rattle.std.proofs.Common.{◌≡◌, ◌≢◌, ℕ, false, List, [], ◌∷◌, ◌++◌, Option, sym, ◌∙◌, ap, subst, append-nil, rules}
 use Rattle.std.proofs.lemmas.List.{append_cancel_left}
 use Rattle.std.specs.{Prelude.Result, List.AllByRecursion}
 use Rattle.aout_core.specs.declared.symbol.Segment.TheVariants.{TextSeg, DataSeg}
@@ -9,8 +8,7 @@ use Rattle.link_session.specs.Mentions.{mentions, names_of, names_by_first_menti
 use Rattle.link_session.specs.{declared.state.State.TheVariants.Defined, States.state, States.multiple_names}
 use Rattle.tool_options.specs.{NameLists.new_names, declared.options.Keep.Keep, declared.options.Keep.TheVariants.Nothing, Choices.Choices}
 use Rattle.link_session.proofs.NeighbourLemmas.{as_long_append, as_long_self, start, forced_front, new_of_new, names_of_forced}
-use Rattle.link_session.proofs.NeighbourLemmas.{mentions_after}
-use Rattle.link_session.proofs.{ListLemmas.all_append, MentionLemmas.names_of-append}
+use Rattle.link_session.proofs.{NeighbourLemmas.mentions_after, ListLemmas.all_append, MentionLemmas.names_of-append}
 use Rattle.tool_options.proofs.NameListLemmas.{new_names-append}
 use Rattle.link_out.specs.function.Link.{Outcome, link, linked_file}
 use Rattle.link_out.specs.laws.PartialLinks.{KeepsNoMore, IsPartialLink, without_multiples, IsPart, offset_after, DefinitionsAreKept}

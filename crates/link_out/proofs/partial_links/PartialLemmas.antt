@@ -1,15 +1,12 @@
 -- The options of a partial link, the externals in its table, and what its rows say.
-use Rattle.std.proofs.Common.{◌≡◌, ℕ, ◌%◌, true, false, List, [], ◌∷◌, ◌++◌, map, Option, refl}
-use Rattle.std.proofs.Common.{◌∙◌, rules}
-use Rattle.std.proofs.{lemmas.Bool.and_parts, lemmas.List.Elements.filter-append}
+use Rattle.std.proofs.{Common.{◌≡◌, ℕ, ◌%◌, true, false, List, [], ◌∷◌, ◌++◌, map, Option, refl, ◌∙◌, rules}, lemmas.Bool.and_parts}
+use Rattle.std.proofs.lemmas.List.Elements.{filter-append}
 use Rattle.std.specs.{Prelude.filter, List.flat_map, List.AllByRecursion}
-use Rattle.aout_core.specs.declared.symbol.Segment.TheVariants.{Undefined, Other}
-use Rattle.aout_core.specs.WellFormed.{is_external, segment_of, segment_numbered}
+use Rattle.aout_core.specs.{declared.symbol.Segment.TheVariants.{Undefined, Other}, WellFormed.{is_external, segment_of, segment_numbered}}
 use Rattle.aout_core.specs.{declared.symbol.Symbol.Symbol, declared.symbol.Segment.Segment, Contents.Contents}
 use Rattle.link_session.specs.Mentions.{Mention, mention, statement, mentions_in, mentions, externals_in, forced_mention}
-use Rattle.link_session.specs.States.{first_definition, wanted_size, state_by, state}
-use Rattle.link_session.specs.{declared.state.State.State, declared.state.State.TheVariants.Defined}
-use Rattle.link_session.specs.{declared.state.State.TheVariants.Wanted, Earlier.with_earlier}
+use Rattle.link_session.specs.{States.{first_definition, wanted_size, state_by, state}, declared.state.State.State}
+use Rattle.link_session.specs.{declared.state.State.TheVariants.{Defined, Wanted}, Earlier.with_earlier}
 use Rattle.link_session.proofs.ListLemmas.{all_append}
 use Rattle.tool_options.specs.{declared.options.Keep.Keep, Choices.Choices}
 use Rattle.link_out.specs.function.Finals.{final_by, type_of}

@@ -1,23 +1,19 @@
 -- A partial link that defines no name which is multiply defined stands for its objects, multiples included.
 use Rattle.std.proofs.Common.{◌≡◌, ◌≢◌, ℕ, Bool, true, false, List, [], ◌∷◌, ◌++◌, map, Option, Some, None, refl, sym, ◌∙◌, ap, subst}
-use Rattle.std.proofs.Common.{rules}
-use Rattle.std.proofs.lemmas.List.Elements.{filter-append}
+use Rattle.std.proofs.{Common.rules, lemmas.List.Elements.filter-append}
 use Rattle.std.specs.{Prelude.bytes_eq, Prelude.filter, List.AllByRecursion}
 use Rattle.aout_core.specs.{declared.symbol.Segment.Segment, Contents.Contents, Words.plus, WellFormed.IsWellFormed, WellFormed.first_of}
-use Rattle.link_session.specs.declared.state.State.{State}
-use Rattle.link_session.specs.declared.state.State.TheVariants.{Defined, Wanted}
+use Rattle.link_session.specs.{declared.state.State.State, declared.state.State.TheVariants.{Defined, Wanted}}
 use Rattle.link_session.specs.Mentions.{Mention, mentions, mentions_in, names_by_first_mention}
 use Rattle.link_session.specs.States.{Definition, definition_by, first_definition, state, differs, multiple_names}
 use Rattle.tool_options.specs.{NameLists.is_among, declared.options.Keep.Keep, declared.options.Keep.TheVariants.Nothing, Choices.Choices}
 use Rattle.link_session.proofs.NeighbourLemmas.{as_long_append, as_long_self, start, blocks_same, mentions_in_same, raise, raised}
 use Rattle.link_session.proofs.AgreementLemmas.{AgreesIn, not_multiple, one_definition, none_defines, no_definition, of_each_name}
-use Rattle.link_session.proofs.AgreementLemmas.{none_kept, own_again}
-use Rattle.link_session.proofs.{StateLemmas.first_definition-append, ListLemmas.all_split, ListLemmas.all_map}
-use Rattle.link_session.proofs.{MentionLemmas.mentions-append, UpdateLemmas.definition_of, UpdateLemmas.own_name}
+use Rattle.link_session.proofs.{AgreementLemmas.{none_kept, own_again}, StateLemmas.first_definition-append}
+use Rattle.link_session.proofs.{ListLemmas.{all_split, all_map}, MentionLemmas.mentions-append, UpdateLemmas.{definition_of, own_name}}
 use Rattle.link_out.specs.function.Link.{Outcome, link}
 use Rattle.link_out.specs.laws.PartialLinks.{KeepsNoMore, IsPartialLink, IsPart, DefinitionsAreKept, DefinesNoMultiple}
-use Rattle.link_out.proofs.partial_links.PartialLemmas.{partial_file}
-use Rattle.link_out.proofs.partial_links.PartialNames.{HasTable, has_table, final_mention}
+use Rattle.link_out.proofs.{partial_links.PartialLemmas.partial_file, partial_links.PartialNames.{HasTable, has_table, final_mention}}
 use Rattle.link_out.proofs.partial_links.SameLinks.{with_multiples, own_multiples}
 use Rattle.link_out.proofs.partial_links.NeighbourMentions.{partial_as_long, whole_said, back_said, front_said, mentions_of_whole}
 use Rattle.link_out.proofs.partial_links.NeighbourMentions.{final_after, state_after}

@@ -1,25 +1,21 @@
 -- Two lists of objects with the same names, states, sizes, cells and kept locals have the same link, but for the multiples.
-use Rattle.std.proofs.Common.{◌≡◌, ℕ, Bool, cond, not, List, map, length, Option, refl, sym, ◌∙◌, ap}
-use Rattle.std.proofs.Common.{[], ◌+◌, ◌*◌, rules}
-use Rattle.std.specs.Prelude.{filter, Ok, Err, Result, sum_by}
-use Rattle.std.specs.List.{list_any, AllByRecursion}
+use Rattle.std.proofs.Common.{◌≡◌, ℕ, Bool, cond, not, List, map, length, Option, refl, sym, ◌∙◌, ap, [], ◌+◌, ◌*◌, rules}
+use Rattle.std.specs.{Prelude.{filter, Ok, Err, Result, sum_by}, List.{list_any, AllByRecursion}}
 use Rattle.aout_core.specs.declared.symbol.Segment.TheVariants.{TextSeg, DataSeg, BssSeg}
 use Rattle.aout_core.specs.{declared.symbol.Segment.Segment, Contents.Contents, WellFormed.IsWellFormed}
 use Rattle.link_session.specs.Mentions.{Mention, mentions, names_by_first_mention}
 use Rattle.link_session.specs.{declared.cell.Cell.Cell, declared.state.State.State, Cells.cells}
+use Rattle.link_session.specs.States as states
 use Rattle.tool_options.specs.{Choices.Choices, Choices.lays_commons}
 use Rattle.link_session.proofs.{WellFormedLemmas.objects_refer, NeighbourLemmas.AreAsLong}
 use Rattle.link_out.specs.declared.linked.LinkFault.TheVariants.{DoesNotFit, TooManySymbols, SymbolNumber}
-use Rattle.link_out.specs.function.Plans.{Plan, plan, commons_laid, common_size, commons_size, commons_total}
-use Rattle.link_out.specs.function.Finals.{final}
+use Rattle.link_out.specs.{function.Plans.{Plan, plan, commons_laid, common_size, commons_size, commons_total}, function.Finals.final}
 use Rattle.link_out.specs.function.Tables.{local_rows, external_rows, table, final_relocs, has_too_large_in}
-use Rattle.link_out.specs.function.Reports.{report_of, entry_word, entry_found_bad, is_undefined, reserved_taken}
-use Rattle.link_out.specs.function.Reports.{undefined_names, reserved_names}
-use Rattle.link_out.specs.internal.FromCells.{finals, word_of_cell, reloc_of_cell, target_too_large}
-use Rattle.link_out.specs.{declared.linked.LinkFault.LinkFault, Layouts.Bases, Layouts.bases, Layouts.magic_of, function.Words.final_words}
-use Rattle.link_out.specs.{function.Link.Outcome, function.Link.linked_file, function.Link.link}
+use Rattle.link_out.specs.function.Reports.{report_of, entry_word, entry_found_bad, is_undefined, reserved_taken, undefined_names}
+use Rattle.link_out.specs.{function.Reports.reserved_names, internal.FromCells.{finals, word_of_cell, reloc_of_cell, target_too_large}}
+use Rattle.link_out.specs.{declared.linked.LinkFault.LinkFault, Layouts.{Bases, bases, magic_of}, function.Words.final_words}
+use Rattle.link_out.specs.function.Link.{Outcome, linked_file, link}
 use Rattle.link_out.proofs.{CellWordLemmas.final_words-cells, CellRelocLemmas.final_relocs-cells, CellRelocLemmas.has_too_large_in-cells}
-use Rattle.link_session.specs.States as states
 
 -- two plans with the same options and bases, whose mentions give the same names and states
 module _ (o : Choices) (b : Bases) (ms ns : List Mention) (names : names_by_first_mention ms ≡ names_by_first_mention ns)

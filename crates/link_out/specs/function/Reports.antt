@@ -1,10 +1,8 @@
 -- What is reported of a link, and its lines. (ld(1); the order and the exact words: own choice)
 use Rattle.std.specs.Prelude.{ℕ, Bool, false, not, ◌&&◌, cond, eqb, if◌then◌else◌, List, [], ◌∷◌, ◌++◌, filter, length, Option, Some, None}
-use Rattle.std.specs.Prelude.{codes}
-use Rattle.std.specs.List.{flat_map}
-use Rattle.link_session.specs.{declared.state.State.State, declared.state.State.TheVariants.Defined}
-use Rattle.link_session.specs.{declared.state.State.TheVariants.Wanted, Mentions.Mention, Mentions.names_by_first_mention, States.state}
-use Rattle.link_session.specs.{States.multiple_names}
+use Rattle.std.specs.{Prelude.codes, List.flat_map}
+use Rattle.link_session.specs.{declared.state.State.State, declared.state.State.TheVariants.{Defined, Wanted}}
+use Rattle.link_session.specs.{Mentions.{Mention, names_by_first_mention}, States.{state, multiple_names}}
 use Rattle.tool_options.specs.NameLists.{is_among}
 use Rattle.link_out.specs.{function.Plans.Plan, function.Finals.final, function.Finals.type_of}
 pub use Rattle.link_out.specs.ReservedNames.{reserved_names}

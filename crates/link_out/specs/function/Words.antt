@@ -1,8 +1,7 @@
 -- The words of text and data in the linked file, computed word by word. (ld(1))
 use Rattle.std.specs.{Prelude.ℕ, Prelude.List, Prelude.[], Prelude.map, List.flat_map}
 use Rattle.aout_core.specs.{declared.symbol.Segment.Segment, declared.reloc.Reloc.Reloc, Contents.Contents, Words.plus, Words.minus}
-use Rattle.link_session.specs.Cells.{Referent, to_segment, to_name, referent, words_of, if_pc}
-use Rattle.link_session.specs.{Earlier.with_earlier, Starts.shift}
+use Rattle.link_session.specs.{Cells.{Referent, to_segment, to_name, referent, words_of, if_pc}, Earlier.with_earlier, Starts.shift}
 use Rattle.link_out.specs.{Layouts.Bases, Layouts.base, function.Plans.Plan, function.Finals.final}
 
 -- how far a segment of an object moves; absolute addresses stay

@@ -2,8 +2,7 @@
 use Rattle.std.specs.Prelude.{ℕ, ◌+◌, List, [], ◌∷◌, map, filter}
 use Rattle.link_session.specs.{Labelled.objects, Mentions.Mention, Mentions.mentions, Image.Named, Undo.Kept}
 use Rattle.tool_options.specs.Choices.{Choices}
-use Rattle.link_out.specs.{Layouts.Bases, function.Plans.common_size, function.Finals.Final, function.Finals.final_at}
-use Rattle.link_out.specs.{function.Reports.is_missing}
+use Rattle.link_out.specs.{Layouts.Bases, function.Plans.common_size, function.Finals.{Final, final_at}, function.Reports.is_missing}
 
 -- the mentions of names by the objects of a session and by its forced names
 abbrev pub mentions_of : Kept → List Mention

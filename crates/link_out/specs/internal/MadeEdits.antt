@@ -1,7 +1,6 @@
 -- What the code knows of edits that it has made, and of the replies to them.
 use Rattle.std.specs.Prelude.{◌≡◌, List, map}
-use Rattle.link_session.specs.Edits.{Change, kept_after, answer_to, survivors_from, answers_from}
-use Rattle.link_session.specs.Undo.{Kept}
+use Rattle.link_session.specs.{Edits.{Change, kept_after, answer_to, survivors_from, answers_from}, Undo.Kept}
 use Rattle.link_out.specs.{declared.edit.Reply.Reply, Runs.answer_of}
 
 -- a change was made, and the reply is the answer to it

@@ -1,8 +1,7 @@
 -- That a session keeps objects has one proof at most, as a ghost field wants of its fact.
 use Rattle.std.specs.{Prelude.◌≡◌, Prelude.◌*◌, Prelude.List, Prelude.length, Prelude.IsTrue, List.AllByRecursion, List.AllByRecursion-prop}
 use Rattle.std.proofs.Props.{props}
-use Rattle.aout_core.specs.Contents.{Contents, Fits, is_magic, has_whole_sizes, with_relocation}
-use Rattle.aout_core.specs.WellFormed.{IsWellFormed}
+use Rattle.aout_core.specs.{Contents.{Contents, Fits, is_magic, has_whole_sizes, with_relocation}, WellFormed.IsWellFormed}
 use Rattle.link_session.specs.Sessions.{IsObject}
 
 Fits-prop : (c : Contents) → IsProp (Fits c)

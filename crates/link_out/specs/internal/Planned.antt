@@ -1,7 +1,6 @@
 -- What the plan in the code means, and the facts on it that the passes of a link hand on.
 use Rattle.std.specs.Prelude.{◌≡◌, ◌≤◌, List, [], cond, Result}
-use Rattle.aout_core.specs.{Contents.Contents, declared.symbol.Symbol.Symbol, declared.symbol.Segment.TheVariants.TextSeg}
-use Rattle.aout_core.specs.{declared.symbol.Segment.TheVariants.DataSeg}
+use Rattle.aout_core.specs.{Contents.Contents, declared.symbol.Symbol.Symbol, declared.symbol.Segment.TheVariants.{TextSeg, DataSeg}}
 use Rattle.link_session.specs.Labelled.{objects}
 use Rattle.link_out.specs.{declared.linked.LinkFault.LinkFault, declared.words.Words.Words, declared.relocs.Relocs.Relocs, Layouts.Bases}
 use Rattle.link_out.specs.{function.Plans.Plan, function.Plans.plan_of, function.Words.final_words, function.Tables.table}

@@ -1,6 +1,5 @@
 -- The parts of a report, and when there are none.
-use Rattle.std.specs.Prelude.{ℕ, Bool, not, ◌&&◌, eqb, List, ◌++◌, filter, length, is_none, codes}
-use Rattle.std.specs.List.{flat_map}
+use Rattle.std.specs.{Prelude.{ℕ, Bool, not, ◌&&◌, eqb, List, ◌++◌, filter, length, is_none, codes}, List.flat_map}
 use Rattle.link_session.specs.{Mentions.Mention, States.state}
 use Rattle.link_out.specs.{Results.ReportNames, function.Reports.line, function.Reports.is_undefined}
 

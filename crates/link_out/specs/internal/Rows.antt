@@ -1,8 +1,7 @@
 -- The kept locals as they follow from the objects' sizes, and the rows of externals as they follow from what becomes of them.
 use Rattle.std.specs.Prelude.{ℕ, ◌+◌, List, [], ◌∷◌, ◌++◌, map, filter, length, zip}
-use Rattle.aout_core.specs.declared.symbol.Segment.TheVariants.{TextSeg, DataSeg, BssSeg}
-use Rattle.aout_core.specs.{declared.symbol.Symbol.Symbol, declared.symbol.Segment.Segment, Contents.Contents, Words.plus}
-use Rattle.aout_core.specs.{WellFormed.segment_of}
+use Rattle.aout_core.specs.{declared.symbol.Segment.TheVariants.{TextSeg, DataSeg, BssSeg}, declared.symbol.Symbol.Symbol}
+use Rattle.aout_core.specs.{declared.symbol.Segment.Segment, Contents.Contents, Words.plus, WellFormed.segment_of}
 use Rattle.link_session.specs.Starts.{next_starts, shifts_at, shift_by}
 use Rattle.link_session.specs.{declared.relocate.Starts.Starts, declared.relocate.Shifts.Shifts, Image.Named}
 use Rattle.tool_options.specs.declared.options.Keep.{Keep}

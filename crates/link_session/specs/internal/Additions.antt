@@ -1,24 +1,22 @@
 -- How an image takes in one more object: its mentions, one after the other, then the cells that they bind, then its own cells.
 use Rattle.std.specs.Prelude.{ℕ, ◌+◌, ◌*◌, Bool, false, true, ◌&&◌, cond, if◌then◌else◌, nat_eq, nat_lt, List, [], ◌∷◌, ◌++◌, map, zip}
-use Rattle.std.specs.Prelude.{filter, length, Option, Some, None, slice_get, slice_index_or}
-use Rattle.std.specs.{Cmp.Lexicographic.pointwise, Map.keys_of}
+use Rattle.std.specs.{Prelude.{filter, length, Option, Some, None, slice_get, slice_index_or}, Cmp.Lexicographic.pointwise, Map.keys_of}
 use Rattle.indexmap.specs.IndexMap.{insert_entry}
 use Rattle.aout_core.specs.WellFormed.{is_external, segment_of, kind_of, is_pc_relative, symbol_number}
 use Rattle.aout_core.specs.{declared.symbol.Symbol.Symbol, declared.symbol.Segment.Segment, declared.reloc.Reloc.Reloc}
 use Rattle.aout_core.specs.{declared.reloc.Kind.Kind, Contents.Contents, Words.plus, Words.minus}
-use Rattle.link_session.specs.Cells.{segment_target, name_target, name_in, offset_in, if_pc}
-use Rattle.link_session.specs.{declared.cell.Cell.Cell, declared.cell.Target.Target, declared.state.State.State}
-use Rattle.link_session.specs.{declared.state.State.TheVariants.Defined, declared.state.State.TheVariants.Wanted, declared.mark.Mark.Mark}
-use Rattle.link_session.specs.{declared.mark.Mark.TheVariants.StateWas, declared.mark.Place.Place, declared.mark.Place.TheVariants.InText}
-use Rattle.link_session.specs.{declared.mark.Place.TheVariants.InData, declared.relocate.Shifts.Shifts, declared.entry.AddFault.AddFault}
-use Rattle.link_session.specs.{declared.entry.AddFault.TheVariants.TextFull, declared.entry.AddFault.TheVariants.DataFull}
-use Rattle.link_session.specs.{declared.entry.AddFault.TheVariants.BssFull, declared.entry.AddFault.TheVariants.NamesFull, Mentions.Mention}
-use Rattle.link_session.specs.{Mentions.statement_by, Mentions.place_of, Starts.shift_by, Image.Image, Image.Named, Image.state_at}
-use Rattle.link_session.specs.{internal.Updates.updated_state, internal.Updates.clashes}
-use Rattle.tool_options.specs.NameLists.{new_names}
 use Rattle.aout_core.specs.declared.symbol.Segment.TheVariants as segments
 use Rattle.aout_core.specs.declared.reloc.Kind.TheVariants as kinds
+use Rattle.link_session.specs.{Cells.{segment_target, name_target, name_in, offset_in, if_pc}, declared.cell.Cell.Cell}
+use Rattle.link_session.specs.{declared.cell.Target.Target, declared.state.State.State, declared.state.State.TheVariants.{Defined, Wanted}}
+use Rattle.link_session.specs.{declared.mark.Mark.Mark, declared.mark.Mark.TheVariants.StateWas, declared.mark.Place.Place}
+use Rattle.link_session.specs.{declared.mark.Place.TheVariants.{InText, InData}, declared.relocate.Shifts.Shifts}
+use Rattle.link_session.specs.declared.entry.AddFault.{AddFault}
+use Rattle.link_session.specs.declared.entry.AddFault.TheVariants.{TextFull, DataFull, BssFull, NamesFull}
+use Rattle.link_session.specs.{Mentions.{Mention, statement_by, place_of}, Starts.shift_by, Image.{Image, Named, state_at}}
+use Rattle.link_session.specs.internal.Updates.{updated_state, clashes}
 use Rattle.link_session.specs.declared.cell.Target.TheVariants as targets
+use Rattle.tool_options.specs.NameLists.{new_names}
 
 abbrev pub place_in : Named → List ℕ → ℕ
 place_in es name = place_of name (keys_of es)

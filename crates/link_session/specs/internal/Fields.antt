@@ -1,6 +1,5 @@
 -- The fields of a session: the image that they hold, the links and heads, and what is true of them between calls.
-use Rattle.std.specs.Prelude.{◌≡◌, ℕ, ◌+◌, ◌*◌, ◌≤◌, List, [], ◌++◌, map, drop, length, None, vec_capacity}
-use Rattle.std.specs.List.{AllByRecursion}
+use Rattle.std.specs.{Prelude.{◌≡◌, ℕ, ◌+◌, ◌*◌, ◌≤◌, List, [], ◌++◌, map, drop, length, None, vec_capacity}, List.AllByRecursion}
 use Rattle.aout_core.specs.Contents.{Contents}
 use Rattle.link_session.specs.internal.Chains.{Link, unthreaded, heads_back, AreChained}
 use Rattle.link_session.specs.internal.Threads.{Threads, IsThreaded, KeepsThreads, grown_heads, with_texts, with_datas, cut_threads}

@@ -1,6 +1,5 @@
 -- What marks bring back: those of cells that were bound, and all that an object leaves.
-use Rattle.std.specs.Prelude.{◌≡◌, ℕ, ◌+◌, ◌≤◌, Bool, true, false, not, ◌&&◌, cond, List, [], ◌∷◌, ◌++◌, map, length}
-use Rattle.std.specs.List.{AllByRecursion}
+use Rattle.std.specs.{Prelude.{◌≡◌, ℕ, ◌+◌, ◌≤◌, Bool, true, false, not, ◌&&◌, cond, List, [], ◌∷◌, ◌++◌, map, length}, List.AllByRecursion}
 use Rattle.aout_core.specs.Contents.{Contents}
 use Rattle.link_session.specs.internal.Additions.{state_marks, settled_cell, next_mentions, next_named, joined_image}
 use Rattle.link_session.specs.{declared.cell.Cell.Cell, declared.cell.Target.Target, declared.cell.Target.TheVariants.External}

@@ -1,12 +1,11 @@
 -- The links and heads of a session: what one addition makes of them, what a list of objects leaves, and how an addition is taken back.
 use Rattle.std.specs.Prelude.{◌≡◌, ℕ, ◌-◌, List, [], ◌∷◌, ◌++◌, length, take, drop, replicate, slice_set, None}
 use Rattle.aout_core.specs.Contents.{Contents}
-use Rattle.link_session.specs.internal.Chains.{Link, threaded, unthreaded, heads_back, AreChained}
-use Rattle.link_session.specs.{declared.cell.Cell.Cell, declared.state.State.State, declared.state.State.TheVariants.Defined}
-use Rattle.link_session.specs.{declared.state.State.TheVariants.Wanted, declared.mark.Mark.Mark, declared.mark.Place.TheVariants.InText}
-use Rattle.link_session.specs.{declared.mark.Place.TheVariants.InData, Earlier.with_earlier, Mentions.externals, Image.Image, Image.image}
-use Rattle.link_session.specs.{Image.Named, Image.state_at, Undo.IsJournalOf, internal.Additions.own_cells, internal.Additions.next_shifts}
-use Rattle.link_session.specs.{internal.Additions.next_named, internal.Settled.places_of}
+use Rattle.link_session.specs.{internal.Chains.{Link, threaded, unthreaded, heads_back, AreChained}, declared.cell.Cell.Cell}
+use Rattle.link_session.specs.{declared.state.State.State, declared.state.State.TheVariants.{Defined, Wanted}, declared.mark.Mark.Mark}
+use Rattle.link_session.specs.{declared.mark.Place.TheVariants.{InText, InData}, Earlier.with_earlier, Mentions.externals}
+use Rattle.link_session.specs.{Image.{Image, image, Named, state_at}, Undo.IsJournalOf}
+use Rattle.link_session.specs.{internal.Additions.{own_cells, next_shifts, next_named}, internal.Settled.places_of}
 
 -- the links of text and of data, one for each cell, and the heads, one for each external
 pub record Threads : Type 0 where

@@ -1,7 +1,6 @@
 -- What the functions that read rows return: what the definitions give, unless memory ran out. A mistake changes nothing.
 use Rattle.std.specs.Prelude.{◌≡◌, Result, Ok, Err}
-use Rattle.listings.specs.{declared.fault.RowFault.RowFault, declared.fault.RowFault.TheVariants.Memory}
-use Rattle.listings.specs.{declared.fault.RowFault.TheVariants.Wrong, Reading.Mistake}
+use Rattle.listings.specs.{declared.fault.RowFault.RowFault, declared.fault.RowFault.TheVariants.{Memory, Wrong}, Reading.Mistake}
 
 abbrev pub Fails : {Y : Type 0} → RowFault → Result Y Mistake → Type 0
 Fails (Memory _) found = Unit {0}

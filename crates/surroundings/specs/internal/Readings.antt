@@ -1,9 +1,7 @@
 -- A file that is not read, and arguments that are refused, by the reason.
 use Rattle.std.specs.Prelude.{ℕ, List, [], ◌∷◌, Option, Some, None, Result, Ok, Err}
-use Rattle.aout_core.specs.declared.whole.FileFault.{FileFault}
-use Rattle.aout_core.specs.declared.whole.FileFault.TheVariants.{NotOpened, Failed, Memory}
-use Rattle.surroundings.specs.{Arguments.Given, declared.reasons.Reason.Reason}
-use Rattle.surroundings.specs.Events.{History, Extends, opened}
+use Rattle.aout_core.specs.{declared.whole.FileFault.FileFault, declared.whole.FileFault.TheVariants.{NotOpened, Failed, Memory}}
+use Rattle.surroundings.specs.{Arguments.Given, declared.reasons.Reason.Reason, Events.{History, Extends, opened}}
 
 -- the file at a path was opened
 abbrev pub Opens : History → History → List ℕ → Type 0

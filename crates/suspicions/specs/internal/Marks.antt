@@ -1,6 +1,5 @@
 -- Marks of the places that have been found.
-use Rattle.std.specs.Prelude.{◌≡◌, ℕ, ◌/◌, ◌%◌, Bool, false, not, ◌&&◌, eqb, nat_lt, List, length, get_or}
-use Rattle.std.specs.List.{list_any}
+use Rattle.std.specs.{Prelude.{◌≡◌, ℕ, ◌/◌, ◌%◌, Bool, false, not, ◌&&◌, eqb, nat_lt, List, length, get_or}, List.list_any}
 use Rattle.aout_core.specs.Contents.{Contents}
 use Rattle.suspicions.specs.{declared.evidence.Evidence.Evidence, Reached.is_reached}
 

@@ -1,10 +1,8 @@
 -- What the arguments ask for, as the code has it.
 use Rattle.std.specs.Prelude.{ℕ, Bool, false, bytes_eq, codes, List, [], ◌∷◌, map, Option, Some, None, Result, Ok, Err, string_bytes}
 use Rattle.aout_core.specs.Words.{letter_of}
-use Rattle.surroundings.specs.declared.reasons.Reason.{Reason}
-use Rattle.surroundings.specs.declared.reasons.Reason.TheVariants.{NoValue}
-use Rattle.v7_explain.specs.declared.arguments.Call.TheVariants.{Explain, Walk, Store, Ask}
-use Rattle.v7_explain.specs.declared.arguments.Call.{Call as Code}
+use Rattle.surroundings.specs.{declared.reasons.Reason.Reason, declared.reasons.Reason.TheVariants.NoValue}
+use Rattle.v7_explain.specs.{declared.arguments.Call.TheVariants.{Explain, Walk, Store, Ask}, declared.arguments.Call.Call as Code}
 use Rattle.v7_explain.specs.Calls.{Call, Mapping, ask, explain, store, walk}
 
 abbrev pub call_in : Code → Call

@@ -3,8 +3,7 @@ use Rattle.std.specs.Prelude.{◌≡◌, ◌⊎◌, ℕ, List, [], ◌∷◌, �
 use Rattle.aout_core.specs.{Contents.Contents, Decoding.decode, Refusals.refused}
 use Rattle.link_maps.specs.{Maps.IsMapOf, Members.all_of, Taking.split, Taking.split_of, declared.map.LinkMap.LinkMap}
 use Rattle.link_maps.specs.{declared.members.Objects.Objects, declared.outcome.Outcome.Outcome, Rows.linked_in}
-use Rattle.link_out.specs.{Inputs.object_in, Outcomes.report_names, declared.linked.Linked.Linked}
-use Rattle.link_out.specs.{function.Reports.status_of}
+use Rattle.link_out.specs.{Inputs.object_in, Outcomes.report_names, declared.linked.Linked.Linked, function.Reports.status_of}
 use Rattle.link_session.specs.Labelled.{Labelled}
 use Rattle.surroundings.specs.{Answer.Answer, Events.History, declared.answer.Fault.Fault, declared.answer.Fault.TheVariants.Answered}
 use Rattle.surroundings.specs.{declared.answer.Fault.TheVariants.Memory}

@@ -1,10 +1,9 @@
 -- What private functions return.
-use Rattle.std.specs.declared.alloc.Global.{Global}
-use Rattle.std.specs.Prelude.{◌≢◌, List, Result, Ok, Err, Vec}
+use Rattle.std.specs.{declared.alloc.Global.Global, Prelude.{◌≢◌, List, Result, Ok, Err, Vec}}
 use Rattle.aout_core.specs.Refusals.{refused}
 use Rattle.gnu_objects.specs.declared.refusal.Refusal.{Refusal}
-use Rattle.surroundings.specs.{Answers.Ends, declared.answer.Fault.Fault, declared.answer.Fault.TheVariants.Answered, declared.answer.Fault.TheVariants.Memory}
 use Rattle.gnu_objects.specs.declared.refusal.Refusal.TheVariants as refusals
+use Rattle.surroundings.specs.{Answers.Ends, declared.answer.Fault.Fault, declared.answer.Fault.TheVariants.Answered, declared.answer.Fault.TheVariants.Memory}
 
 abbrev pub listed : {A E : Type 0} → Result (Vec A Global) E → Result (List A) E
 listed (Ok v) = Ok v.items

@@ -1,6 +1,5 @@
 -- The text of a fault, by its parts.
-use Rattle.std.specs.Prelude.{ℕ, List, [], ◌++◌, codes, Option, Some, None}
-use Rattle.std.specs.Borrow.{Bor}
+use Rattle.std.specs.{Prelude.{ℕ, List, [], ◌++◌, codes, Option, Some, None}, Borrow.Bor}
 use Rattle.aout_core.specs.FaultTexts.{number_text}
 use Rattle.v7tools.specs.declared.fault.wording.FaultText.{FaultText}
 

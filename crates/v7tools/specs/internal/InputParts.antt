@@ -1,13 +1,11 @@
 -- What becomes of the inputs of a link, one by one.
-use Rattle.std.specs.declared.alloc.Global.{Global}
-use Rattle.std.specs.Prelude.{◌≡◌, ◌⊎◌, ℕ, List, [], ◌∷◌, Some, None, Result, Ok, Err, IsOk, String}
+use Rattle.std.specs.{declared.alloc.Global.Global, Prelude.{◌≡◌, ◌⊎◌, ℕ, List, [], ◌∷◌, Some, None, Result, Ok, Err, IsOk, String}}
 use Rattle.aout_core.specs.{declared.object.ObjectFault.ObjectFault, Contents.Contents, WellFormed.first_object_fault, Wires.Latched}
+use Rattle.aout_core.specs.declared.file.ReadFault.TheVariants as reads
 use Rattle.link_session.specs.{Labelled.Labelled, Undo.Kept}
 use Rattle.link_out.specs.{declared.linked.Linked.Linked, declared.linked.LinkFault.LinkFault, function.Link.Outcome, Outcomes.outcome_of}
-use Rattle.v7tools.specs.declared.fault.CliFault.{CliFault}
-use Rattle.v7tools.specs.LinkAnswers.{Input, Said, never, said_by, StopsAt, Takes, TakesAll}
-use Rattle.aout_core.specs.declared.file.ReadFault.TheVariants as reads
 use Rattle.link_out.specs.declared.linked.LinkFault.TheVariants as links
+use Rattle.v7tools.specs.{declared.fault.CliFault.CliFault, LinkAnswers.{Input, Said, never, said_by, StopsAt, Takes, TakesAll}}
 use Rattle.v7tools.specs.declared.fault.CliFault.TheVariants as faults
 
 -- a device failed

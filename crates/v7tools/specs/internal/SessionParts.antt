@@ -1,17 +1,16 @@
 -- How a session answers a line: the file that is opened, the step that is taken, and what goes out.
-use Rattle.aout_core.specs.Refusals.{device_fault}
+use Rattle.aout_core.specs.{Refusals.device_fault, Wires.{Latched, Puts}}
 use Rattle.std.specs.Prelude.{◌≡◌, ◌↔◌, ℕ, false, List, [], ◌∷◌, Option, Some, None, Result, IfErr, IfOk, IsErr, IsTrue, string_bytes}
 use Rattle.std.specs.Io.KnownBytes.{Keeps}
-use Rattle.aout_core.specs.Wires.{Latched, Puts}
 use Rattle.link_session.specs.Undo.{Kept}
 use Rattle.tool_options.specs.Choices.{Choices}
 use Rattle.v7tools.specs.declared.session.commands.Command.TheVariants.{Add, Withdraw, Externals, Undefined, Link, Bad}
 use Rattle.v7tools.specs.{Answers.Stepped, SessionSteps.Changes, SessionSteps.IsStepOn, declared.session.commands.Command.Command}
 use Rattle.v7tools.specs.{declared.fault.CliFault.CliFault, LineRuns.IsLineOf, LineRuns.LineRun, LineRuns.status_after}
+use Rattle.v7tools.specs.declared.fault.CliFault.TheVariants as faults
 use Rattle.surroundings.specs.Events.{History, Extends, opened}
 use Rattle.command_words.specs.{declared.lines.Line.Line, Scripts.Asked}
 use Rattle.command_words.specs.declared.lines.Line.TheVariants as lines
-use Rattle.v7tools.specs.declared.fault.CliFault.TheVariants as faults
 
 -- the file at a path was opened, on a wire that has not failed, or could not be
 abbrev pub IsOpenedAt : {R : Type 0} → (R → Option (List ℕ)) → History → History → List ℕ → Option (Latched R) → Type 0

@@ -1,17 +1,15 @@
 -- What the parts of a step find and do.
 use Rattle.aout_core.specs.{Refusals.device_fault, Refusals.refused, Contents.Contents, Decoding.decode, Wires.Latched, Wires.Writes}
+use Rattle.aout_core.specs.declared.file.ReadFault.TheVariants as reads
 use Rattle.std.specs.Prelude.{◌≡◌, ◌≢◌, ◌⊎◌, ℕ, false, cond, List, [], Option, Some, None, Result, Ok, Err, IfSome, IsTrue, String}
-use Rattle.std.specs.Prelude.{string_bytes}
-use Rattle.std.specs.declared.alloc.Global.{Global}
+use Rattle.std.specs.{Prelude.string_bytes, declared.alloc.Global.Global}
 use Rattle.link_session.specs.{declared.state.State.State, Edits.last_of, Labelled.Labelled, Sessions.Adds, Undo.Kept}
-use Rattle.link_out.specs.{declared.linked.LinkFault.LinkFault, declared.linked.Linked.Linked, Outcomes.IsLinkOf, Outcomes.outcome_of}
-use Rattle.link_out.specs.{function.Reports.is_missing, function.Reports.line, function.Link.Outcome, Inputs.Cause, Inputs.bad_file}
-use Rattle.link_out.specs.{Inputs.object_in, Inputs.kept_with}
+use Rattle.link_out.specs.{declared.linked.LinkFault.LinkFault, declared.linked.Linked.Linked, Outcomes.{IsLinkOf, outcome_of}}
+use Rattle.link_out.specs.{function.Reports.{is_missing, line}, function.Link.Outcome, Inputs.{Cause, bad_file, object_in, kept_with}}
 use Rattle.v7tools.specs.FaultTexts.{cli_text, fault_at, fault_of_link}
 use Rattle.v7tools.specs.Answers.{failing, giving, Stepped, add_step, withdraw_step, input_from}
 use Rattle.v7tools.specs.SessionSteps.{without_memory, AddsIf, WithdrawsIf, Does}
 use Rattle.v7tools.specs.{declared.fault.CliFault.CliFault, declared.session.commands.Step.Step, LinkAnswers.WantsMemory}
-use Rattle.aout_core.specs.declared.file.ReadFault.TheVariants as reads
 use Rattle.v7tools.specs.declared.fault.CliFault.TheVariants as faults
 
 -- the label of an object, if there is one

@@ -1,9 +1,7 @@
 //! The texts of faults, in parts.
 ghost use Rattle.std.specs.Prelude.{◌≡◌, None, Some, if◌then◌else◌, option_map};
-ghost use Rattle.aout_core.specs.FaultTexts.{number_text, object_text};
-ghost use Rattle.aout_core.specs.Wires.{Writes};
-ghost use Rattle.v7tools.specs.FaultTexts.{addition_text, at_file, file_text};
-ghost use Rattle.v7tools.specs.internal.FaultParts.{text_of, path_text};
+ghost use Rattle.aout_core.specs.{FaultTexts.{number_text, object_text}, Wires.Writes};
+ghost use Rattle.v7tools.specs.{FaultTexts.{addition_text, at_file, file_text}, internal.FaultParts.{text_of, path_text}};
 
 use aout_core::{DeviceFault, ObjectFault, ReadFault, Wire};
 use itoa::Buffer;

@@ -1,8 +1,6 @@
 //! The commands nm, size and strip, over any `Office`.
 ghost use Rattle.aout_core.specs.Wires.{IsPassedOn};
-ghost use Rattle.symtools.specs.Files.{by_bytes};
-ghost use Rattle.symtools.specs.NmLists.{nm_text};
-ghost use Rattle.symtools.specs.SizeLines.{size_text};
+ghost use Rattle.symtools.specs.{Files.by_bytes, NmLists.nm_text, SizeLines.size_text};
 ghost use Rattle.v7tools.specs.FileRuns.{IsStored, IsListRun, IsLoadAt, IsStripping, IsStripRun, Lists, OnlyWriteFailed, OrMemory};
 ghost use Rattle.v7tools.specs.internal.Openings.{IsLoading};
 

@@ -1,8 +1,6 @@
 //! Files by their paths.
 ghost use Rattle.std.specs.Prelude.{◌≡◌, ◌↔◌, Err, IfSome, IsTrue};
-ghost use Rattle.aout_core.specs.declared.file.ReadFault.TheVariants.{Device};
-ghost use Rattle.aout_core.specs.Refusals.{device_fault};
-ghost use Rattle.aout_core.specs.Reading.{IsReadOf, LeavesAfter};
+ghost use Rattle.aout_core.specs.{declared.file.ReadFault.TheVariants.Device, Refusals.device_fault, Reading.{IsReadOf, LeavesAfter}};
 ghost use Rattle.v7tools.specs.Loads.{read_of, IsAtPath};
 
 use crate::fault::CliFault;

@@ -1,11 +1,8 @@
 //! The addition of the file at a path to a session.
 ghost use Rattle.std.specs.Prelude.{◌≡◌, ◌↔◌, Err, IfErr, IsTrue};
-ghost use Rattle.aout_core.specs.declared.file.ReadFault.TheVariants.{Device};
-ghost use Rattle.aout_core.specs.Refusals.{device_fault};
-ghost use Rattle.v7tools.specs.declared.fault.CliFault.TheVariants.{BadFile};
-ghost use Rattle.v7tools.specs.internal.InputParts.{IsCheckOf, IsPossible};
-ghost use Rattle.v7tools.specs.LinkAnswers.{said_by};
-ghost use Rattle.v7tools.specs.internal.StepParts.{IsAddition};
+ghost use Rattle.aout_core.specs.{declared.file.ReadFault.TheVariants.Device, Refusals.device_fault};
+ghost use Rattle.v7tools.specs.{declared.fault.CliFault.TheVariants.BadFile, internal.InputParts.{IsCheckOf, IsPossible}};
+ghost use Rattle.v7tools.specs.{LinkAnswers.said_by, internal.StepParts.IsAddition};
 
 use crate::fault::CliFault;
 use crate::files::loading::load;

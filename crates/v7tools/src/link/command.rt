@@ -2,8 +2,7 @@
 ghost use Rattle.std.specs.Prelude.{map, string_bytes};
 ghost use Rattle.aout_core.specs.Wires.{IsPassedOn};
 ghost use Rattle.link_out.specs.Outcomes.{report_names};
-ghost use Rattle.v7tools.specs.LinkRuns.{IsLinkRun, Reports, ReportsIf};
-ghost use Rattle.v7tools.specs.internal.Openings.{IsOpening};
+ghost use Rattle.v7tools.specs.{LinkRuns.{IsLinkRun, Reports, ReportsIf}, internal.Openings.IsOpening};
 
 use crate::fault::CliFault;
 use crate::link::linking::ld_of_session;

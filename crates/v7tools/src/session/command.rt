@@ -2,13 +2,10 @@
 ghost use Rattle.std.specs.Prelude.{◌≡◌, ◌↔◌, Err, IsTrue};
 ghost use Rattle.aout_core.specs.Wires.{IsPassedOn};
 ghost use Rattle.link_session.specs.Sessions.{nothing_kept};
-ghost use Rattle.v7tools.specs.declared.fault.CliFault.TheVariants.{ScriptFailed};
-ghost use Rattle.command_words.specs.Scripts.{to_link};
-ghost use Rattle.command_words.specs.ScriptAnswers.{asked_by, begun};
-ghost use Rattle.v7tools.specs.LineRuns.{status_after};
-ghost use Rattle.v7tools.specs.SessionRuns.{IsSessionRun};
+ghost use Rattle.v7tools.specs.{declared.fault.CliFault.TheVariants.ScriptFailed, LineRuns.status_after, SessionRuns.IsSessionRun};
 ghost use Rattle.v7tools.specs.SessionSteps.{verdict_of};
 ghost use Rattle.v7tools.specs.internal.SessionParts.{AnswersLine, IsCommandOf, IsNoLinkLine, IsOpenedAt, PassesOn};
+ghost use Rattle.command_words.specs.{Scripts.to_link, ScriptAnswers.{asked_by, begun}};
 
 use crate::fault::CliFault;
 use crate::session::commands::{Command, Step};

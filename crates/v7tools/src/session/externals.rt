@@ -1,8 +1,7 @@
 //! The lists of a session's external names.
 ghost use Rattle.std.specs.Prelude.{◌≡◌};
 ghost use Rattle.aout_core.specs.Wires.{Writes};
-ghost use Rattle.v7tools.specs.Answers.{entry_of, externals_text, undefined_text};
-ghost use Rattle.v7tools.specs.internal.StepParts.{missing_line};
+ghost use Rattle.v7tools.specs.{Answers.{entry_of, externals_text, undefined_text}, internal.StepParts.missing_line};
 
 use aout_core::{DeviceFault, Name, Symbol, Wire};
 use link_out::is_missing;

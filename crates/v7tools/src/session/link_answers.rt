@@ -1,11 +1,8 @@
 //! The answer to a link.
 ghost use Rattle.std.specs.Prelude.{◌≡◌, ◌++◌, codes, decimal, IfErr, IfOk};
-ghost use Rattle.aout_core.specs.Wires.{Writes};
-ghost use Rattle.link_out.specs.Outcomes.{report_names};
-ghost use Rattle.link_out.specs.function.Reports.{line};
-ghost use Rattle.v7tools.specs.declared.fault.CliFault.TheVariants.{WriteFailed};
-ghost use Rattle.aout_core.specs.Refusals.{device_fault};
-ghost use Rattle.v7tools.specs.Answers.{link_answer_text, link_status};
+ghost use Rattle.aout_core.specs.{Wires.Writes, Refusals.device_fault};
+ghost use Rattle.link_out.specs.{Outcomes.report_names, function.Reports.line};
+ghost use Rattle.v7tools.specs.{declared.fault.CliFault.TheVariants.WriteFailed, Answers.{link_answer_text, link_status}};
 ghost use Rattle.v7tools.specs.FaultTexts.{at_file};
 
 use crate::fault::CliFault;

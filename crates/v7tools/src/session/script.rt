@@ -1,10 +1,8 @@
 //! A script, with the faults of the program.
 ghost use Rattle.std.specs.Prelude.{◌≡◌, ◌↔◌, ◌<◌, Err, IfErr, IfOk, IsTrue, length};
-ghost use Rattle.aout_core.specs.declared.block.TheConstants.{BLOCK_SIZE};
+ghost use Rattle.aout_core.specs.{declared.block.TheConstants.BLOCK_SIZE, Refusals.refused};
 ghost use Rattle.command_words.specs.ScriptAnswers.{begun};
-ghost use Rattle.aout_core.specs.Refusals.{refused};
-ghost use Rattle.v7tools.specs.declared.fault.CliFault.TheVariants.{Memory, ScriptFailed};
-ghost use Rattle.v7tools.specs.ScriptCalls.{ReturnsNext, returned};
+ghost use Rattle.v7tools.specs.{declared.fault.CliFault.TheVariants.{Memory, ScriptFailed}, ScriptCalls.{ReturnsNext, returned}};
 
 use crate::fault::CliFault;
 use aout_core::Wire;

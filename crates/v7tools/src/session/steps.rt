@@ -1,16 +1,10 @@
 //! The steps of a session, and their answers.
 ghost use Rattle.std.specs.Prelude.{◌≡◌, ◌++◌, true, IfErr, IfOk, IfSome, IsTrue};
-ghost use Rattle.aout_core.specs.WellFormed.{IsWellFormed};
-ghost use Rattle.aout_core.specs.Wires.{Writes};
-ghost use Rattle.link_session.specs.Edits.{last_of};
-ghost use Rattle.link_session.specs.Labelled.{objects};
-ghost use Rattle.link_out.specs.function.Link.{link};
-ghost use Rattle.link_out.specs.function.Reports.{line};
-ghost use Rattle.v7tools.specs.declared.fault.CliFault.TheVariants.{WriteFailed};
-ghost use Rattle.aout_core.specs.Refusals.{device_fault};
-ghost use Rattle.v7tools.specs.declared.session.commands.Step.TheVariants.{Refused};
-ghost use Rattle.v7tools.specs.FaultTexts.{cli_text};
-ghost use Rattle.v7tools.specs.internal.StepParts.{label_of, MakesLink, TakesAddStep, TakesWithdrawal};
+ghost use Rattle.aout_core.specs.{WellFormed.IsWellFormed, Wires.Writes, Refusals.device_fault};
+ghost use Rattle.link_session.specs.{Edits.last_of, Labelled.objects};
+ghost use Rattle.link_out.specs.{function.Link.link, function.Reports.line};
+ghost use Rattle.v7tools.specs.{declared.fault.CliFault.TheVariants.WriteFailed, declared.session.commands.Step.TheVariants.Refused};
+ghost use Rattle.v7tools.specs.{FaultTexts.cli_text, internal.StepParts.{label_of, MakesLink, TakesAddStep, TakesWithdrawal}};
 ghost use Rattle.v7tools.specs.SessionSteps.{StoresObject, TakesStep};
 
 use crate::fault::CliFault;

@@ -1,5 +1,4 @@
-use Rattle.std.proofs.Common.{◌≡◌, ◌*◌, ◌<◌, ◌≤◌, ◌++◌, ◌∷◌, [], length, take, drop, sym, ap, ◌∙◌, rules}
-use Rattle.std.proofs.lemmas.List.{take_more_set}
+use Rattle.std.proofs.{Common.{◌≡◌, ◌*◌, ◌<◌, ◌≤◌, ◌++◌, ◌∷◌, [], length, take, drop, sym, ap, ◌∙◌, rules}, lemmas.List.take_more_set}
 use Rattle.aout_core.specs.internal.Rows.{row_in}
 use Rattle.aout_core.proofs.ItemLemmas.{row_in-next}
 use Rattle.aout_core.proofs.item.fill_items.Goals as goal

@@ -1,8 +1,7 @@
 use Rattle.std.proofs.Common.{◌≡◌, ◌+◌, ◌-◌, ◌<◌, ◌++◌, ◌∷◌, [], arith, rules, subst, sym}
 use Rattle.std.specs.{Prelude.Err, Prelude.IfErr, Io.KnownBytes.prepend_known}
 use Rattle.aout_core.specs.internal.Blocks.{awaited, EndsBefore}
-use Rattle.aout_core.proofs.IncomingLemmas.{ends_later, row_taken}
-use Rattle.aout_core.proofs.ItemLemmas.{as_many, none_taken, one_missing, rows_taken}
+use Rattle.aout_core.proofs.{IncomingLemmas.{ends_later, row_taken}, ItemLemmas.{as_many, none_taken, one_missing, rows_taken}}
 use Rattle.aout_core.proofs.item.take_items.Goals as goal
 
 pub loop-left-init : goal.loop-left-init

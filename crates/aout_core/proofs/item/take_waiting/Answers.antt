@@ -1,5 +1,4 @@
-use Rattle.std.proofs.Common.{◌≡◌, ◌*◌, ◌/◌, ◌≤◌, ◌++◌, length, drop, sym, subst, arith, rules}
-use Rattle.std.proofs.Math.Nat.{mul-div-le, mul-le-mul_left}
+use Rattle.std.proofs.{Common.{◌≡◌, ◌*◌, ◌/◌, ◌≤◌, ◌++◌, length, drop, sym, subst, arith, rules}, Math.Nat.{mul-div-le, mul-le-mul_left}}
 use Rattle.aout_core.specs.{internal.Blocks.Awaited, internal.Rows.row_in, internal.Rows.TakesRow}
 use Rattle.aout_core.proofs.ItemLemmas.{waiting_taken}
 use Rattle.aout_core.proofs.item.take_waiting.Goals as goal

@@ -1,5 +1,4 @@
-use Rattle.std.proofs.Common.{◌∷◌, [], ◌∙◌, ltb, ap, replicate, rules, w8}
-use Rattle.std.proofs.lemmas.Simd.{tops_compared}
+use Rattle.std.proofs.{Common.{◌∷◌, [], ◌∙◌, ltb, ap, replicate, rules, w8}, lemmas.Simd.tops_compared}
 use lib.Lanes.{sel_l}
 use Rattle.aout_core.proofs.NameLemmas.{lanes_kept}
 use Rattle.aout_core.proofs.name.cut_at.Goals as goal

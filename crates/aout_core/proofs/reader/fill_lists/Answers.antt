@@ -1,6 +1,5 @@
 use Rattle.std.proofs.Common.{refl, ◌++◌, ◌/◌, ap, ◌∙◌, rules}
-use Rattle.aout_core.specs.internal.Rows.{row_in, word_in, reloc_in}
-use Rattle.aout_core.specs.{Contents.Contents, Decoding.symbol_in, Parts.contents_of}
+use Rattle.aout_core.specs.{internal.Rows.{row_in, word_in, reloc_in}, Contents.Contents, Decoding.symbol_in, Parts.contents_of}
 use Rattle.aout_core.proofs.BodyLemmas.{AreRows, rows_are_file, split_there}
 use Rattle.aout_core.proofs.reader.fill_lists.Goals as goal
 

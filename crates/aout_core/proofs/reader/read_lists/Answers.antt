@@ -1,11 +1,8 @@
-use Rattle.std.proofs.Common.{◌≡◌, refl, ◌++◌, ◌*◌, ◌/◌, ap, ◌∙◌, subst, sym, rules}
-use Rattle.std.proofs.lemmas.Result.{IfErr-weaker, IfOk-weaker}
+use Rattle.std.proofs.{Common.{◌≡◌, refl, ◌++◌, ◌*◌, ◌/◌, ap, ◌∙◌, subst, sym, rules}, lemmas.Result.{IfErr-weaker, IfOk-weaker}}
 use Rattle.std.specs.Prelude.{Err, IfErr}
-use Rattle.aout_core.specs.internal.Rows.{row_in, word_in, reloc_in}
-use Rattle.aout_core.specs.{Contents.Contents, internal.ReadParts.IsBodyRead, Decoding.symbol_in, Parts.contents_of}
-use Rattle.aout_core.specs.{internal.Blocks.Awaited, internal.Blocks.Takes}
-use Rattle.aout_core.proofs.BodyLemmas.{AreRows, all_rows, rows_are_body}
-use Rattle.aout_core.proofs.IncomingLemmas.{unread, ends_in_body, takes_more, took_body}
+use Rattle.aout_core.specs.{internal.Rows.{row_in, word_in, reloc_in}, Contents.Contents, internal.ReadParts.IsBodyRead, Decoding.symbol_in}
+use Rattle.aout_core.specs.{Parts.contents_of, internal.Blocks.{Awaited, Takes}}
+use Rattle.aout_core.proofs.{BodyLemmas.{AreRows, all_rows, rows_are_body}, IncomingLemmas.{unread, ends_in_body, takes_more, took_body}}
 use Rattle.aout_core.proofs.reader.read_lists.Goals as goal
 
 pub returns-in_err-take_items-2-clause-end : goal.returns-in_err-take_items-2-clause-end

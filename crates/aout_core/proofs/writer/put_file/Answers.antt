@@ -1,7 +1,6 @@
 use Rattle.std.proofs.Common.{◌++◌, sym, ◌∙◌, ap}
 use Rattle.std.specs.List.{flat_map}
-use Rattle.aout_core.specs.Encoding.{symbol_encoding, encoding}
-use Rattle.aout_core.specs.internal.Fronts.{to_table}
+use Rattle.aout_core.specs.{Encoding.{symbol_encoding, encoding}, internal.Fronts.to_table}
 use Rattle.aout_core.proofs.{FilePutLemmas.at_table, OutgoingLemmas.broke_then, OutgoingLemmas.puts_then}
 use Rattle.aout_core.proofs.writer.put_file.Goals as goal
 

@@ -1,6 +1,5 @@
 use Rattle.std.proofs.Common.{◌++◌, refl, sym, ◌∙◌, ap}
-use Rattle.aout_core.specs.Encoding.{reloc_encoding}
-use Rattle.aout_core.specs.internal.Fronts.{to_relocation, to_table}
+use Rattle.aout_core.specs.{Encoding.reloc_encoding, internal.Fronts.{to_relocation, to_table}}
 use Rattle.aout_core.proofs.OutgoingLemmas.{broke_then, puts_then}
 use Rattle.aout_core.proofs.writer.put_relocated.Goals as goal
 

@@ -1,5 +1,4 @@
-use Rattle.std.proofs.Common.{◌≡◌, ◌++◌, ◌∷◌, ◌∙◌, [], ap, sym, append_assoc, refl, rules}
-use Rattle.std.proofs.KnownBytes.{Consumes-trans}
+use Rattle.std.proofs.{Common.{◌≡◌, ◌++◌, ◌∷◌, ◌∙◌, [], ap, sym, append_assoc, refl, rules}, KnownBytes.Consumes-trans}
 use Rattle.command_words.proofs.ScriptLemmas.{goes_on, has_none_push, not_asked}
 use Rattle.command_words.proofs.line_reader.read_line.Goals as goal
 

@@ -1,5 +1,4 @@
-use Rattle.std.proofs.Common.{◌≡◌, ◌+◌, ◌≤◌, ◌∙◌, length, vec_len, refl, sym, rules, arith}
-use Rattle.std.proofs.lemmas.Bool.{eqb-false}
+use Rattle.std.proofs.{Common.{◌≡◌, ◌+◌, ◌≤◌, ◌∙◌, length, vec_len, refl, sym, rules, arith}, lemmas.Bool.eqb-false}
 use Rattle.std.specs.Io.KnownBytes.{prepend_known}
 use Rattle.command_words.specs.declared.line_reader.TheConstants.{LINES_LIMIT}
 use Rattle.command_words.proofs.ScriptLemmas.{line_known, last_known, long_known}

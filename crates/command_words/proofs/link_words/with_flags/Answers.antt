@@ -1,5 +1,4 @@
-use Rattle.std.proofs.Common.{ap, sym, refl, ◌∙◌, ◌+◌, drop, map}
-use Rattle.std.proofs.lemmas.List.{at_drop_more, drop_all}
+use Rattle.std.proofs.{Common.{ap, sym, refl, ◌∙◌, ◌+◌, drop, map}, lemmas.List.{at_drop_more, drop_all}}
 use Rattle.clap.specs.Simple.{App, app_of}
 use Rattle.command_words.specs.{Tools.with_rules, internal.FlagRules.flag_rule}
 use Rattle.command_words.proofs.ToolLemmas.{adds_rule}

@@ -2,8 +2,7 @@ use Rattle.std.proofs.Common.{◌≡◌, List, Some, None, option_map, length, f
 use Rattle.std.specs.Prelude.{bytes_eq, codes, string_bytes}
 use Rattle.clap.specs.{Simple.subcommand_rows_of, Walk.Row, Walk.Text, Walk.rows_of, Matches.found_of, Matches.subcommand_name_of}
 use Rattle.command_words.proofs.ToolLemmas.{asked_by_words, none_for_read, none_refused, none_with_dash, none_without_name, reads_none}
-use Rattle.command_words.proofs.ToolLemmas.{reads_subcommand, takes_words}
-use Rattle.command_words.proofs.WordsLemmas.{dashes-kept}
+use Rattle.command_words.proofs.{ToolLemmas.{reads_subcommand, takes_words}, WordsLemmas.dashes-kept}
 use Rattle.command_words.proofs.words.parse.Goals as goal
 
 pub returns : goal.returns

@@ -1,6 +1,5 @@
 use Rattle.std.proofs.Common.{true, ap, ◌∙◌}
-use Rattle.clap.specs.Simple.{app_of_fields, on_top}
-use Rattle.clap.specs.declared.builder.command.Command.{Command, Command-F}
+use Rattle.clap.specs.{Simple.{app_of_fields, on_top}, declared.builder.command.Command.{Command, Command-F}}
 use Rattle.command_words.proofs.words.tool.Goals as goal
 
 pub returns : goal.returns

@@ -1,8 +1,8 @@
 use Rattle.std.proofs.Common.{◌≡◌, ℕ, List, ◌++◌, get_or, replicate, ◌∙◌, ap, arith}
 use Rattle.disassemblies.specs.{Columns.columns, internal.Rows.with_digits}
 use Rattle.disassemblies.proofs.ColumnLemmas.{one_column, two_columns, three_columns}
-use Rattle.disassemblies.proofs.columns.put_columns.Goals as goal
 use Rattle.disassemblies.proofs.columns.put_columns.Goals.{then-words-gt1, else-words-gt1, then-words-gt2, else-words-gt2}
+use Rattle.disassemblies.proofs.columns.put_columns.Goals as goal
 
 pub returns : goal.returns
 returns c =

@@ -1,6 +1,5 @@
 use Rattle.std.proofs.Common.{◌≡◌, ℕ, List, ◌*◌, ◌<◌, ◌++◌, length, ◌∙◌, ap, arith, rules}
-use Rattle.aout_core.specs.Contents.{Contents}
-use Rattle.aout_core.specs.declared.symbol.Segment.TheVariants.{TextSeg}
+use Rattle.aout_core.specs.{Contents.Contents, declared.symbol.Segment.TheVariants.TextSeg}
 use Rattle.disassemblies.specs.{Columns.shown_words, Columns.labelled_rows, Columns.disassembly, Labels.labels}
 use Rattle.disassemblies.proofs.{StartLemmas.line_more, StartLemmas.end_more, ColumnLemmas.shown_some}
 use Rattle.disassemblies.proofs.columns.put_rows.Goals as goal

@@ -1,5 +1,4 @@
-use Rattle.std.proofs.Common.{◌≡◌, [], ◌+◌, ◌<◌, ◌≤◌, ◌++◌, length, sym, ◌∙◌, ap, arith, rules}
-use Rattle.std.proofs.lemmas.List.{append-nil}
+use Rattle.std.proofs.{Common.{◌≡◌, [], ◌+◌, ◌<◌, ◌≤◌, ◌++◌, length, sym, ◌∙◌, ap, arith, rules}, lemmas.List.append-nil}
 use Rattle.instructions.specs.{declared.unix.Decoder.TheVariants.Unix, declared.unix.UnixLine.UnixLine, UnixLines.unix_length}
 use Rattle.disassemblies.specs.{Listed.listed_line, internal.Swept.line_words, Starts.length_at, internal.Swept.swept}
 use Rattle.disassemblies.proofs.{StartLemmas.line_more, StartLemmas.end_more, ListedLemmas.listed_short}

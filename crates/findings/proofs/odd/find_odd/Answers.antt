@@ -1,7 +1,6 @@
 use Rattle.std.proofs.Common.{◌++◌}
 use Rattle.std.specs.List.{flat_map}
-use Rattle.aout_core.specs.Placed.{placed_words}
-use Rattle.aout_core.specs.declared.part.Part.TheVariants.{Text, Data}
+use Rattle.aout_core.specs.{Placed.placed_words, declared.part.Part.TheVariants.{Text, Data}}
 use Rattle.findings.specs.Odd.{odd_header, odd_word, odd_symbols}
 use Rattle.findings.proofs.SymbolLemmas.{four_parts}
 use Rattle.findings.proofs.odd.find_odd.Goals as goal

@@ -1,6 +1,5 @@
 use Rattle.std.proofs.Common.{◌≡◌, true, false, List, ℕ, None, take, get_or, refl, sym, ap, ◌∙◌, rules}
-use Rattle.std.specs.List.{list_any}
-use Rattle.std.specs.Option.{is_some}
+use Rattle.std.specs.{List.list_any, Option.is_some}
 use Rattle.gnu_objects.specs.{Staying.are_alike, internal.AlikeNames.found, internal.Externals.names_in}
 use Rattle.gnu_objects.proofs.ExternalLemmas.{has_next, is_apart, is_clash, no_names}
 use Rattle.gnu_objects.proofs.clash.first_clash.Goals as goal

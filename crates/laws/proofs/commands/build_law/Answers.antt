@@ -1,5 +1,5 @@
-use Rattle.laws.proofs.commands.build_law.Goals as goal
 use Rattle.laws.proofs.BuildLemmas.{builds_law, once_law, elsewhere}
+use Rattle.laws.proofs.commands.build_law.Goals as goal
 
 pub returns-clause-builds : goal.returns-clause-builds
 returns-clause-builds g c = builds_law _ _

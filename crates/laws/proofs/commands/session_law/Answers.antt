@@ -1,5 +1,5 @@
-use Rattle.laws.proofs.commands.session_law.Goals as goal
 use Rattle.laws.proofs.{SameDiskLemmas.same_disk, LinkLineLemmas.link_line, LinkLineLemmas.refused_line}
+use Rattle.laws.proofs.commands.session_law.Goals as goal
 
 pub returns-clause-linked : goal.returns-clause-linked
 returns-clause-linked g c = link_line _ _

@@ -1,5 +1,4 @@
-use Rattle.laws.proofs.InstructionPlaceLemmas.{instructions_there}
-use Rattle.laws.proofs.{OperandPlaceLemmas.operands_there, OperandPlaceLemmas.jumps_arrive}
+use Rattle.laws.proofs.{InstructionPlaceLemmas.instructions_there, OperandPlaceLemmas.{operands_there, jumps_arrive}}
 use Rattle.laws.proofs.links.instruction_law.Goals as goal
 
 pub returns-clause-instructions : goal.returns-clause-instructions

@@ -2,8 +2,7 @@ use Rattle.std.proofs.Common.{length, refl}
 use Rattle.disassemblies.specs.Starts.{starts}
 use Rattle.instructions.specs.declared.unix.Decoder.TheVariants.{Unix}
 use Rattle.link_maps.specs.Uses.{use_of}
-use Rattle.laws.proofs.MapPlaceLemmas.{is_shown, small_objects}
-use Rattle.laws.proofs.MapWordLemmas.{word_listed, word_of_name, words_of_names}
+use Rattle.laws.proofs.{MapPlaceLemmas.{is_shown, small_objects}, MapWordLemmas.{word_listed, word_of_name, words_of_names}}
 use Rattle.laws.proofs.links.map_law.Goals as goal
 
 pub returns-clause-addresses : goal.returns-clause-addresses

@@ -1,9 +1,8 @@
 use Rattle.link_laws.proofs.UndefinedLemmas.{names_have_addresses, missing_have_no_address}
-use Rattle.link_laws.proofs.{RelocatedLemmas.words_relocated, RelocatedLemmas.objects_fill, DefinedLemmas.definitions_hold}
-use Rattle.link_laws.proofs.{SaidLemmas.multiples_differ, ExternalLemmas.entries_once, CommonLemmas.commons_have_space}
-use Rattle.link_laws.proofs.{CommonLemmas.commons_apart, EntryPointLemmas.entry_is_found}
-use Rattle.link_out.proofs.partial_links.PartialTheorem.{may_be_added}
+use Rattle.link_laws.proofs.{RelocatedLemmas.{words_relocated, objects_fill}, DefinedLemmas.definitions_hold, SaidLemmas.multiples_differ}
+use Rattle.link_laws.proofs.{ExternalLemmas.entries_once, CommonLemmas.{commons_have_space, commons_apart}, EntryPointLemmas.entry_is_found}
 use Rattle.link_laws.proofs.meaning.meaning_law.Goals as goal
+use Rattle.link_out.proofs.partial_links.PartialTheorem.{may_be_added}
 
 pub returns-clause-words : goal.returns-clause-words
 returns-clause-words c = words_relocated

@@ -1,8 +1,8 @@
 use Rattle.std.proofs.Common.{◌≡◌, ◌∙◌, ◌++◌}
 use Rattle.link_session.specs.Undo.{image_of}
 use Rattle.link_out.specs.{function.Plans.plan_of, internal.Rows.rows_with}
-use Rattle.link_out.proofs.RowLemmas.{rows_planned}
 use Rattle.link_out.specs.internal.FromCells as from_cells
+use Rattle.link_out.proofs.RowLemmas.{rows_planned}
 use Rattle.link_out.proofs.externals.link_externals.Goals as goal
 
 pub returns-clause-rows : goal.returns-clause-rows

@@ -2,8 +2,8 @@ use Rattle.std.proofs.{Common.◌≡◌, Common.rules, Common.◌∙◌, Common.
 use Rattle.link_session.specs.Mentions.{names_by_first_mention}
 use Rattle.link_out.specs.internal.Planned.{plan_in, objects_in}
 use Rattle.link_out.proofs.RowLemmas.{many_rows, locals_counted, none_counted}
-use Rattle.tool_options.specs.declared.options.Keep.TheVariants as keeps
 use Rattle.link_out.proofs.kept_symbols.locals_within.Goals as goal
+use Rattle.tool_options.specs.declared.options.Keep.TheVariants as keeps
 
 pub returns-then-eq-clause-count : goal.returns-then-eq-clause-count
 returns-then-eq-clause-count c =

@@ -1,5 +1,4 @@
-use Rattle.std.proofs.Common.{arith, rules, ℕ, ◌++◌, List, get_or, ap, sym, ◌∙◌}
-use Rattle.std.proofs.lemmas.Grind.{common_steps}
+use Rattle.std.proofs.{Common.{arith, rules, ℕ, ◌++◌, List, get_or, ap, sym, ◌∙◌}, lemmas.Grind.common_steps}
 use Rattle.aout_core.proofs.PutsLemmas.{front_of_row, writes_in_part}
 use Rattle.link_out.proofs.linked.put_names.Goals as goal
 

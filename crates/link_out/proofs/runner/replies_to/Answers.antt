@@ -1,6 +1,5 @@
 use Rattle.std.proofs.Common.{◌≡◌, ◌++◌, ◌∷◌, [], map, List, subst, sym}
-use Rattle.link_out.specs.declared.edit.Reply.{Reply}
-use Rattle.link_out.specs.{Runs.change_of, internal.MadeEdits.AreDone}
+use Rattle.link_out.specs.{declared.edit.Reply.Reply, Runs.change_of, internal.MadeEdits.AreDone}
 use Rattle.link_out.proofs.RunLemmas.{one_more, one_more_done}
 use Rattle.link_out.proofs.runner.replies_to.Goals as goal
 

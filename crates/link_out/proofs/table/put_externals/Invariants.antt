@@ -1,6 +1,5 @@
 use Rattle.std.proofs.Common.{◌≡◌, ◌+◌, ◌≤◌, ◌++◌, length}
-use Rattle.std.specs.Prelude.{vec_len, vec_capacity}
-use Rattle.std.specs.Slice.Iter.{iter_rest}
+use Rattle.std.specs.{Prelude.{vec_len, vec_capacity}, Slice.Iter.iter_rest}
 use Rattle.link_out.specs.internal.Rows.{rows_with}
 use Rattle.link_out.proofs.table.put_externals.Given as goal
 

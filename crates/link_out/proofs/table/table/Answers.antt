@@ -4,8 +4,8 @@ use Rattle.link_session.specs.{Labelled.objects, Starts.no_starts, Undo.image_of
 use Rattle.link_out.specs.{function.Finals.Final, function.Tables.local_rows, function.Tables.external_rows, internal.Planned.plan_in}
 use Rattle.link_out.specs.{internal.Planned.objects_in, internal.Rows.rows_from, internal.Rows.rows_with, internal.Rows.kept_count}
 use Rattle.link_out.proofs.RowLemmas.{rows_from-local_rows, rows_planned, table_whole, length-local_rows}
-use Rattle.tool_options.specs.declared.options.Keep.TheVariants as keeps
 use Rattle.link_out.proofs.table.table.Goals as goal
+use Rattle.tool_options.specs.declared.options.Keep.TheVariants as keeps
 
 pub kept_locals-requires : goal.kept_locals-requires
 kept_locals-requires c =

@@ -1,5 +1,4 @@
-use Rattle.std.proofs.Common.{◌≡◌, None, List, slice_index_or, slice_set, ap, subst, ◌∙◌, rules}
-use Rattle.std.proofs.lemmas.List.{with_items_is}
+use Rattle.std.proofs.{Common.{◌≡◌, None, List, slice_index_or, slice_set, ap, subst, ◌∙◌, rules}, lemmas.List.with_items_is}
 use Rattle.std.specs.Vec.{with_items}
 use Rattle.link_session.specs.{declared.bind.Definition.Definition, declared.state.State.TheVariants.Defined}
 use Rattle.link_session.specs.{declared.state.State.TheVariants.Wanted, Image.state_at, internal.Chains.Link, internal.Bindings.BindsTo}

@@ -1,5 +1,4 @@
-use Rattle.std.proofs.Common.{get_or, ℕ, ◌≡◌, ◌+◌, ◌∷◌, List, drop, ap, ◌∙◌}
-use Rattle.std.proofs.lemmas.List.{drop_more}
+use Rattle.std.proofs.{Common.{get_or, ℕ, ◌≡◌, ◌+◌, ◌∷◌, List, drop, ap, ◌∙◌}, lemmas.List.drop_more}
 use Rattle.link_session.specs.internal.Bindings.{bindable_in, settled_all}
 use Rattle.link_session.proofs.BindingLemmas.{rest_then, back_then, few_then, settled_then}
 use Rattle.link_session.proofs.bind.bind_waiting.Goals as goal

@@ -3,8 +3,8 @@ use Rattle.std.specs.Vec.{with_items}
 use Rattle.link_session.specs.internal.Additions.{own_cells, placed_cells, place_at}
 use Rattle.link_session.specs.{declared.cell.Cell.Cell, Starts.shift_by, internal.Chains.threaded, internal.Threads.grown_heads}
 use Rattle.link_session.proofs.PlacedCellLemmas.{placed_texts, placed_datas}
-use Rattle.aout_core.specs.declared.symbol.Segment.TheVariants as segments
 use Rattle.link_session.proofs.join.append_object.Goals as goal
+use Rattle.aout_core.specs.declared.symbol.Segment.TheVariants as segments
 
 pub returns-clause-image : goal.returns-clause-image
 returns-clause-image c =

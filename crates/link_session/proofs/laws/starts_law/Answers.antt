@@ -1,8 +1,8 @@
 use Rattle.std.proofs.Common.{◌≡◌, ℕ, ◌%◌, List, refl, arith}
 use Rattle.aout_core.specs.{declared.symbol.Segment.Segment, Contents.Contents, Words.plus, Words.minus}
+use Rattle.aout_core.specs.declared.symbol.Segment.TheVariants as segments
 use Rattle.link_session.specs.Starts.{total, shift, starts_after, shifts_at, shift_by}
 use Rattle.link_session.proofs.StartLemmas.{next_starts-after}
-use Rattle.aout_core.specs.declared.symbol.Segment.TheVariants as segments
 use Rattle.link_session.proofs.laws.starts_law.Goals as goal
 
 less : (a b : ℕ) → minus (a % 65536) b ≡ minus a b

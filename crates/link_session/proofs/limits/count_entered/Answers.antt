@@ -1,5 +1,4 @@
-use Rattle.std.proofs.Common.{◌≡◌, [], length, ℕ, List, ap, ◌∙◌, arith}
-use Rattle.std.proofs.lemmas.Grind.{common_steps}
+use Rattle.std.proofs.{Common.{◌≡◌, [], length, ℕ, List, ap, ◌∙◌, arith}, lemmas.Grind.common_steps}
 use Rattle.std.specs.Map.{keys_of}
 use Rattle.link_session.specs.internal.NewNames.{with_all_new}
 use Rattle.link_session.proofs.NewNameLemmas.{length-all_new, length-keys}

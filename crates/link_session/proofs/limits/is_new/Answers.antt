@@ -2,8 +2,7 @@ use Rattle.std.proofs.Common.{◌≡◌, ◌∙◌, not, ap, true, false, rules}
 use Rattle.std.specs.Map.{keys_of}
 use Rattle.aout_core.specs.WellFormed.{is_external}
 use Rattle.tool_options.specs.NameLists.{is_among}
-use Rattle.link_session.proofs.LimitLemmas.{known_counts, unknown_counts}
-use Rattle.link_session.proofs.limits.is_new.Goals.{then-contains, else-contains}
+use Rattle.link_session.proofs.{LimitLemmas.{known_counts, unknown_counts}, limits.is_new.Goals.{then-contains, else-contains}}
 use Rattle.link_session.proofs.limits.is_new.Goals as goal
 
 pub returns-after-contains : goal.returns-after-contains

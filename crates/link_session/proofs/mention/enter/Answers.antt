@@ -6,8 +6,7 @@ use Rattle.indexmap.specs.declared.map.entry.Entry.TheVariants.{Occupied, Vacant
 use Rattle.link_session.specs.{declared.state.State.State, internal.Additions.place_in, internal.Additions.state_for, internal.Additions.changes}
 use Rattle.link_session.specs.{declared.mark.Mark.TheVariants.StateWas, declared.state.State.TheVariants.Wanted}
 use Rattle.link_session.specs.{internal.Updates.updated_state, internal.Updates.clashes}
-use Rattle.link_session.proofs.PlaceLemmas.{place_is, place_of-le, known_state, unknown_state}
-use Rattle.link_session.proofs.UpdateLemmas.{says_alone}
+use Rattle.link_session.proofs.{PlaceLemmas.{place_is, place_of-le, known_state, unknown_state}, UpdateLemmas.says_alone}
 use Rattle.link_session.proofs.PlainLemmas.{names_stay, no_mark}
 use Rattle.link_session.proofs.mention.enter.Goals as goal
 

@@ -1,5 +1,4 @@
-use Rattle.std.proofs.Common.{◌≡◌, ℕ, ◌++◌, List, length, drop, ap, sym, ◌∙◌, arith}
-use Rattle.std.proofs.lemmas.Grind.{common_steps}
+use Rattle.std.proofs.{Common.{◌≡◌, ℕ, ◌++◌, List, length, drop, ap, sym, ◌∙◌, arith}, lemmas.Grind.common_steps}
 use Rattle.link_session.specs.{Image.Named, internal.Additions.with_mentions, internal.Additions.mentions_by, internal.Additions.all_places}
 use Rattle.link_session.proofs.{MentionedLemmas.length-with_mentions, PlacedLemmas.noted_places, PlacedLemmas.noted-all}
 use Rattle.link_session.proofs.mention.enter_all.Goals as goal

@@ -2,8 +2,7 @@ use Rattle.std.proofs.Common.{◌≡◌, sym, ◌∙◌, ap, rules}
 use Rattle.std.specs.{Prelude.bytes_eq, List.position_or_len, Map.keys_of, Map.lookup}
 use Rattle.indexmap.specs.IndexMap.{insert_entry, set_value_at}
 use Rattle.link_session.specs.{declared.state.State.State, internal.Additions.state_for, internal.Updates.updated_state}
-use Rattle.link_session.proofs.PlaceLemmas.{place_is, known_state, unknown_state, written_again}
-use Rattle.link_session.proofs.UpdateLemmas.{says_alone}
+use Rattle.link_session.proofs.{PlaceLemmas.{place_is, known_state, unknown_state, written_again}, UpdateLemmas.says_alone}
 use Rattle.link_session.proofs.mention.update.Goals as goal
 
 pub returns-in-Some-clause-place : goal.returns-in-Some-clause-place

@@ -1,5 +1,4 @@
-use Rattle.std.proofs.Common.{◌≡◌, ◌+◌, ◌≤◌, [], map, length, ap, ◌∙◌, arith, rules}
-use Rattle.std.proofs.lemmas.List.{length-map}
+use Rattle.std.proofs.{Common.{◌≡◌, ◌+◌, ◌≤◌, [], map, length, ap, ◌∙◌, arith, rules}, lemmas.List.length-map}
 use Rattle.std.specs.Prelude.{vec_len, vec_capacity}
 use Rattle.link_session.specs.Mentions.{Mention, forced_mention, names_of}
 use Rattle.link_session.specs.{Image.Named, internal.Additions.with_mentions, internal.Threads.grown_heads}

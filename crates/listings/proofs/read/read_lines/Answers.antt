@@ -1,8 +1,6 @@
-use Rattle.std.proofs.{Common.◌<◌, Common.◌+◌, Common.◌∙◌, Common.length, Common.sym, Common.subst, Common.arith, Common.rules}
-use Rattle.std.proofs.lemmas.Result.{err_from_is_err_and}
+use Rattle.std.proofs.{Common.{◌<◌, ◌+◌, ◌∙◌, length, sym, subst, arith, rules}, lemmas.Result.err_from_is_err_and}
 use Rattle.listings.specs.{Reading.State, internal.Whole.IsDraft, internal.Lines.state_of}
-use Rattle.listings.proofs.DraftLemmas.{line_keeps}
-use Rattle.listings.proofs.ReadLemmas.{lines_on, runs_out_here, runs_out_on}
+use Rattle.listings.proofs.{DraftLemmas.line_keeps, ReadLemmas.{lines_on, runs_out_here, runs_out_on}}
 use Rattle.listings.proofs.read.read_lines.Goals as goal
 
 pub returns-in_err-read_line-clause-memory : goal.returns-in_err-read_line-clause-memory

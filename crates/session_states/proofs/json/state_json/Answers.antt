@@ -1,6 +1,5 @@
 use Rattle.std.proofs.Common.{◌≡◌, ◌∙◌, ap, false}
-use Rattle.std.specs.declared.alloc.Global.{Global}
-use Rattle.std.specs.Prelude.{ℕ, List, Vec}
+use Rattle.std.specs.{declared.alloc.Global.Global, Prelude.{ℕ, List, Vec}}
 use Rattle.link_session.specs.declared.mark.Mark.{Mark}
 use Rattle.session_states.specs.{Json.JsonText, Json.nothing_written, StateJson.session_json, StateJson.state_json}
 use Rattle.session_states.proofs.PutLemmas.{made}

@@ -1,5 +1,4 @@
-use Rattle.std.proofs.Common.{◌≡◌, ℕ, ◌-◌, ◌<◌, ◌≤◌, length, get_or, sym, ap, ◌∙◌, arith, rules}
-use Rattle.std.proofs.lemmas.List.{get_or_read}
+use Rattle.std.proofs.{Common.{◌≡◌, ℕ, ◌-◌, ◌<◌, ◌≤◌, length, get_or, sym, ap, ◌∙◌, arith, rules}, lemmas.List.get_or_read}
 use Rattle.std.specs.Prelude.{slice_index}
 use Rattle.suspicions.specs.Reached.{leads_to, visited_all, spread}
 use Rattle.suspicions.proofs.SpreadLemmas.{found_inside, spread_more, spread_all}

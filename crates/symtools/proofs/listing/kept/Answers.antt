@@ -1,6 +1,5 @@
 use Rattle.std.proofs.Common.{rules, ◌≡◌, ℕ, suc, zero, ◌<◌, Bool, true, false, cond, List, [], ◌∷◌, length, slice_index_or, filter, sym}
-use Rattle.std.proofs.Common.{◌∙◌, arith}
-use Rattle.std.proofs.{lemmas.Bool.cond-true, lemmas.Grind.common_steps, lemmas.Result.MatchResult-from_err}
+use Rattle.std.proofs.{Common.{◌∙◌, arith}, lemmas.Bool.cond-true, lemmas.Grind.common_steps, lemmas.Result.MatchResult-from_err}
 use Rattle.symtools.proofs.listing.kept.Goals as goal
 
 -- something is kept where one item passes

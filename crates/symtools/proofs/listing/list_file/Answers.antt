@@ -1,5 +1,4 @@
-use Rattle.std.proofs.Common.{rules, ℕ, List, ◌++◌, ◌∷◌, [], ◌∙◌, if◌then◌else◌, filter, ap, subst}
-use Rattle.std.proofs.KnownBytes.{Appends-trans}
+use Rattle.std.proofs.{Common.{rules, ℕ, List, ◌++◌, ◌∷◌, [], ◌∙◌, if◌then◌else◌, filter, ap, subst}, KnownBytes.Appends-trans}
 use Rattle.std.specs.{List.flat_map, Io.KnownBytes.Appends}
 use Rattle.aout_core.specs.{Wires.AppendsPrefix, declared.symbol.Symbol.Symbol}
 use Rattle.symtools.specs.{SymbolLines.symbol_line, NmLists.is_shown, NmLists.arranged}

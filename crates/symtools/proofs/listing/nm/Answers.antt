@@ -4,8 +4,7 @@ use Rattle.std.specs.{List.flat_map, Io.KnownBytes.Appends}
 use Rattle.aout_core.specs.Wires.{AppendsPrefix}
 use Rattle.symtools.specs.{SymbolLines.symbol_line, NmLists.is_shown, NmLists.arranged}
 use Rattle.aout_core.proofs.PutsLemmas.{front_of_row, put_broke_off}
-use Rattle.symtools.proofs.PutsLemmas.{not_failed, row_more}
-use Rattle.symtools.proofs.TextLemmas.{listed, lists_up_to, nm_text-listed}
+use Rattle.symtools.proofs.{PutsLemmas.{not_failed, row_more}, TextLemmas.{listed, lists_up_to, nm_text-listed}}
 use Rattle.symtools.proofs.listing.nm.Goals as goal
 
 pub returns-in_err-list_file-clause-bytes : goal.returns-in_err-list_file-clause-bytes

@@ -2,11 +2,9 @@ use Rattle.std.proofs.Common.{◌≡◌, ◌⊎◌, ℕ, List, Option, Result, O
 use Rattle.std.specs.Prelude.{IfErr, IfOk}
 use Rattle.aout_core.specs.Wires.{Latched}
 use Rattle.surroundings.specs.Events.{History}
-use Rattle.v7tools.specs.CommandRuns.{RunsWords}
-use Rattle.v7tools.specs.declared.fault.CliFault.{CliFault}
-use Rattle.v7tools.specs.declared.fault.CliFault.TheVariants.{Usage}
-use Rattle.v7.proofs.terminal.attempt_at_terminal.Goals as goal
+use Rattle.v7tools.specs.{CommandRuns.RunsWords, declared.fault.CliFault.CliFault, declared.fault.CliFault.TheVariants.Usage}
 use Rattle.v7.proofs.terminal.attempt_at_terminal.Goals.{then-is_typed, else-is_typed}
+use Rattle.v7.proofs.terminal.attempt_at_terminal.Goals as goal
 
 module _ {W : Type 0} (contents : W → Option (List ℕ)) (words : List (List ℕ)) (script : Option (List ℕ)) (old new : History)
     (before after : Latched W) (status : ℕ) where

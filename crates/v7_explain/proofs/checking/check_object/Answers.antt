@@ -1,6 +1,5 @@
-use Rattle.std.proofs.Common.{rules, ◌≡◌, eqb-true, sym, ◌∙◌}
+use Rattle.std.proofs.{Common.{rules, ◌≡◌, eqb-true, sym, ◌∙◌}, lemmas.List.nil_from_length}
 use Rattle.std.specs.Vec.{vec_len}
-use Rattle.std.proofs.lemmas.List.{nil_from_length}
 use Rattle.v7_explain.proofs.FoundLemmas.{said_nothing, said_odd}
 use Rattle.v7_explain.proofs.checking.check_object.Goals as goal
 

@@ -3,8 +3,8 @@ use Rattle.std.specs.Prelude.{Ok, Err}
 use Rattle.aout_core.specs.Refusals.{refused}
 use Rattle.v7_explain.specs.{Joined.joined, Joined.nothing_said, Runs.IsExplaining}
 use Rattle.v7_explain.proofs.ExplainingLemmas.{explaining_ends, explaining_more, explaining_stops, one_left}
-use Rattle.surroundings.specs.declared.answer.Fault.TheVariants as faults
 use Rattle.v7_explain.proofs.explaining.explain_each.Goals as goal
+use Rattle.surroundings.specs.declared.answer.Fault.TheVariants as faults
 
 pub returns-in-Err : goal.returns-in-Err
 returns-in-Err g c =

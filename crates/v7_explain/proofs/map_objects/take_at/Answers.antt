@@ -5,8 +5,7 @@ use Rattle.link_maps.specs.Members.{all_of}
 use Rattle.link_out.specs.Inputs.{object_in}
 use Rattle.link_session.specs.{Labelled.Labelled, Sessions.labelled}
 use Rattle.link_maps.proofs.TakingLemmas.{all_more}
-use Rattle.v7_explain.proofs.MapLemmas.{keeps_split}
-use Rattle.v7_explain.proofs.TakingLemmas.{takes_none, takes_object, takes_out, takes_unread}
+use Rattle.v7_explain.proofs.{MapLemmas.keeps_split, TakingLemmas.{takes_none, takes_object, takes_out, takes_unread}}
 use Rattle.v7_explain.proofs.map_objects.take_at.Goals as goal
 
 pub returns-clause-taken : goal.returns-clause-taken

@@ -1,13 +1,11 @@
-use Rattle.std.proofs.Common.{rules, ◌≡◌, ◌+◌, [], ap, drop, map, string_bytes, subst, sym}
-use Rattle.std.proofs.lemmas.List.{drop_all}
+use Rattle.std.proofs.{Common.{rules, ◌≡◌, ◌+◌, [], ap, drop, map, string_bytes, subst, sym}, lemmas.List.drop_all}
 use Rattle.std.specs.Prelude.{Err}
 use Rattle.aout_core.specs.Refusals.{refused}
 use Rattle.link_maps.specs.Members.{all_of}
 use Rattle.v7_explain.specs.internal.Takes.{TakesAll, TakesNext}
-use Rattle.v7_explain.proofs.{ExplainingLemmas.paths_left, TakingLemmas.all_taken, TakingLemmas.none_taken, TakingLemmas.taking_next}
-use Rattle.v7_explain.proofs.TakingLemmas.{TakenSoFar, taking_out}
-use Rattle.surroundings.specs.declared.answer.Fault.TheVariants as faults
+use Rattle.v7_explain.proofs.{ExplainingLemmas.paths_left, TakingLemmas.{all_taken, none_taken, taking_next, TakenSoFar, taking_out}}
 use Rattle.v7_explain.proofs.map_objects.take_objects.Goals as goal
+use Rattle.surroundings.specs.declared.answer.Fault.TheVariants as faults
 
 pub returns-in_err-take_next-clause-taken : goal.returns-in_err-take_next-clause-taken
 returns-in_err-take_next-clause-taken g c = λ none.

@@ -1,5 +1,4 @@
-use Rattle.std.proofs.Common.{◌∙◌, ◌∷◌, ◌++◌, ap, sym, arith, rules}
-use Rattle.std.proofs.lemmas.Str.Pattern.{split_parts}
+use Rattle.std.proofs.{Common.{◌∙◌, ◌∷◌, ◌++◌, ap, sym, arith, rules}, lemmas.Str.Pattern.split_parts}
 use Rattle.v7_from_gnu.specs.Calls.{after_slash}
 use Rattle.v7_from_gnu.proofs.SlashLemmas.{no_slash, slash_passed}
 use Rattle.v7_from_gnu.proofs.arguments.after_slash.Goals as goal

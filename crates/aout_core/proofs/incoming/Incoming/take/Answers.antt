@@ -1,6 +1,5 @@
 use Rattle.std.proofs.Common.{◌≡◌, ◌-◌, ◌≤◌, [], List, ℕ, ◌++◌, length, take, drop, arith, rules, ap, ◌∙◌, subst, sym, append-nil}
-use Rattle.std.proofs.Common.{length-drop}
-use Rattle.std.proofs.lemmas.List.{drop_all, take_rest}
+use Rattle.std.proofs.{Common.length-drop, lemmas.List.{drop_all, take_rest}}
 use Rattle.std.specs.{Prelude.Err, Prelude.IfErr, Io.KnownBytes.prepend_known}
 use borrow.Rule.Slice.PartMut.{post_of}
 use Rattle.aout_core.specs.internal.Blocks.{Awaited, awaited, EndsBefore, Refills, Takes}

@@ -1,5 +1,4 @@
-use Rattle.std.proofs.Common.{arith, ◌≡◌, ◌++◌, take, drop, ap, sym, ◌∙◌, append_assoc, take-append-drop}
-use Rattle.std.proofs.lemmas.Grind.{common_steps}
+use Rattle.std.proofs.{Common.{arith, ◌≡◌, ◌++◌, take, drop, ap, sym, ◌∙◌, append_assoc, take-append-drop}, lemmas.Grind.common_steps}
 use Rattle.aout_core.proofs.OutgoingLemmas.{broke_before, broke_off}
 use Rattle.aout_core.proofs.outgoing.Outgoing.put.Goals as goal
 

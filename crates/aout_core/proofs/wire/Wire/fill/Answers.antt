@@ -1,6 +1,5 @@
 use Rattle.std.proofs.Common.{◌≡◌, ℕ, ◌+◌, ◌-◌, ◌≤◌, List, ◌++◌, rules, arith, length, take, slice_range, sym, ap, ◌∙◌, subst, le_refl}
-use Rattle.std.proofs.Common.{drop_at, length-take-le}
-use Rattle.std.proofs.{lemmas.Slice.take-put_mid_below, KnownBytes.Consumes-trans}
+use Rattle.std.proofs.{Common.{drop_at, length-take-le}, lemmas.Slice.take-put_mid_below, KnownBytes.Consumes-trans}
 use Rattle.std.specs.Io.KnownBytes.{Consumes}
 use borrow.Rule.Slice.PartMut.{put_mid, post_of}
 use lib.Seq.{take-add, take-append-le}

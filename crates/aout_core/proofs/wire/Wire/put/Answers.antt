@@ -1,6 +1,5 @@
 use Rattle.std.proofs.Common.{rules, arith, ◌≡◌, ◌==◌, ℕ, ◌-◌, false, List, [], ◌∷◌, ◌++◌, length, take, drop, sym, ap, ◌∙◌, append_assoc}
-use Rattle.std.proofs.Common.{take-append-drop, length-append, true≢false}
-use Rattle.std.proofs.{lemmas.List.take_rest, KnownBytes.Appends-trans}
+use Rattle.std.proofs.{Common.{take-append-drop, length-append, true≢false}, lemmas.List.take_rest, KnownBytes.Appends-trans}
 use Rattle.aout_core.proofs.wire.Wire.put.Goals as goal
 
 moves_front : (all done rest : List ℕ) (n : ℕ) → all ≡ done ++ rest → all ≡ (done ++ take n rest) ++ take (length rest - n) (drop n rest)

@@ -1,5 +1,4 @@
-use Rattle.std.proofs.Common.{◌≡◌, ◌<◌, ◌≤◌, Some, length, ◌∙◌, ap, sym, rules}
-use Rattle.std.proofs.lemmas.Option.{slice_get-get_or, slice_get_past}
+use Rattle.std.proofs.{Common.{◌≡◌, ◌<◌, ◌≤◌, Some, length, ◌∙◌, ap, sym, rules}, lemmas.Option.{slice_get-get_or, slice_get_past}}
 use Rattle.std.specs.Prelude.{slice_get}
 use Rattle.aout_core.specs.Contents.{Contents}
 use Rattle.disassemblies.specs.Starts.{swept_line}

@@ -1,7 +1,6 @@
 use Rattle.std.proofs.Common.{filter, ◌∙◌, ap}
 use Rattle.aout_core.specs.declared.symbol.Segment.TheVariants.{TextSeg}
-use Rattle.link_maps.specs.internal.Labels.{first_from}
-use Rattle.link_maps.specs.References.{is_function}
+use Rattle.link_maps.specs.{internal.Labels.first_from, References.is_function}
 use Rattle.link_maps.proofs.LabelLemmas.{nearest_among}
 use Rattle.link_maps.proofs.labels.Labels.nearest_function.Goals as goal
 

@@ -1,10 +1,9 @@
 use Rattle.std.proofs.Common.{◌≡◌, ◌++◌, ◌∷◌, [], map, Option, None, Some, ◌∙◌, refl, sym, subst, rules}
 use Rattle.aout_core.specs.Refusals.{refused}
 use Rattle.link_session.specs.{declared.entry.AddFault.AddFault, declared.entry.AddFault.TheVariants.Memory, Labelled.objects}
-use Rattle.link_session.specs.{Limits.refusal, Undo.Kept, Undo.marks_in, Sessions.IsCause, Sessions.Adds, Sessions.labelled}
-use Rattle.link_session.specs.{internal.Fields.image_in, internal.Fields.threads_in, internal.Fields.IsSession}
-use Rattle.link_session.specs.{internal.Additions.next_limit, internal.Additions.joined_image, internal.Threads.next_threads}
-use Rattle.link_session.specs.{internal.Restores.TakesBack, declared.session.UndoRecord.UndoRecord}
+use Rattle.link_session.specs.{Limits.refusal, Undo.{Kept, marks_in}, Sessions.{IsCause, Adds, labelled}}
+use Rattle.link_session.specs.{internal.Fields.{image_in, threads_in, IsSession}, internal.Additions.{next_limit, joined_image}}
+use Rattle.link_session.specs.{internal.Threads.next_threads, internal.Restores.TakesBack, declared.session.UndoRecord.UndoRecord}
 use Rattle.link_session.proofs.SessionLemmas.{small, session_covered, refusal-fields, added_session, adds}
 use Rattle.link_session.proofs.session.Session.add.Goals as goal
 

@@ -1,5 +1,4 @@
-use Rattle.std.proofs.Common.{arith, ◌≡◌, ◌++◌, ◌∷◌, [], ◌∙◌, ap, sym, subst, rules}
-use Rattle.std.proofs.lemmas.Grind.{common_steps}
+use Rattle.std.proofs.{Common.{arith, ◌≡◌, ◌++◌, ◌∷◌, [], ◌∙◌, ap, sym, subst, rules}, lemmas.Grind.common_steps}
 use Rattle.link_session.specs.internal.Fields.{image_in, threads_in, threads_by, with_heads_back, IsSession}
 use Rattle.link_session.specs.{Labelled.objects, Image.image, Undo.undo}
 use Rattle.link_session.proofs.SessionLemmas.{at_least, kept_sizes, withdrawn_session}

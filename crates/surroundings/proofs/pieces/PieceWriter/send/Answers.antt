@@ -1,7 +1,6 @@
-use Rattle.surroundings.specs.declared.pieces.TheConstants.{PIECE_SIZE}
+use Rattle.surroundings.specs.{declared.pieces.TheConstants.PIECE_SIZE, Pieces.Held}
 use Rattle.std.proofs.Common.{◌-◌, ◌≤◌, drop, length, ap, ◌∙◌, arith}
 use Rattle.aout_core.proofs.BlockLemmas.{slice_range-front, length-slice_range}
-use Rattle.surroundings.specs.Pieces.{Held}
 use Rattle.surroundings.proofs.PieceLemmas.{sent}
 use Rattle.surroundings.proofs.pieces.PieceWriter.send.Goals as goal
 

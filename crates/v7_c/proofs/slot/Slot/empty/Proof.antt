@@ -17,17 +17,13 @@ use denote.RawPtr.{null_ptr, ptr_val}
 use denote.Steps.{nothing}
 use denote.Param.{layout}
 use denote.Triple.Walked.{Stays, stay_dropped, walk_of}
-use Rattle.core.proofs.alloc.Calls.{Goes-blank}
-use Rattle.core.proofs.cell.Inside.{one}
+use Rattle.core.proofs.{alloc.Calls.Goes-blank, cell.Inside.one}
 use Rattle.std.proofs.raw_atomic.Walks.{proved_at, leaves}
-use Rattle.std.specs.Prelude.{None}
 use Rattle.std.proofs.alloc.Global.TheLaws as heap_laws
-use Rattle.v7_c.proofs.LooseValues.{both}
-use Rattle.v7_c.proofs.Values.{Z, slot_in, null_good}
-use Rattle.v7_c.specs.contracts.slot.Slot.empty.{ended, clauses}
-use Rattle.v7_c.specs.contracts.slot.Slot.empty.Key.{name as #self}
-use Rattle.v7_c.proofs.slot.Slot.empty.Statement.{statement}
+use Rattle.std.specs.Prelude.{None}
+use Rattle.v7_c.proofs.{LooseValues.both, Values.{Z, slot_in, null_good}, slot.Slot.empty.Statement.statement}
 use Rattle.v7_c.proofs.slot.Slot.empty.Code as code
+use Rattle.v7_c.specs.{contracts.slot.Slot.empty.{ended, clauses}, contracts.slot.Slot.empty.Key.name as #self}
 
 pub empty_spec : {M : Type 1} → statement M
 empty_spec 𝓤 𝓛 𝓜 𝓡 wired =

@@ -18,16 +18,13 @@ use denote.Steps.{nothing, heard}
 use denote.Triple.Walked.{Stays, stay_dropped, walk_of}
 use Rattle.core.proofs.alloc.Calls.{Goes-blank}
 use Rattle.std.proofs.raw_atomic.Walks.{proved_at, leaves}
-use Rattle.std.specs.Prelude.{Some, IsSome}
 use Rattle.std.proofs.alloc.Global.TheLaws as heap_laws
-use Rattle.std.specs.contracts.impls.GlobalAllocator.TheImpl.{ghosts}
-use Rattle.v7_c.proofs.LooseValues.{both, loose_good, loose_in}
-use Rattle.v7_c.proofs.Values.{R, Z, slot_out, some_of}
-use Rattle.v7_c.specs.contracts.slot.Slot as slot
-use Rattle.v7_c.specs.contracts.slot.Slot.into_loose.{ended, clauses}
-use Rattle.v7_c.specs.contracts.slot.Slot.into_loose.Key.{name as #self}
+use Rattle.std.specs.{Prelude.{Some, IsSome}, contracts.impls.GlobalAllocator.TheImpl.ghosts}
+use Rattle.v7_c.proofs.{LooseValues.{both, loose_good, loose_in}, Values.{R, Z, slot_out, some_of}}
 use Rattle.v7_c.proofs.slot.Slot.into_loose.Statement.{statement}
 use Rattle.v7_c.proofs.slot.Slot.into_loose.Code as code
+use Rattle.v7_c.specs.{contracts.slot.Slot.into_loose.{ended, clauses}, contracts.slot.Slot.into_loose.Key.name as #self}
+use Rattle.v7_c.specs.contracts.slot.Slot as slot
 
 pub into_loose_spec : {M : Type 1} → statement M
 into_loose_spec 𝓤 𝓛 𝓜 𝓡 wired =

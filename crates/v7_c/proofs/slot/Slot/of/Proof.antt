@@ -18,15 +18,11 @@ use denote.Steps.{nothing}
 use denote.Triple.Walked.{Stays, stay_dropped, walk_of}
 use Rattle.core.proofs.alloc.Calls.{Goes-blank}
 use Rattle.std.proofs.raw_atomic.Walks.{proved_at, leaves}
-use Rattle.std.specs.Prelude.{Some}
 use Rattle.std.proofs.alloc.Global.TheLaws as heap_laws
-use Rattle.std.specs.contracts.impls.GlobalAllocator.TheImpl.{ghosts}
+use Rattle.std.specs.{Prelude.Some, contracts.impls.GlobalAllocator.TheImpl.ghosts}
+use Rattle.v7_c.specs.{contracts.slot.Slot.of.{ended, clauses}, contracts.slot.Slot.of.Key.name as #self}
 use Rattle.v7_c.specs.contracts.loose.Loose as loose
-use Rattle.v7_c.proofs.LooseValues.{both, loose_good, loose_out}
-use Rattle.v7_c.proofs.Values.{R, Z, slot_in}
-use Rattle.v7_c.specs.contracts.slot.Slot.of.{ended, clauses}
-use Rattle.v7_c.specs.contracts.slot.Slot.of.Key.{name as #self}
-use Rattle.v7_c.proofs.slot.Slot.of.Statement.{statement}
+use Rattle.v7_c.proofs.{LooseValues.{both, loose_good, loose_out}, Values.{R, Z, slot_in}, slot.Slot.of.Statement.statement}
 use Rattle.v7_c.proofs.slot.Slot.of.Code as code
 
 pub of_spec : {M : Type 1} → statement M

@@ -1,6 +1,5 @@
 use Rattle.std.proofs.Common.{rules, ◌≡◌, [], ◌∷◌, ◌++◌, string_bytes}
-use Rattle.v7tools.proofs.EventLemmas.{one_more, passed_on}
-use Rattle.v7tools.proofs.FileRunLemmas.{stops_storing, strip_at, strips_more}
+use Rattle.v7tools.proofs.{EventLemmas.{one_more, passed_on}, FileRunLemmas.{stops_storing, strip_at, strips_more}}
 use Rattle.v7tools.proofs.files.commands.store_stripped.Goals as goal
 
 pub loop-path-preserved : goal.loop-path-preserved

@@ -1,6 +1,5 @@
 use Rattle.std.proofs.Common.{rules, ◌≡◌, refl, string_bytes}
-use Rattle.v7tools.proofs.EventLemmas.{passed_on, stored_at}
-use Rattle.v7tools.proofs.LinkRunLemmas.{no_link, not_opened, stores_link}
+use Rattle.v7tools.proofs.{EventLemmas.{passed_on, stored_at}, LinkRunLemmas.{no_link, not_opened, stores_link}}
 use Rattle.v7tools.proofs.link.command.link_files.Goals as goal
 
 pub returns-in_err-inputs-clause-run : goal.returns-in_err-inputs-clause-run

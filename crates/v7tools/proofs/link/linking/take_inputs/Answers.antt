@@ -1,7 +1,5 @@
-use Rattle.std.proofs.Common.{◌≡◌, Ok, refl, sym, ap, subst, ◌∙◌, inl, inr, string_bytes}
-use Rattle.std.proofs.lemmas.List.{nil_from_length}
-use Rattle.v7tools.specs.LinkAnswers.{inputs_of, Input, said_by, TakesAll}
-use Rattle.v7tools.specs.internal.InputParts.{StopsWith}
+use Rattle.std.proofs.{Common.{◌≡◌, Ok, refl, sym, ap, subst, ◌∙◌, inl, inr, string_bytes}, lemmas.List.nil_from_length}
+use Rattle.v7tools.specs.{LinkAnswers.{inputs_of, Input, said_by, TakesAll}, internal.InputParts.StopsWith}
 use Rattle.link_session.specs.Undo.{Kept}
 use Rattle.v7tools.proofs.StepLemmas.{is_device_fault, worked_before, worked_unless}
 use Rattle.v7tools.proofs.{AdditionLemmas.forced_kept, AnswerLemmas.stops_at, AnswerLemmas.takes_accepted}

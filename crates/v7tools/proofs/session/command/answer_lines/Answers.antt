@@ -1,8 +1,7 @@
 use Rattle.std.proofs.Common.{arith, rules, ◌≡◌, ◌+◌, Some, None, Ok, ap, subst, refl, ◌∙◌}
 use Rattle.command_words.specs.{ScriptAnswers.Answer, ScriptAnswers.Progress, ScriptAnswers.lines_of}
-use Rattle.v7tools.proofs.SessionRunLemmas.{all_run, broke_off, run_up_to, runs_more}
-use Rattle.v7tools.proofs.SessionRunLemmas.{runs_none}
-use Rattle.v7tools.proofs.{EventLemmas.passed_on, ScriptCallLemmas.gave_end, ScriptCallLemmas.gave_line}
+use Rattle.v7tools.proofs.{SessionRunLemmas.{all_run, broke_off, run_up_to, runs_more, runs_none}, EventLemmas.passed_on}
+use Rattle.v7tools.proofs.ScriptCallLemmas.{gave_end, gave_line}
 use Rattle.v7tools.proofs.session.command.answer_lines.Goals as goal
 
 pub loop-init : goal.loop-init

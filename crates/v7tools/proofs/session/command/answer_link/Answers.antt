@@ -1,6 +1,5 @@
 use Rattle.aout_core.specs.Refusals.{device_fault}
-use Rattle.std.proofs.lemmas.Result.{IfOk-from_err}
-use Rattle.std.proofs.Common.{◌≡◌, ℕ, Ok, Err, None, refl}
+use Rattle.std.proofs.{lemmas.Result.IfOk-from_err, Common.{◌≡◌, ℕ, Ok, Err, None, refl}}
 use Rattle.link_session.specs.Labelled.{objects}
 use Rattle.link_out.specs.function.Link.{link}
 use Rattle.command_words.specs.Scripts.{to_link}

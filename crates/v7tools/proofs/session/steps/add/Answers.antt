@@ -1,5 +1,4 @@
-use Rattle.std.proofs.lemmas.Result.{IfOk-from_err}
-use Rattle.std.proofs.Common.{Ok, ◌∙◌, ap, refl}
+use Rattle.std.proofs.{lemmas.Result.IfOk-from_err, Common.{Ok, ◌∙◌, ap, refl}}
 use Rattle.std.specs.Prelude.{string_bytes}
 use Rattle.link_session.specs.Undo.{Kept}
 use Rattle.v7tools.specs.{declared.session.commands.Step.TheVariants.Done, Answers.add_step, FaultTexts.cli_text}

@@ -1,10 +1,8 @@
-use Rattle.std.proofs.lemmas.Result.{IfOk-from_err}
-use Rattle.std.proofs.Common.{◌≡◌, None, Ok, Err, refl}
+use Rattle.std.proofs.{lemmas.Result.IfOk-from_err, Common.{◌≡◌, None, Ok, Err, refl}}
 use Rattle.std.specs.Prelude.{string_bytes}
 use Rattle.link_session.specs.{Edits.last_of, Labelled.objects}
 use Rattle.link_out.specs.function.Link.{link}
-use Rattle.v7tools.specs.declared.session.commands.Step.{Step}
-use Rattle.v7tools.specs.declared.session.commands.Step.TheVariants.{Done, Refused}
+use Rattle.v7tools.specs.{declared.session.commands.Step.Step, declared.session.commands.Step.TheVariants.{Done, Refused}}
 use Rattle.v7tools.specs.Answers.{step, adding, absent, listing_externals, listing_undefined, anything_else, withdraw_step}
 use Rattle.aout_core.proofs.PutsLemmas.{writes_broke_off}
 use Rattle.v7tools.proofs.StepLemmas.{written_whole, refused_verdict, added_over, links_not, links_to, refused_by, refused_with}

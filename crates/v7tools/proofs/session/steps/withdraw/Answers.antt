@@ -1,5 +1,4 @@
-use Rattle.std.proofs.lemmas.Result.{IfOk-from_err}
-use Rattle.std.proofs.Common.{refl, rules}
+use Rattle.std.proofs.{lemmas.Result.IfOk-from_err, Common.{refl, rules}}
 use Rattle.aout_core.proofs.PutsLemmas.{writes_broke_off}
 use Rattle.v7tools.specs.declared.session.commands.Step.TheVariants.{Refused}
 use Rattle.v7tools.proofs.StepLemmas.{written_whole, takes_last, takes_none}
