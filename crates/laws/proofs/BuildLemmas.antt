@@ -1,25 +1,25 @@
 -- Builds, step by step: what the file at each path stands for.
-use Rattle.std.proofs.Common.{rules, ◌≡◌, ◌⊎◌, ℕ, ◌≤◌, Bool, true, false, cond, List, [], ◌∷◌, ◌++◌, map, length, Option, Some, None}
+use Rattle.std.proofs.Common.{◌≡◌, ◌⊎◌, ℕ, ◌≤◌, Bool, true, false, cond, List, [], ◌∷◌, ◌++◌, map, length, Option, Some, None}
 use Rattle.std.proofs.Common.{Result, Ok, Err, IsErr, append-nil, refl, sym, ap, ◌∙◌, subst, inl, inr, arith}
-use Rattle.std.specs.{Prelude.{◌≢◌, bytes_eq, eqb, if◌then◌else◌, is_err}, List.{AllByRecursion, flat_map}}
+use Rattle.std.specs.{Prelude.{bytes_eq, eqb, if◌then◌else◌, is_err}, List.{AllByRecursion, flat_map}}
 use Rattle.aout_core.specs.{Contents.{Contents, IsSound}, Decoding.decode, Encoding.encoding, WellFormed.IsWellFormed, Words.AreBytes}
 use Rattle.aout_core.proofs.{EncodingLemmas.decode-encoding, EncodesLemmas.decoded_sound}
 use Rattle.link_session.specs.{Limits.limit_passed, Labelled.{Labelled, objects}, Mentions.mentions, States.multiple_names}
 use Rattle.link_session.proofs.ListLemmas.{all_split}
 use Rattle.laws.proofs.BuildObjects.{was_read, AreFrom, AreInto, AreObjects, GroupInto, group_both, linked_alike, none_within, not_both}
-use Rattle.laws.proofs.BuildObjects.{object_read, objects_append, objects_split, same_fault, same_objects, same_value, taken}
+use Rattle.laws.proofs.{LeftLemmas.same_value, BuildRuns.{Did, IsNone, Stores, StoredLink, answer_by_bytes, did, refusal_line, stored_link}}
+use Rattle.laws.proofs.BuildObjects.{object_read, objects_append, objects_split, same_fault, same_objects, taken}
+use Rattle.laws.proofs.SameDiskLemmas.{elsewhere as untouched}
 use Rattle.laws.proofs.{BuildObjects.{all_well_formed, linked_too, none_too, taken_too}, BuildSounds.{forced_are_names, partial_is_sound}}
-use Rattle.laws.proofs.BuildRuns.{Did, IsNone, Stores, StoredLink, answer_by_bytes, did, refusal_line, stored_link}
+use Rattle.link_out.specs.{declared.linked.LinkFault.LinkFault, Outcomes.outcome_of, laws.PartialLinks.IsPartialLink}
 use Rattle.link_out.specs.{Inputs.{Refusal, linked, not_linked, object_in, with_inputs}, Steps.{and_then, refused_as}}
 use Rattle.link_out.specs.{function.Link.{Outcome, link}, function.Reports.{ReportNames, report_text, status_of}}
-use Rattle.link_out.specs.{declared.linked.LinkFault.LinkFault, Outcomes.outcome_of, laws.PartialLinks.IsPartialLink}
 use Rattle.link_out.proofs.partial_links.PartialTheorem.{relocatable_is_object}
 use Rattle.tool_options.specs.{declared.options.Keep.Keep, Choices.Choices}
 use Rattle.surroundings.specs.{Events.{Opened, opens, stored}, declared.office.Stored.TheVariants.Kept}
-use Rattle.link_laws.specs.PartialLinksAmongOthers.{grouped}
-use Rattle.laws.specs.{Disks.{Disk, Run, IsOn, Writes, disk_after, with_file}, SessionsByCommands.Says}
 use Rattle.laws.specs.Builds.{AreLdRuns, BuildsLaw, Command, EndAlike, IsBuild, NoneIsMultiple, OnceLaw, ElsewhereLaw, Holds, IsLdRun}
 use Rattle.laws.specs.Builds.{Leaves, MayReplace, SayAlike, StoreAlike, at_once, disk_left, itself, leaves_after, leaves_of}
+use Rattle.laws.specs.{PartialLinksAmongOthers.grouped, Disks.{Disk, Run, IsOn, Writes, disk_after, with_file}, SessionsByCommands.Says}
 
 -- ---- lists of files
 
@@ -222,9 +222,6 @@ module _ (forced : List (List ℕ)) (less : Keep) (disk : Disk) where
           }
 
 -- ---- a step
-
-untouched : (disk : Disk) (at path : List ℕ) (bytes : Option (List ℕ)) → at ≢ path → with_file disk at bytes path ≡ disk path
-untouched disk at path bytes other = search rules
 
 opens_nothing : (disk : Disk) (found : List Opened) (out : List ℕ) (file : Contents) →
     disk_after disk (opens found ++ stored out file Kept ∷ []) ≡ with_file disk out (Some (encoding file))

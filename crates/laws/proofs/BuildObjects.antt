@@ -10,8 +10,8 @@ use Rattle.link_session.proofs.{LimitLemmas.length-new_names, TotalLemmas.limit_
 use Rattle.link_out.specs.Inputs.{Cause, Refusal, bad_object, not_added, not_linked, at_path, kept_with, object_in, with_inputs, linked}
 use Rattle.link_out.specs.{Steps.{and_then, refused_as, unless}, function.Link.{Outcome, link}}
 use Rattle.tool_options.specs.{declared.options.Keep.Keep, Choices.Choices}
-use Rattle.link_laws.specs.PartialLinksAmongOthers.{IsGrouped, ungrouped, grouped}
-use Rattle.link_laws.proofs.GroupingLemmas.{grouping_changes_nothing, is_accepted}
+use Rattle.laws.specs.PartialLinksAmongOthers.{IsGrouped, ungrouped, grouped}
+use Rattle.laws.proofs.{GroupingLemmas.{grouping_changes_nothing, is_accepted}, LeftLemmas.same_value}
 
 -- ---- the objects in files
 
@@ -20,9 +20,6 @@ abbrev pub AreObjects : List (List ℕ × List ℕ) → List Contents → Type 0
 AreObjects [] [] = Unit {0}
 AreObjects (f ∷ fs) (o ∷ os) = (object_in (decode f.1) ≡ Ok o) × AreObjects fs os
 AreObjects _ _ = ⊥
-
-pub same_value : {A E : Type 0} (a b : A) → (let x : Result A E = Ok a in let y : Result A E = Ok b in x ≡ y) → a ≡ b
-same_value a b e = cc
 
 pub same_fault : {A E : Type 0} (a b : E) → (let x : Result A E = Err a in let y : Result A E = Err b in x ≡ y) → a ≡ b
 same_fault a b e = cc

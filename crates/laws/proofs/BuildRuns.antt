@@ -8,20 +8,20 @@ use Rattle.link_out.specs.{declared.linked.Linked.Linked, FaultTexts.link_text, 
 use Rattle.link_out.specs.{Results.Outcome, function.Reports.report_text, function.Reports.status_of}
 use Rattle.link_out.specs.Inputs.{Refusal, linked, of_input, not_linked, bad_file, bad_object, not_added}
 use Rattle.link_out.specs.declared.linked.LinkFault.TheVariants as links
-use Rattle.surroundings.specs.{Events.{Event, Extends, Opened, opens, paths_of, stored}, declared.office.Stored.Stored}
 use Rattle.surroundings.specs.declared.office.Stored.TheVariants.{Kept, NotCreated, Failed}
+use Rattle.surroundings.specs.{Events.{Event, Extends, Opened, opens, paths_of, stored}, declared.office.Stored.Stored}
 use Rattle.v7tools.specs.LinkRuns.{IsLinkOfFiles, Refuses, Reports, ReportsIf}
 use Rattle.v7tools.specs.{CommandRuns.Ends, FaultTexts.cause_text, FaultTexts.cli_text, FaultTexts.fault_line}
 use Rattle.v7tools.specs.{LinkAnswers.IsLinkOfBytes, LinkAnswers.IsTrueOf, LinkAnswers.said_by, declared.fault.CliFault.CliFault}
 use Rattle.v7tools.specs.declared.fault.CliFault.TheVariants as faults
-use Rattle.laws.specs.{Disks.{Disk, IsOn, Run, Writes}, SessionsByCommands.{AreThere, CannotRead, CannotWrite, IsOpening, RunsLd, Says}}
 use Rattle.laws.specs.Builds.{Command, Holds, IsDisturbed, EndsInRefusal, IsLdRun}
+use Rattle.laws.specs.{Disks.{Disk, IsOn, Run, Writes}, SessionsByCommands.{AreThere, CannotRead, CannotWrite, IsOpening, RunsLd, Says}}
 use Rattle.laws.proofs.{LeftLemmas.bytes_of, CallLemmas.link_call, LinkLineLemmas.{all_openings, bytes_say}}
 use Rattle.link_session.specs.declared.entry.AddFault.TheVariants as adds
 
 -- ---- files with known bytes
 
-abbrev known : List (List ℕ × List ℕ) → List Opened
+abbrev pub known : List (List ℕ × List ℕ) → List Opened
 known files = map (λ (f : List ℕ × List ℕ). (f.0, Some f.1)) files
 
 known_bytes : (files : List (List ℕ × List ℕ)) → bytes_of (known files) ≡ files

@@ -2,34 +2,34 @@
 use Rattle.std.proofs.Common.{◌≡◌, ℕ, ◌+◌, ◌-◌, ◌%◌, ◌<◌, ◌≤◌, Bool, true, false, not, cond, ◌||◌, max, eqb, List, [], ◌∷◌, ◌++◌, map}
 use Rattle.std.proofs.Common.{length, zero, suc, take, Option, Some, None, Ok, Err, refl, sym, ap, ◌∙◌, subst, arith}
 use Rattle.std.proofs.{lemmas.Bool.ltb-false, lemmas.List.length-take}
-use Rattle.std.specs.{Prelude.{String, Vec, codes, filter, if◌then◌else◌, nat_lt, bytes_eq}, declared.alloc.Global.Global}
 use Rattle.std.specs.List.{AllByRecursion, flat_map, list_any}
+use Rattle.std.specs.{Prelude.{String, Vec, codes, filter, if◌then◌else◌, nat_lt, bytes_eq}, declared.alloc.Global.Global}
 use Rattle.command_words.specs.{declared.fault.WordsFault.TheVariants.Usage, declared.words.Call.TheVariants.Ld}
 use Rattle.command_words.specs.{LinkWords.name_in, LinkWords.values_of, LinkWords.with_names}
 use Rattle.v7tools.specs.CommandRuns.{AsksFor}
+use Rattle.tool_options.specs.NameLists.{is_among, new_names}
 use Rattle.tool_options.specs.{ForcedNames.{takes, with_name}, declared.options.Keep.Keep}
 use Rattle.tool_options.specs.{declared.options.Keep.TheVariants.{All, NotL, Externals, Nothing}, declared.options.Layout.Layout}
 use Rattle.tool_options.specs.{declared.options.Layout.TheVariants.{Plain, Pure, Split}, Choices.{Choices, lays_commons}}
-use Rattle.tool_options.specs.NameLists.{is_among, new_names}
-use Rattle.laws.proofs.BuildObjects.{not_both, same_value}
+use Rattle.laws.proofs.{BuildObjects.not_both, LeftLemmas.same_value}
 use Rattle.aout_core.specs.declared.symbol.Segment.TheVariants.{TextSeg, DataSeg, BssSeg, Undefined, Absolute, Other}
 use Rattle.aout_core.specs.{declared.symbol.Segment.Segment, declared.symbol.Symbol.Symbol, declared.reloc.Reloc.Reloc}
-use Rattle.aout_core.specs.{Names.{IsName, before_nul}, Words.{AreBytes, plus, minus}, WellFormed.{IsWellFormed, is_external, segment_of}}
 use Rattle.aout_core.specs.Contents.{Contents, AreWords, IsSound, IsSymbol, IsWord}
-use Rattle.link_session.specs.{declared.state.State.State, declared.state.State.TheVariants.{Defined, Wanted}, Earlier.with_earlier}
+use Rattle.aout_core.specs.{Names.{IsName, before_nul}, Words.{AreBytes, plus, minus}, WellFormed.{IsWellFormed, is_external, segment_of}}
 use Rattle.link_session.specs.{Limits.limit_passed, Sessions.IsObject, Starts.total}
 use Rattle.link_session.specs.Cells.{Referent, to_segment, to_name, referent, words_of}
 use Rattle.link_session.specs.Mentions.{Mention, externals_in, forced_mention, mention, mentions, mentions_in, names_of}
 use Rattle.link_session.specs.Mentions.{names_by_first_mention, statement, externals}
 use Rattle.link_session.specs.States.{Definition, first_definition, size_wanted_by, state, state_by, wanted_size}
+use Rattle.link_session.specs.{declared.state.State.State, declared.state.State.TheVariants.{Defined, Wanted}, Earlier.with_earlier}
 use Rattle.link_session.proofs.{ListLemmas.all_append, TotalLemmas.within_limit}
-use Rattle.link_out.specs.{Layouts.{Bases, magic_of}, KeptSymbols.{is_kept_local, rows_kept}}
 use Rattle.link_out.specs.function.Finals.{Final, bound_at, final, final_at, reserved_or_waiting, type_of, waiting}
 use Rattle.link_out.specs.function.Link.{Outcome, link, linked_header}
 use Rattle.link_out.specs.function.Plans.{Plan, common_offset, commons_laid, commons_total, plan}
 use Rattle.link_out.specs.function.Reports.{entry_word, is_in_text}
 use Rattle.link_out.specs.function.Tables.{external_row, external_rows, final_reloc, final_relocs, has_number_too_large, has_too_large_in}
 use Rattle.link_out.specs.function.Tables.{local_rows, moved_local, moved_value, name_bits, needs_too_large, number_too_large}
+use Rattle.link_out.specs.{Layouts.{Bases, magic_of}, KeptSymbols.{is_kept_local, rows_kept}}
 use Rattle.link_out.specs.{function.Tables.{referent_bits, row_of, segment_bits, table}, function.Words.final_word}
 use Rattle.link_out.proofs.{FitLemmas.linked_fits, OutcomeLemmas.made, OutcomeLemmas.made_file}
 

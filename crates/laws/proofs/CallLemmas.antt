@@ -1,17 +1,17 @@
 -- Words ask for one call at most, and a run whose words ask for a session or a link is a run of that.
 use Rattle.std.specs.{declared.alloc.Global.Global, Prelude.{◌⊎◌, String, Vec, bytes_eq, codes, string_bytes, unwrap_or}}
-use Rattle.std.proofs.Common.{◌≡◌, ℕ, Bool, true, false, List, [], ◌++◌, map, Option, Some, None, Result, Ok, sym, ap, ◌∙◌, inl, inr, subst}
+use Rattle.std.proofs.Common.{◌≡◌, ℕ, Bool, true, false, List, [], ◌++◌, map, Option, Some, None, Result, sym, ap, ◌∙◌, inl, inr, subst}
 use Rattle.clap.specs.Walk.{Row, first_of}
 use Rattle.tool_options.specs.Choices.{Choices}
 use Rattle.command_words.specs.declared.words.Call.TheVariants.{Ld, Nm, Size, Strip, Session}
-use Rattle.command_words.specs.LinkWords.{forced_asked, options_asked, values_of}
-use Rattle.command_words.specs.{declared.fault.WordsFault.WordsFault, declared.words.Call.Call, Calls.name_of, Calls.program}
+use Rattle.command_words.specs.{LinkWords.{forced_asked, options_asked, values_of}, declared.words.Call.Call, Calls.{name_of, program}}
 use Rattle.aout_core.specs.{Refusals.refused, Wires.Latched}
 use Rattle.surroundings.specs.Events.{History, Extends}
 use Rattle.v7tools.specs.CommandRuns.{AsksFor, IsCallRun, RefusesWords, RunsCall}
 use Rattle.v7tools.specs.{Calls.fault_of_words, LinkRuns.IsLinkRun, LinkRuns.Refuses, SessionRuns.IsSessionRun, declared.fault.CliFault.CliFault}
 use Rattle.v7tools.specs.declared.fault.CliFault.TheVariants as faults
-use Rattle.laws.specs.{Calls.LinkCallLaw, Calls.SessionCallLaw}
+use Rattle.laws.specs.Calls.{LinkCallLaw, SessionCallLaw}
+use Rattle.laws.proofs.LeftLemmas.{same_value}
 
 -- the ids by which the options are known
 abbrev file_id : List ℕ
@@ -38,9 +38,6 @@ has_name name (Some p) = bytes_eq p.0 name
 abbrev rows_in : Option (List ℕ × List Row) → List Row
 rows_in None = []
 rows_in (Some p) = p.1
-
-same_value : {A : Type 0} (a b : A) → let x : Result A WordsFault = Ok a in let y : Result A WordsFault = Ok b in x ≡ y → a ≡ b
-same_value a b e = cc
 
 module _ (words : List (List ℕ)) (one other : Call) (a : AsksFor words one) (b : AsksFor words other) where
   same_words : (let x : Option (List ℕ × List Row) = Some (name_of one, a.asked.1) in

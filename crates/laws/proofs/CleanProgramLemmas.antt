@@ -1,43 +1,42 @@
 -- Each place of a program of clean objects that control reaches is a reached place of one of them.
 use Rattle.std.proofs.Common.{rules, ◌≡◌, ◌≢◌, ℕ, zero, suc, ◌+◌, ◌*◌, ◌/◌, ◌%◌, ◌<◌, ◌≤◌, inl, inr, Bool, true, false, eqb, if◌then◌else◌}
 use Rattle.std.proofs.Common.{List, [], ◌∷◌, ◌++◌, length, map, drop, Option, Some, None, refl, sym, ◌∙◌, ap, subst, arith, append_assoc}
-use Rattle.std.proofs.{lemmas.Bool.{and_from, ltb-false, cases_lt, or_right}, lemmas.List.length-drop, lemmas.List.Sums.sum_by-append}
 use Rattle.std.proofs.lemmas.Option.{same_Some, slice_get_within}
+use Rattle.std.proofs.{lemmas.Bool.{and_from, ltb-false, cases_lt, or_right}, lemmas.List.length-drop, lemmas.List.Sums.sum_by-append}
 use Rattle.instructions.proofs.{LineLemmas.from_place, AlikeLemmas.get_inside}
 use Rattle.std.specs.{Prelude.slice_get, Prelude.slice_index, Prelude.IfSome, Prelude.Ok, List.list_any, List.AllByRecursion}
-use Rattle.aout_core.specs.{WellFormed.{is_pc_relative, is_external}, declared.symbol.Symbol.Symbol}
 use Rattle.aout_core.specs.{declared.symbol.Segment.TheVariants.TextSeg, declared.reloc.Reloc.Reloc, Contents.Contents, Strip.stripped}
 use Rattle.aout_core.specs.{Words.plus, declared.reloc.Kind.Kind}
+use Rattle.aout_core.specs.{WellFormed.{is_pc_relative, is_external}, declared.symbol.Symbol.Symbol}
 use Rattle.aout_core.specs.declared.reloc.Kind.TheVariants as kinds
 use Rattle.link_session.specs.{Starts.size_of, Starts.total, Sessions.IsObject}
 use Rattle.link_session.proofs.ListLemmas.{all_split}
 use Rattle.tool_options.specs.{declared.options.Keep.TheVariants.Nothing, Choices.Choices}
 use Rattle.link_out.specs.{Results.Outcome, function.Link.link}
-use Rattle.link_laws.specs.relation.LinkedFrom.{IsLinkedFrom}
-use Rattle.link_laws.proofs.LinkedTheorem.{linked_exactly}
-use Rattle.instructions.specs.{Instructions.{instruction_of, following_words, jumps, word_count_of}, Modes.counts_from_pc}
-use Rattle.instructions.specs.{declared.mode.Addressing.Addressing, Texts.number, declared.operand.Operand.Operand}
-use Rattle.instructions.specs.{declared.instruction.Instruction.Instruction, declared.unix.Decoder.TheVariants.Unix}
-use Rattle.instructions.specs.{declared.unix.UnixLine.UnixLine, declared.unix.UnixLine.TheVariants.{Machine, Call}, Relocated.is_relocated}
-use Rattle.instructions.specs.{Alike.is_cut, Lines.word_for}
-use Rattle.instructions.specs.declared.mode.Addressing.TheVariants.{Immediate, Absolute, Relative, RelativeDeferred, Indexed}
-use Rattle.instructions.specs.declared.operand.Operand.TheVariants as operands
-use Rattle.disassemblies.specs.Lines.{unix_line_in}
-use Rattle.suspicions.specs.{declared.evidence.Evidence.TheVariants.{Names, Promise}, ReachedLaw.{is_place, IsReached, Evident, Led}}
-use Rattle.suspicions.specs.Trust.{is_sure}
-use Rattle.suspicions.specs.Reached.{is_reached, is_text, named, nameless, branch_of, leads_by, leads_to, jump, jump_of, shown_from}
-use Rattle.suspicions.specs.{SureLaw.{IsInside, AreInside, targets}, Suspicions.{is_foreign, is_immediate}}
-use Rattle.suspicions.proofs.{ReachLemmas.reached_law, SureLemmas.sure_below, SureLemmas.sure_places, SureLemmas.sure_words}
-use Rattle.laws.specs.{Core.of_instructions, Core.IsWordAt, Operands.Defines, OperandWords.machine_value}
 use Rattle.laws.specs.OperandPlaces.{addressing_of, IsDirect, kind_meant, IsOwnByte, IsNamedByte}
 use Rattle.laws.specs.ReachedInstructions.{kind_said, HasOperandSaid}
 use Rattle.laws.specs.CleanPrograms.{TextSymbol, RefersToOwnText, RefersToText, IsClean, Begins, IsKept, IsOfObject}
 use Rattle.laws.specs.CleanPrograms.{CleanObjectsMakeCleanPrograms}
+use Rattle.laws.specs.{relation.LinkedFrom.IsLinkedFrom, Core.{of_instructions, IsWordAt}, Operands.Defines, OperandWords.machine_value}
+use Rattle.laws.proofs.LinkedTheorem.{linked_exactly}
 use Rattle.laws.proofs.{InstructionLemmas.text_within, InstructionLemmas.word_small, InstructionPlaceLemmas.instructions_there, LoadedLemmas.whole_words}
 use Rattle.laws.proofs.{LoadedLemmas.word_there, LoadedLemmas.found_in, OperandPlaceLemmas.one_word}
 use Rattle.laws.proofs.ReachedInstructionLemmas.{decoded, value_small, reached_instructions_kept, sure_places_begin}
 use Rattle.laws.proofs.FlowLemmas.{Lines, Calls, Instructs, Ends, whole_at, lines_at}
 use Rattle.laws.proofs.LeadLemmas.{or_none, none_shown, placed, place_is, Within, call_leads, JumpBy, instruction_leads}
+use Rattle.instructions.specs.{declared.mode.Addressing.Addressing, Texts.number, declared.operand.Operand.Operand}
+use Rattle.instructions.specs.{declared.instruction.Instruction.Instruction, declared.unix.Decoder.TheVariants.Unix}
+use Rattle.instructions.specs.{Alike.is_cut, Lines.word_for}
+use Rattle.instructions.specs.declared.mode.Addressing.TheVariants.{Immediate, Absolute, Relative, RelativeDeferred, Indexed}
+use Rattle.instructions.specs.{Instructions.{instruction_of, following_words, jumps, word_count_of}, Modes.counts_from_pc}
+use Rattle.instructions.specs.{declared.unix.UnixLine.UnixLine, declared.unix.UnixLine.TheVariants.{Machine, Call}, Relocated.is_relocated}
+use Rattle.instructions.specs.declared.operand.Operand.TheVariants as operands
+use Rattle.disassemblies.specs.Lines.{unix_line_in}
+use Rattle.checks.specs.Trust.{is_sure}
+use Rattle.checks.specs.Reached.{is_reached, is_text, named, nameless, branch_of, leads_by, leads_to, jump, jump_of, shown_from}
+use Rattle.checks.specs.{declared.evidence.Evidence.TheVariants.{Names, Promise}, ReachedLaw.{is_place, IsReached, Evident, Led}}
+use Rattle.checks.specs.{SureLaw.{IsInside, AreInside, targets}, Suspicions.{is_foreign, is_immediate}}
+use Rattle.checks.proofs.{ReachLemmas.reached_law, SureLemmas.sure_below, SureLemmas.sure_places, SureLemmas.sure_words}
 
 -- a symbol of text shows its place
 

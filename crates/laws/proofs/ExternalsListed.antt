@@ -1,22 +1,21 @@
 -- The rows of the externals, as the relation of linking tells them, stand once each among the symbols that nm lists.
 use Rattle.std.proofs.Common.{rules, ◌≡◌, ◌≢◌, ℕ, ◌+◌, Bool, true, false, cond, ◌&&◌, ◌||◌, List, [], ◌∷◌, ◌++◌, map, filter, Some, refl}
-use Rattle.std.proofs.{Common.{sym, ◌∙◌, ap, subst, arith}, lemmas.List.Elements.filter-append, lemmas.Slice.Eq.bytes_eq-Decides}
 use Rattle.std.proofs.lemmas.Bool.{or_left, or_right}
+use Rattle.std.proofs.{Common.{sym, ◌∙◌, ap, subst, arith}, lemmas.List.Elements.filter-append, lemmas.Slice.Eq.bytes_eq-Decides}
 use Rattle.std.specs.{Prelude.bytes_eq, List.flat_map, List.AllByRecursion}
 use Rattle.aout_core.specs.declared.symbol.Segment.TheVariants.{Undefined, Absolute, TextSeg, DataSeg, BssSeg, Other}
 use Rattle.aout_core.specs.{declared.header.Header.Header, declared.symbol.Symbol.Symbol, Contents.Contents, WellFormed.is_external}
 use Rattle.aout_core.specs.{Addresses.data_start_in}
 use Rattle.link_session.specs.{Mentions.{Mention, mentions, externals, names_of}, declared.state.State.State}
 use Rattle.link_session.specs.{declared.state.State.TheVariants.{Defined, Wanted}, Earlier.with_earlier, Starts.total}
-use Rattle.tool_options.specs.{NameLists.{is_among, new_names}, declared.options.Keep.TheVariants.Nothing, Choices.Choices}
 use Rattle.tool_options.specs.declared.nm_options.NmOptions.{NmOptions}
+use Rattle.tool_options.specs.{NameLists.{is_among, new_names}, declared.options.Keep.TheVariants.Nothing, Choices.Choices}
 use Rattle.link_out.specs.{KeptSymbols.is_kept_local, Results.Outcome}
-use Rattle.link_laws.specs.relation.LinkedTable.{row_for, space_for, AreRows, moved_local_in, moved_locals_in}
-use Rattle.link_laws.specs.{relation.NameStates.HasState, relation.Relocated.base_in, relation.Relocated.entry_of}
-use Rattle.link_laws.specs.{relation.Refusals.CommonsTake, relation.LinkedFrom.IsLinkedFrom}
+use Rattle.laws.specs.Listings.{listed_locals, lines, state_letter, IsListedOnce}
+use Rattle.laws.specs.{relation.LinkedTable.{row_for, space_for, AreRows, moved_local_in, moved_locals_in}, relation.NameStates.HasState}
+use Rattle.laws.specs.{relation.Relocated.{base_in, entry_of}, relation.Refusals.CommonsTake, relation.LinkedFrom.IsLinkedFrom}
 use Rattle.link_out.proofs.RowLemmas.{rows_kept-others}
 use Rattle.symtools.specs.{SymbolLines.letter, NmLists.is_shown, NmLists.arranged, NmLists.shown, NmLists.nm_text}
-use Rattle.laws.specs.Listings.{listed_locals, lines, state_letter, IsListedOnce}
 use Rattle.tool_options.proofs.NameListLemmas.{is_among-append}
 use Rattle.link_session.proofs.UpdateLemmas.{never_new, own_name}
 use Rattle.laws.proofs.{ArrangedLemmas.arranged_one, ShownLemmas.no_local, ShownLemmas.all_apart, ShownLemmas.one_file}

@@ -4,13 +4,13 @@ use Rattle.std.proofs.Common.{if◌then◌else◌, List, [], ◌∷◌, length, 
 use Rattle.std.proofs.lemmas.Bool.{and_parts, or_cases, eqb-true, le-ltb, ltb-false, cases_lt}
 use Rattle.std.specs.Prelude.{slice_get, slice_index}
 use Rattle.aout_core.specs.{Contents.Contents, Strip.stripped}
-use Rattle.instructions.specs.{Instructions.{instruction_of, instruction, following_words}, Alike.is_cut, Lines.{line_of, line_at}}
-use Rattle.instructions.specs.{Rows.{begins as in_row, row_of}, Texts.number, UnixLines.{call_by, unix_line}}
 use Rattle.instructions.specs.{declared.instruction.Instruction.Instruction, declared.call_table.CallRow.CallRow, declared.line.Line.Line}
 use Rattle.instructions.specs.{declared.line.Line.TheVariants.Plain, declared.unix.Decoder.TheVariants.Unix}
+use Rattle.instructions.specs.{Instructions.{instruction_of, instruction, following_words}, Alike.is_cut, Lines.{line_of, line_at}}
+use Rattle.instructions.specs.{Rows.{begins as in_row, row_of}, Texts.number, UnixLines.{call_by, unix_line}}
 use Rattle.instructions.specs.{declared.unix.UnixLine.TheVariants.{Machine, Call}, Relocated.is_relocated, UnixLaws.sys}
 use Rattle.disassemblies.specs.Lines.{unix_line_in}
-use Rattle.suspicions.specs.{Suspicions.is_foreign, SureLaw.is_whole}
+use Rattle.checks.specs.{Suspicions.is_foreign, SureLaw.is_whole}
 use Rattle.laws.proofs.ReachedInstructionLemmas.{at_head, call_made, word_at, line_there, decoded, decoded_by}
 
 -- words of other PDP-11s are not in the table

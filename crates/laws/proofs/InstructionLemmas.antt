@@ -1,17 +1,16 @@
 -- Linking preserves instructions.
 use Rattle.std.proofs.Common.{rules, ◌≡◌, ℕ, zero, suc, ◌+◌, ◌*◌, ◌/◌, ◌%◌, ◌<◌, ◌≤◌, Bool, true, false, eqb, if◌then◌else◌, List, [], ◌∷◌}
-use Rattle.std.proofs.{Common.{◌++◌, length, drop, Some, refl, sym, ◌∙◌, ap, subst, arith}, lemmas.Option.slice_get_within}
 use Rattle.std.proofs.{lemmas.List.Sums.sum_by-append, lemmas.Bool.eqb-true}
+use Rattle.std.proofs.{Common.{◌++◌, length, drop, Some, refl, sym, ◌∙◌, ap, subst, arith}, lemmas.Option.slice_get_within}
 use Rattle.std.specs.{Prelude.slice_get, Prelude.not, List.AllByRecursion}
 use Rattle.aout_core.specs.{declared.symbol.Symbol.Symbol, declared.symbol.Segment.TheVariants.TextSeg, declared.reloc.Reloc.Reloc}
 use Rattle.aout_core.specs.{Contents.Contents, Contents.IsWord}
 use Rattle.link_session.specs.{Starts.size_of, Starts.total, Sessions.IsObject}
 use Rattle.tool_options.specs.Choices.{Choices}
 use Rattle.link_out.specs.Results.{Outcome}
-use Rattle.link_laws.specs.{relation.Relocated.IsRelocated, relation.LinkedFrom.IsLinkedFrom}
+use Rattle.laws.specs.{relation.Relocated.IsRelocated, relation.LinkedFrom.IsLinkedFrom, Instructions.IsLinkedWord}
 use Rattle.instructions.specs.{Relocated.is_relocated}
 use Rattle.instructions.proofs.AlikeLemmas.{Pairs, Same, get_from}
-use Rattle.laws.specs.Instructions.{IsLinkedWord}
 
 -- an object has a relocation word for each word of its text
 pub relocs_by : (b : Bool) (words relocs size : ℕ) → b ≡ true → 2 * words ≡ size → 2 * relocs ≡ (if b then size else 0) → relocs ≡ words

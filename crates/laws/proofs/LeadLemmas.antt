@@ -15,9 +15,9 @@ use Rattle.instructions.specs.declared.operand.Operand.TheVariants as operands
 use Rattle.instructions.specs.declared.operation.Operation.TheVariants as operations
 use Rattle.instructions.specs.declared.call.SystemCall.TheVariants as calls
 use Rattle.disassemblies.specs.{Listed.listed_line, Starts.starts, Starts.is_start}
-use Rattle.suspicions.specs.{ReachedLaw.is_place, Reached.passes, Reached.flows, Reached.calls_csv, Reached.calls_by_r5}
-use Rattle.suspicions.specs.Reached.{returns, next_of, parent_of, branch_of, jump, leads_by, has_distance, is_shown_by, shown_from}
-use Rattle.suspicions.specs.declared.evidence.Evidence.TheVariants.{Names, Promise}
+use Rattle.checks.specs.{ReachedLaw.is_place, Reached.passes, Reached.flows, Reached.calls_csv, Reached.calls_by_r5}
+use Rattle.checks.specs.Reached.{returns, next_of, parent_of, branch_of, jump, leads_by, has_distance, is_shown_by, shown_from}
+use Rattle.checks.specs.declared.evidence.Evidence.TheVariants.{Names, Promise}
 use Rattle.instructions.proofs.AlikeLemmas.{get_from}
 use Rattle.laws.specs.{OperandPlaces.addressing_of, OperandPlaces.IsDirect, OperandPlaces.IsOperand, OperandWords.machine_value}
 use Rattle.laws.proofs.{ReachedInstructionLemmas.decoded, OperandPlaceLemmas.takes_its_word}

@@ -5,8 +5,8 @@ use Rattle.std.specs.Prelude.{IfSome, eqb, unwrap_or}
 use Rattle.aout_core.specs.{Contents.Contents, Decoding.decode}
 use Rattle.link_session.specs.Edits.{last_of, without_last}
 use Rattle.link_session.specs.{declared.entry.AddFault.AddFault, Labelled.Labelled, Labelled.objects, Limits.refusal}
-use Rattle.link_out.specs.{declared.linked.LinkFault.LinkFault, function.Link.{Outcome, link}, Steps.{and_then, unless}}
 use Rattle.link_out.specs.Inputs.{Cause, Refusal, not_added, at_path, kept_with, object_in, with_input, with_inputs}
+use Rattle.link_out.specs.{declared.linked.LinkFault.LinkFault, function.Link.{Outcome, link}, Steps.{and_then, unless}}
 use Rattle.link_session.proofs.EditLemmas.{without_last-put_last}
 use Rattle.tool_options.specs.Choices.{Choices}
 use Rattle.surroundings.specs.Events.{Event, Opened}
@@ -17,8 +17,8 @@ use Rattle.v7tools.specs.{LinkAnswers.Input, LinkAnswers.Takes, LinkAnswers.Take
 use Rattle.v7tools.specs.{SessionRuns.Chains, SessionSteps.IsAddOn, SessionSteps.IsLinkBy}
 use Rattle.laws.specs.{Disks.Disk, SessionsByCommands.AreThere, SessionsByCommands.left_after, SessionsByCommands.left_by}
 
-pub same_ok : {A B : Type 0} (a b : A) → (let x : Result A B = Ok a in let y : Result A B = Ok b in x ≡ y) → a ≡ b
-same_ok a b e = cc
+pub same_value : {A B : Type 0} (a b : A) → (let x : Result A B = Ok a in let y : Result A B = Ok b in x ≡ y) → a ≡ b
+same_value a b e = cc
 
 -- ---- inputs that are taken, one more and one less
 

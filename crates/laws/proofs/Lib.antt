@@ -1,28 +1,46 @@
--- The lemmas of this crate.
+-- The lemmas of this crate, and examples computed from its definitions.
 mod ArrangedLemmas
-mod ShownLemmas
-mod UndefinedListed
+mod BuildLemmas
+mod BuildObjects
+mod BuildRuns
+mod BuildSounds
+mod ByteLemmas
+mod CallLemmas
+mod CleanProgramLemmas
+mod CommonLemmas
+mod CoreLemmas
+mod DefinedLemmas
+mod EntryPointLemmas
+mod ExternalLemmas
 mod ExternalsListed
-mod SizeSums
-pub mod ByteLemmas
-pub mod CoreLemmas
-pub mod LoadedLemmas
-pub mod OperandLemmas
+mod FlowLemmas
+mod GroupingLemmas
+mod HasStateLemmas
+mod IndexLemmas
 mod InstructionLemmas
-pub mod InstructionPlaceLemmas
-pub mod OperandPlaceLemmas
-pub mod ReachedInstructionLemmas
-pub mod FlowLemmas
-pub mod LeadLemmas
-pub mod CleanProgramLemmas
-pub mod CallLemmas
-pub mod LeftLemmas
-pub mod LinkLineLemmas
-pub mod UndoLemmas
-pub mod SameDiskLemmas
-pub mod MapWordLemmas
-pub mod MapPlaceLemmas
-pub mod BuildObjects
-pub mod BuildSounds
-pub mod BuildRuns
-pub mod BuildLemmas
+mod InstructionPlaceLemmas
+mod LeadLemmas
+mod LeftLemmas
+mod LinkLineLemmas
+mod LinkedRelocs
+mod LinkedReports
+mod LinkedRows
+mod LinkedTheorem
+mod LoadedLemmas
+mod MapPlaceLemmas
+mod MapWordLemmas
+mod MoveLemmas
+mod OperandLemmas
+mod OperandPlaceLemmas
+mod ReachedInstructionLemmas
+mod RefusalLemmas
+mod RelocatedLemmas
+mod SaidLemmas
+mod SameDiskLemmas
+mod SegmentLemmas
+mod ShownLemmas
+mod SizeSums
+mod UndefinedLemmas
+mod UndefinedListed
+mod UndoLemmas
+mod examples

@@ -13,15 +13,15 @@ use Rattle.link_out.specs.{Outcomes.report_names, Results.Outcome, Steps.and_the
 use Rattle.link_out.specs.{function.Reports.line, function.Reports.status_of, Inputs.Refusal, Inputs.linked, Inputs.not_linked}
 use Rattle.link_out.specs.declared.linked.LinkFault.TheVariants as links
 use Rattle.tool_options.specs.Choices.{Choices}
-use Rattle.surroundings.specs.{Events.{Event, Extends, Opened, opened, opens, paths_of, stored}, declared.office.Stored.Stored}
 use Rattle.surroundings.specs.declared.office.Stored.TheVariants.{Kept, NotCreated, Failed}
+use Rattle.surroundings.specs.{Events.{Event, Extends, Opened, opened, opens, paths_of, stored}, declared.office.Stored.Stored}
 use Rattle.v7tools.specs.{LinkRuns.{IsLinkOfFiles, IsLinkRun, Refuses, Reports, ReportsIf, inputs_opened}, Answers.link_answer_text}
 use Rattle.v7tools.specs.{CommandRuns.Ends, FaultTexts.{cli_text, no_memory}, LineRuns.{IsLineOf, LineRun}}
 use Rattle.v7tools.specs.{LinkAnswers.{IsLinkOfBytes, IsTrueOf, known_inputs, said_by}, declared.fault.CliFault.CliFault}
 use Rattle.v7tools.specs.declared.fault.CliFault.TheVariants as faults
 use Rattle.laws.specs.SessionsByCommands.{AreThere, CannotRead, CannotWrite, DoesAsLd, FailsBy, IsOpening, IsRefusedAsLd, LinkLineLaw}
 use Rattle.laws.specs.{SessionsByCommands.{RefusedLineLaw, files_left}, Disks.{Disk, IsOn, Run}}
-use Rattle.laws.proofs.LeftLemmas.{IsAt, IsLeft, all_known, at_line, bytes_of, left_lines, same_ok, taken_bytes}
+use Rattle.laws.proofs.LeftLemmas.{IsAt, IsLeft, all_known, at_line, bytes_of, left_lines, same_value, taken_bytes}
 
 -- ---- the files that ld opened are those that are left
 
@@ -185,7 +185,7 @@ module _ {W E : Type 0} (out_contents : W → Option (List ℕ)) (error_contents
     ended_by output at (inr (inr (inr h))) =
         let events = events_are l forced o left there on_disk _ h.asked in
         let ok = bytes_say l forced o left there on_disk h.found (Ok h.linked) _ events h.answer in
-        search (rules, found_left, stored_by, same_ok)
+        search (rules, found_left, stored_by, same_value)
 
   -- ---- a line whose link was refused
 

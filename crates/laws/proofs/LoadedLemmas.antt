@@ -2,21 +2,20 @@
 use Rattle.std.proofs.Common.{rules, ◌≡◌, ◌≢◌, ℕ, zero, ◌+◌, ◌-◌, ◌*◌, ◌/◌, ◌%◌, ◌<◌, ◌≤◌, true, cond, List, [], ◌∷◌, ◌++◌, length, Some}
 use Rattle.std.proofs.{Common.{refl, sym, ◌∙◌, ap, subst, arith}, lemmas.List.Sums.sum_by-append, lemmas.Option.slice_get_within}
 use Rattle.std.specs.{Prelude.slice_get, Prelude.Ok, List.AllByRecursion}
-use Rattle.aout_core.specs.{declared.symbol.Segment.TheVariants.{TextSeg, DataSeg, BssSeg}, declared.header.Header.Header}
 use Rattle.aout_core.specs.{declared.symbol.Symbol.Symbol, declared.symbol.Segment.Segment, declared.reloc.Reloc.Reloc, Contents.Contents}
+use Rattle.aout_core.specs.{declared.symbol.Segment.TheVariants.{TextSeg, DataSeg, BssSeg}, declared.header.Header.Header}
 use Rattle.aout_core.specs.{Words.{plus, minus}, WellFormed.is_pc_relative, Addresses.data_start_in}
 use Rattle.link_session.specs.{Starts.size_of, Starts.total, Starts.own, Sessions.IsObject, Cells.segment_words, Cells.segment_relocs}
 use Rattle.link_session.proofs.ListLemmas.{all_split}
 use Rattle.tool_options.specs.{declared.options.Keep.TheVariants.Nothing, declared.options.Layout.Layout}
 use Rattle.tool_options.specs.{declared.options.Layout.TheVariants.{Plain, Pure, Split}, Choices.{Choices, lays_commons}}
 use Rattle.link_out.specs.{Layouts.magic_of, Results.Outcome, function.Link.link}
-use Rattle.link_laws.specs.relation.Relocated.{base_in, move_in, entry_of, IsRelocated, HoldsObjects}
-use Rattle.link_laws.specs.{relation.LinkedFrom.IsLinkedFrom, CommonsAndEntries.IsCommon, CommonsAndEntries.HasSpace}
-use Rattle.link_laws.proofs.{SegmentLemmas.{HasWords, made_length}, RelocatedLemmas.{words_relocated, objects_fill}}
-use Rattle.link_laws.proofs.{CommonLemmas.commons_have_space, LinkedTheorem.linked_exactly}
+use Rattle.laws.specs.relation.Relocated.{base_in, move_in, entry_of, IsRelocated, HoldsObjects}
+use Rattle.laws.specs.{relation.LinkedFrom.IsLinkedFrom, CommonsAndEntries.IsCommon, CommonsAndEntries.HasSpace}
 use Rattle.laws.specs.Core.{Space, of_data, has_segment, first_address, bytes_of, segment_byte, core, IsWordAt}
 use Rattle.laws.specs.CoreLaws.{space_of, IsPlace, IsLoaded, IsZero}
-use Rattle.laws.proofs.ByteLemmas.{low_byte, high_byte}
+use Rattle.laws.proofs.{SegmentLemmas.{HasWords, made_length}, RelocatedLemmas.{words_relocated, objects_fill}}
+use Rattle.laws.proofs.{CommonLemmas.commons_have_space, LinkedTheorem.linked_exactly, ByteLemmas.{low_byte, high_byte}}
 
 -- places
 

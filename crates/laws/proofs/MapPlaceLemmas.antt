@@ -9,13 +9,11 @@ use Rattle.link_session.specs.{Labelled.Labelled, Labelled.objects, Limits.limit
 use Rattle.link_out.specs.{function.Link.link, function.Link.linked_file, function.Plans.Plan, function.Plans.plan, Results.Outcome}
 use Rattle.link_out.proofs.OutcomeLemmas.{made_file, made_fits}
 use Rattle.link_session.proofs.TotalLemmas.{total-first}
-use Rattle.link_laws.specs.relation.Relocated.{base_in}
-use Rattle.link_laws.proofs.MoveLemmas.{data_begun, rest_back}
+use Rattle.laws.specs.{relation.Relocated.base_in, CoreLaws.IsPlace, Maps.{IsShown, places_mapped}}
+use Rattle.laws.proofs.{MoveLemmas.{data_begun, rest_back}, LoadedLemmas.{HasPlace, place_at}, MapWordLemmas.IsSmallObject}
 use Rattle.link_maps.specs.Members.{capped, first_places, member_of, next_places, places_from, start_in}
 use Rattle.link_maps.specs.{declared.places.Places.Places, References.segment_of_part}
 use Rattle.tool_options.specs.Choices.{Choices}
-use Rattle.laws.proofs.{LoadedLemmas.HasPlace, LoadedLemmas.place_at, MapWordLemmas.IsSmallObject}
-use Rattle.laws.specs.{CoreLaws.IsPlace, Maps.IsShown, Maps.places_mapped}
 
 -- ---- sums
 

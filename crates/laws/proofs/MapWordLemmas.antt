@@ -1,16 +1,17 @@
 -- The words under each symbol of a map are those that lead to it.
 use Rattle.std.proofs.Common.{rules, ◌≡◌, ℕ, zero, suc, ◌+◌, ◌*◌, ◌<◌, ◌≤◌, Bool, true, false, ◌&&◌, eqb, if◌then◌else◌, List, [], ◌∷◌}
 use Rattle.std.proofs.Common.{◌++◌, length, map, Option, Some, None, slice_get, refl, sym, ap, ◌∙◌, subst, inl, inr, arith, eq-eqb}
-use Rattle.std.proofs.{Common.eqb-true, lemmas.List.Elements.{Contains-append_cases, Contains-append_left, Contains-append_right}}
 use Rattle.std.proofs.lemmas.List.Sorted.{Contains-permutation, IsPermutation-sym}
+use Rattle.std.proofs.{Common.eqb-true, lemmas.List.Elements.{Contains-append_cases, Contains-append_left, Contains-append_right}}
 use Rattle.std.specs.{Prelude.◌⊎◌, List.Contains, List.flat_map}
 use Rattle.aout_core.specs.{Contents.Contents, Contents.Fits, Words.plus, WellFormed.is_external, WellFormed.masked_type}
 use Rattle.aout_core.specs.{WellFormed.segment_number, declared.part.Part.Part, declared.reloc.Reloc.Reloc, declared.symbol.Symbol.Symbol}
+use Rattle.aout_core.specs.Placed.{relocs_of, words_of}
 use Rattle.aout_core.specs.declared.part.Part.TheVariants as parts
 use Rattle.instructions.specs.declared.unix.Decoder.TheVariants.{Unix}
 use Rattle.disassemblies.specs.Starts.{starts}
 use Rattle.link_maps.specs.Leads.{aim_of, lead_by, leads, leads_in, leads_of, leads_to, reference_if, references_to}
-use Rattle.link_maps.specs.References.{part_words, reference_at, relocs_of}
+use Rattle.link_maps.specs.References.{reference_at}
 use Rattle.link_maps.specs.Uses.{Use, forced_use, is_before, use_by, use_of, uses, uses_by, uses_from, uses_in, uses_in_order}
 use Rattle.link_maps.specs.{declared.leads.Aim.Aim, declared.leads.Lead.Lead, declared.references.ReferringWord.ReferringWord}
 use Rattle.link_maps.specs.declared.leads.Aim.TheVariants.{Numbered, Addressed}
@@ -72,7 +73,7 @@ module _ (line_starts : List Bool) (k : Contents) (part : Part) where
     pub reloc : Reloc
     pub is_there : slice_get (relocs_of k part) i ≡ Some reloc
     pub word : ℕ
-    pub word_there : slice_get (part_words k part) i ≡ Some word
+    pub word_there : slice_get (words_of k part) i ≡ Some word
     pub in_part : l.part ≡ part
     pub place : l.offset ≡ 2 * i
     pub leads : aim_of line_starts k part l.offset reloc word ≡ Some l.aim
@@ -88,7 +89,7 @@ module _ (line_starts : List Bool) (k : Contents) (part : Part) where
   -- after the first words of the part
   pub leads_are : (rs : List Reloc) (ws : List ℕ) (i offset : ℕ) → offset ≡ 2 * i → 2 * (i + length rs) ≤ 65534 →
       ((j : ℕ) → slice_get (relocs_of k part) (i + j) ≡ slice_get rs j) →
-      ((j : ℕ) → slice_get (part_words k part) (i + j) ≡ slice_get ws j) → (l : Lead) →
+      ((j : ℕ) → slice_get (words_of k part) (i + j) ≡ slice_get ws j) → (l : Lead) →
       Contains (leads_in line_starts k part offset rs ws) l → (n : ℕ) × IsLead n l
   leads_are [] ws i offset is fits same same_words l h = absurd (none_in l h)
   leads_are (r ∷ rs) [] i offset is fits same same_words l h = absurd (none_in l h)
@@ -97,7 +98,7 @@ module _ (line_starts : List Bool) (k : Contents) (part : Part) where
       (leads_in line_starts k part (plus offset 2) rs ws) l h)
       (leads_are rs ws (i + 1) (plus offset 2) (next_offset i offset is (omega (arith, fits))) (omega (arith, fits))
       (λ j. ap (λ (n : ℕ). slice_get (relocs_of k part) n) (let e : i + 1 + j ≡ i + suc j = omega arith in e) ∙ same (suc j))
-      (λ j. ap (λ (n : ℕ). slice_get (part_words k part) n) (let e : i + 1 + j ≡ i + suc j = omega arith in e) ∙ same_words (suc j)) l)
+      (λ j. ap (λ (n : ℕ). slice_get (words_of k part) n) (let e : i + 1 + j ≡ i + suc j = omega arith in e) ∙ same_words (suc j)) l)
     where
       by_case : Contains (lead_by part offset (aim_of line_starts k part offset r w)) l
           ⊎ Contains (leads_in line_starts k part (plus offset 2) rs ws) l →
@@ -110,7 +111,7 @@ module _ (line_starts : List Bool) (k : Contents) (part : Part) where
               reloc = r;
               is_there = ap (λ (n : ℕ). slice_get (relocs_of k part) n) zero_on ∙ same 0;
               word = w;
-              word_there = ap (λ (n : ℕ). slice_get (part_words k part) n) zero_on ∙ same_words 0;
+              word_there = ap (λ (n : ℕ). slice_get (words_of k part) n) zero_on ∙ same_words 0;
               in_part = found.0;
               place = found.1 ∙ is;
               leads = ap (λ (n : ℕ). aim_of line_starts k part n r w) found.1 ∙ found.2;
@@ -211,7 +212,7 @@ module _ (k : Contents) (sound : IsSmallObject k) where
       let at : 2 * (0 + it.i) ≡ offset = let e : offset ≡ 2 * it.i = it.place in omega (arith, e) in
       let l : Lead = record { part = part; offset = 2 * (0 + it.i); aim = it.aim } in
       let there : Contains (leads_of line_starts k part) l =
-      lead_there line_starts k part (relocs_of k part) (part_words k part) 0 0 it.i it.reloc it.word it.aim refl (part_fits part) it.is_there
+      lead_there line_starts k part (relocs_of k part) (words_of k part) 0 0 it.i it.reloc it.word it.aim refl (part_fits part) it.is_there
       it.word_there (ap (λ (n : ℕ). aim_of line_starts k part n it.reloc it.word) at ∙ it.leads) in
       let w : ReferringWord = reference_at line_starts k part (2 * (0 + it.i)) in
       let here : Contains (reference_if line_starts k it.number s l) w =

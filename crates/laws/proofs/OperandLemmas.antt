@@ -11,15 +11,14 @@ use Rattle.link_session.specs.{declared.state.State.State, declared.state.State.
 use Rattle.link_session.specs.{declared.state.State.TheVariants.Wanted, Starts.size_of, Starts.total, Starts.own, Sessions.IsObject, Mentions.mentions}
 use Rattle.link_session.specs.{Mentions.names_by_first_mention, States.state, Cells.segment_words, Cells.segment_relocs}
 use Rattle.tool_options.specs.{NameLists.is_among, declared.options.Keep.TheVariants.Nothing, Choices.Choices}
-use Rattle.link_out.specs.{function.Plans.{Plan, plan}, function.Finals.final_by, Results.Outcome, function.Tables.external_row}
 use Rattle.link_out.specs.function.Link.{link}
-use Rattle.link_laws.specs.relation.Relocated.{move_in, entry_of, address_in, HoldsObjects}
-use Rattle.link_laws.proofs.{RelocatedLemmas.objects_fill, ExternalLemmas.entry_in_table, ExternalLemmas.row_address}
-use Rattle.link_laws.proofs.{SegmentLemmas.HasWords, LinkedTheorem.linked_exactly}
-use Rattle.link_out.proofs.OutcomeLemmas.{made_file}
-use Rattle.laws.specs.{Operands.operand, Operands.segment_meant, Operands.is_usable_in, Core.Space, Core.is_in, Core.IsWordAt}
-use Rattle.laws.specs.{CoreLaws.space_of, CoreLaws.IsPlace, CoreLaws.IsLoaded}
+use Rattle.link_out.specs.{function.Plans.{Plan, plan}, function.Finals.final_by, Results.Outcome, function.Tables.external_row}
+use Rattle.laws.specs.{relation.Relocated.{move_in, entry_of, address_in, HoldsObjects}, Operands.{operand, segment_meant, is_usable_in}}
+use Rattle.laws.specs.{Core.{Space, is_in, IsWordAt}, CoreLaws.{space_of, IsPlace, IsLoaded}}
+use Rattle.laws.proofs.{RelocatedLemmas.objects_fill, ExternalLemmas.entry_in_table, ExternalLemmas.row_address}
+use Rattle.laws.proofs.{SegmentLemmas.HasWords, LinkedTheorem.linked_exactly}
 use Rattle.laws.proofs.{CoreLemmas.within_back, LoadedLemmas.{address_of, place_at, words_loaded, words_of_rows}}
+use Rattle.link_out.proofs.OutcomeLemmas.{made_file}
 
 -- word i of a segment of k, which is w with relocation word r, finds in the program so much more than it does in k
 pub record FindsMore (file : Contents) (os before : List Contents) (k : Contents) (segment : Segment) (i w : ℕ)

@@ -12,8 +12,14 @@ use Rattle.link_session.specs.{Starts.own, Sessions.IsObject, Cells.segment_word
 use Rattle.link_session.proofs.ListLemmas.{all_split}
 use Rattle.tool_options.specs.{declared.options.Keep.TheVariants.Nothing, Choices.Choices}
 use Rattle.link_out.specs.{Results.Outcome, function.Link.link}
-use Rattle.link_laws.specs.{relation.Relocated.{move_in, entry_of, address_in}, relation.LinkedFrom.IsLinkedFrom, WordsAndNames.IsDefined}
-use Rattle.link_laws.proofs.{DefinedLemmas.definitions_hold, LinkedTheorem.linked_exactly}
+use Rattle.laws.specs.OperandPlaces.{addressing_of, within_text, kind_meant, IsNamedByte, IsAddress, HasOperand, IsOperand}
+use Rattle.laws.specs.OperandPlaces.{OperandsAreThere, IsDirect, JumpsArrive, PointersToSegments, PointersToNames}
+use Rattle.laws.specs.OperandWords.{machine_value, moves_instructions, space_used}
+use Rattle.laws.specs.{relation.Relocated.{move_in, entry_of, address_in}, relation.LinkedFrom.IsLinkedFrom, WordsAndNames.IsDefined}
+use Rattle.laws.specs.{Core.{Space, of_instructions, of_data, IsWordAt}, Operands.{operand, segment_meant, Defines}}
+use Rattle.laws.proofs.{DefinedLemmas.definitions_hold, LinkedTheorem.linked_exactly}
+use Rattle.laws.proofs.OperandLemmas.{FindsMore, loaded_finds, address_found, names_found, segments_found, any_place, byte_in}
+use Rattle.laws.proofs.{InstructionLemmas.{relocs_long, reloc_inside}, LoadedLemmas.{address_of, words_there, words_of_rows}}
 use Rattle.instructions.specs.declared.mode.Mode.TheVariants.{Increment, IncrementDeferred, Index, IndexDeferred}
 use Rattle.instructions.specs.declared.mode.Addressing.TheVariants.{Immediate, Absolute}
 use Rattle.instructions.specs.Modes.{is_pc, has_word, addressing, counts_from_pc}
@@ -23,12 +29,6 @@ use Rattle.instructions.specs.{declared.mode.Addressing.Addressing, declared.ope
 use Rattle.instructions.specs.{declared.instruction.Instruction.Instruction, Operands.takes_word, Alike.is_cut}
 use Rattle.instructions.specs.declared.operand.Operand.TheVariants as operands
 use Rattle.instructions.proofs.AlikeLemmas.{get_inside}
-use Rattle.laws.specs.OperandPlaces.{addressing_of, within_text, kind_meant, IsNamedByte, IsAddress, HasOperand, IsOperand}
-use Rattle.laws.specs.OperandPlaces.{OperandsAreThere, IsDirect, JumpsArrive, PointersToSegments, PointersToNames}
-use Rattle.laws.specs.{Core.{Space, of_instructions, of_data, IsWordAt}, Operands.{operand, segment_meant, Defines}}
-use Rattle.laws.specs.OperandWords.{machine_value, moves_instructions, space_used}
-use Rattle.laws.proofs.OperandLemmas.{FindsMore, loaded_finds, address_found, names_found, segments_found, any_place, byte_in}
-use Rattle.laws.proofs.{InstructionLemmas.{relocs_long, reloc_inside}, LoadedLemmas.{address_of, words_there, words_of_rows}}
 
 -- the word at an address is one
 one_number : (a b : ℕ) → Some (a % 256) ≡ Some (b % 256) → Some (a / 256) ≡ Some (b / 256) → a ≡ b

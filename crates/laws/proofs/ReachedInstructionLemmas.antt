@@ -3,31 +3,31 @@ use Rattle.std.proofs.Common.{rules, ◌≡◌, ℕ, zero, suc, ◌+◌, ◌*◌
 use Rattle.std.proofs.{Common.{Some, None, refl, sym, ◌∙◌, ap, subst, arith}, lemmas.Bool.eqb-true, lemmas.Option.same_Some}
 use Rattle.instructions.proofs.{LineLemmas.from_place, CallLemmas.each_made_by_sys}
 use Rattle.std.specs.{Prelude.{slice_get, slice_index, eqb, cond, if◌then◌else◌, Ok}, List.find}
-use Rattle.aout_core.specs.{WellFormed.{kind_numbered, kind_of, is_pc_relative, word_fault, first_bad_word}, declared.symbol.Symbol.Symbol}
 use Rattle.aout_core.specs.{declared.reloc.Reloc.Reloc, declared.reloc.Kind.Kind, Contents.Contents, Words.plus}
+use Rattle.aout_core.specs.{WellFormed.{kind_numbered, kind_of, is_pc_relative, word_fault, first_bad_word}, declared.symbol.Symbol.Symbol}
 use Rattle.aout_core.specs.declared.symbol.Segment.TheVariants as segs
 use Rattle.aout_core.specs.declared.reloc.Kind.TheVariants as kinds
 use Rattle.link_session.specs.Sessions.{IsObject}
 use Rattle.link_session.proofs.{ListLemmas.all_split, WellFormedLemmas.first_of_none, WellFormedLemmas.well_formed_parts}
 use Rattle.tool_options.specs.Choices.{Choices}
 use Rattle.link_out.specs.{Results.Outcome, function.Link.link}
-use Rattle.link_laws.proofs.LinkedTheorem.{linked_exactly}
+use Rattle.laws.proofs.LinkedTheorem.{linked_exactly}
+use Rattle.laws.proofs.{InstructionLemmas.moves_low, InstructionPlaceLemmas.instructions_there, OperandPlaceLemmas.operands_there}
 use Rattle.instructions.specs.declared.mode.Addressing.TheVariants.{Immediate, Absolute, Relative, RelativeDeferred}
-use Rattle.instructions.specs.{Instructions.{instruction_of, word_count_of}, Lines.{word_for, line_of, line_at}}
-use Rattle.instructions.specs.{UnixLines.{call_word, call_of, call_by, unix_line}, Modes.counts_from_pc}
 use Rattle.instructions.specs.{declared.operation.Operation.Operation, declared.mode.Addressing.Addressing}
 use Rattle.instructions.specs.{declared.operand.Operand.Operand, declared.instruction.Instruction.Instruction}
 use Rattle.instructions.specs.{declared.call_table.CallRow.CallRow, declared.line.Line.Line, declared.line.Line.TheVariants.Decoded}
 use Rattle.instructions.specs.{declared.unix.Decoder.TheVariants.Unix, declared.unix.UnixLine.UnixLine}
 use Rattle.instructions.specs.{declared.unix.UnixLine.TheVariants.Machine, Calls.system_calls, Relocated.is_relocated, Alike.is_cut}
 use Rattle.instructions.specs.UnixLaws.{sys, AreMadeBySys}
+use Rattle.instructions.specs.{Instructions.{instruction_of, word_count_of}, Lines.{word_for, line_of, line_at}}
+use Rattle.instructions.specs.{UnixLines.{call_word, call_of, call_by, unix_line}, Modes.counts_from_pc}
 use Rattle.instructions.specs.declared.operand.Operand.TheVariants as operands
 use Rattle.disassemblies.specs.Lines.{unix_line_in}
-use Rattle.suspicions.specs.{SureLaw.{is_whole, SuitsMode, SuitsModes}, Suspicions.{is_foreign, is_immediate}}
-use Rattle.suspicions.proofs.SureLemmas.{sure_below, sure_places, sure_words}
-use Rattle.laws.specs.{OperandWords.machine_value, OperandPlaces.{addressing_of, within_text, kind_meant, IsOwnByte, HasOperand, IsOperand}}
+use Rattle.checks.specs.{SureLaw.{is_whole, SuitsMode, SuitsModes}, Suspicions.{is_foreign, is_immediate}}
+use Rattle.checks.proofs.SureLemmas.{sure_below, sure_places, sure_words}
 use Rattle.laws.specs.ReachedInstructions.{kind_said, HasOperandSaid, IsNoDistance, ReachedInstructionsAreKept, SurePlacesBegin}
-use Rattle.laws.proofs.{InstructionLemmas.moves_low, InstructionPlaceLemmas.instructions_there, OperandPlaceLemmas.operands_there}
+use Rattle.laws.specs.{OperandWords.machine_value, OperandPlaces.{addressing_of, within_text, kind_meant, IsOwnByte, HasOperand, IsOperand}}
 
 head_of : (ws : List ℕ) (i w : ℕ) (more : List ℕ) → drop i ws ≡ w ∷ more →
     line_of (instruction_of (slice_index ws i)) (slice_index ws i) (drop (suc i) ws) ≡ line_of (instruction_of w) w more

@@ -12,7 +12,7 @@ use Rattle.laws.specs.Disks.{Disk, IsOn, disk_after, text_left, with_file}
 use Rattle.laws.specs.SessionsByCommands.{AreThere, IsSameOn, SameDiskLaw, StoresNot, files_left, left_after, left_by, opened_by}
 
 -- a file that is stored elsewhere changes nothing at a path
-elsewhere : (disk : Disk) (at path : List ℕ) (bytes : Option (List ℕ)) → at ≢ path → with_file disk at bytes path ≡ disk path
+pub elsewhere : (disk : Disk) (at path : List ℕ) (bytes : Option (List ℕ)) → at ≢ path → with_file disk at bytes path ≡ disk path
 elsewhere disk at path bytes other = search rules
 
 -- after events that store nothing at a path its bytes are those before

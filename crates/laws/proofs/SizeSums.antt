@@ -5,9 +5,8 @@ use Rattle.aout_core.specs.Contents.{Contents}
 use Rattle.link_session.specs.{Mentions.Mention, Mentions.mentions, Mentions.externals, States.state}
 use Rattle.tool_options.specs.Choices.{Choices, lays_commons}
 use Rattle.link_out.specs.{function.Plans.{common_size, commons_size, commons_laid}, function.Link.{Outcome, link}}
-use Rattle.link_laws.specs.{relation.LinkedTable.space_for, relation.Refusals.CommonsTake}
-use Rattle.link_laws.proofs.{HasStateLemmas.has_state, LinkedRows.space_laid}
-use Rattle.laws.specs.Listings.{HasSizes}
+use Rattle.laws.specs.{relation.LinkedTable.space_for, relation.Refusals.CommonsTake, Listings.HasSizes}
+use Rattle.laws.proofs.{HasStateLemmas.has_state, LinkedRows.space_laid}
 
 module _ (o : Choices) (ms : List Mention) where
   names_take : (names : List (List ℕ)) → CommonsTake o ms names (cond (lays_commons o) (commons_size ms names) 0)

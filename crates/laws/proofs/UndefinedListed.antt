@@ -8,16 +8,13 @@ use Rattle.aout_core.specs.{WellFormed.{masked_type, is_external}, declared.symb
 use Rattle.link_session.specs.{Mentions.{Mention, mentions, names_by_first_mention}, declared.state.State.State}
 use Rattle.link_session.specs.{declared.state.State.TheVariants.{Defined, Wanted}, Earlier.with_earlier, States.state}
 use Rattle.tool_options.specs.{declared.options.Keep.TheVariants.Nothing, Choices.Choices, declared.nm_options.NmOptions.NmOptions}
+use Rattle.link_out.specs.{function.Tables.{moved_local, local_rows, external_row, external_rows}, function.Link.{Outcome, link}}
 use Rattle.link_out.specs.{function.Plans.{Plan, plan}, function.Finals.{Final, final_by}}
-use Rattle.link_out.specs.function.Tables.{moved_local, local_rows, external_row, external_rows}
 use Rattle.link_out.specs.{function.Reports.{is_missing, undefined_names}, KeptSymbols.is_kept_local, Layouts.Bases}
-use Rattle.link_out.specs.function.Link.{Outcome, link}
-use Rattle.link_laws.specs.relation.Refusals.{kept_locals}
-use Rattle.link_laws.proofs.ExternalLemmas.{row_at}
+use Rattle.laws.specs.{relation.Refusals.kept_locals, Listings.{undefined_locals, listed_locals, undefined_symbol, lines}}
+use Rattle.laws.proofs.{ExternalLemmas.row_at, ArrangedLemmas.arranged_moves, ShownLemmas.{undefined_apart, one_file}}
 use Rattle.link_out.proofs.partial_links.PartialLemmas.{IsProper, state_is_proper, local_rows_inner, external_row_outer}
 use Rattle.symtools.specs.{SymbolLines.is_shown_undefined, NmLists.is_shown, NmLists.arranged, NmLists.shown, NmLists.nm_text}
-use Rattle.laws.specs.Listings.{undefined_locals, listed_locals, undefined_symbol, lines}
-use Rattle.laws.proofs.{ArrangedLemmas.arranged_moves, ShownLemmas.undefined_apart, ShownLemmas.one_file}
 
 -- the small letter, by what tests of type and value say
 abbrev small : Bool → Bool → Bool → Bool → Bool → Bool → Bool → ℕ

@@ -10,8 +10,8 @@ use Rattle.link_session.specs.{Labelled.Labelled, Labelled.objects, Mentions.men
 use Rattle.link_out.specs.{Inputs.with_inputs, laws.PartialLinks.IsPart, laws.PartialLinks.KeepsNoMore}
 use Rattle.tool_options.specs.Choices.{Choices}
 use Rattle.surroundings.specs.{Events.{stored, Opened, opens, paths_of}, declared.office.Stored.TheVariants.Kept}
-use Rattle.laws.specs.{Disks.{Disk, IsOn, Run, Writes, disk_after}, Calls.{AsksToLink, DoesPerform}}
 use Rattle.laws.specs.SessionsByCommands.{CannotRead, CannotWrite, FailsBy, IsOpening, Says}
+use Rattle.laws.specs.{Disks.{Disk, IsOn, Run, Writes, disk_after}, Calls.{AsksToLink, DoesPerform}}
 
 -- ---- what a path stands for
 

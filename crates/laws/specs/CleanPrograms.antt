@@ -1,5 +1,5 @@
 -- What control reaches in a program of clean objects. (ld(1), the handbook of the PDP-11/70; what is suspicious for sure, and which
--- places are reached: `suspicions`)
+-- places are reached: `checks`)
 --
 -- Control begins at the entry point. A line leads to the one after it if control comes there, as after a branch and after `jsr pc,f`, to the
 -- target of its branch, and to that of `jsr` or `jmp` by modes 37 and 67. The way ends at `jsr r5,f`: control goes to `f`, and nobody knows
@@ -16,16 +16,15 @@ use Rattle.aout_core.specs.declared.reloc.Kind.TheVariants as kinds
 use Rattle.link_session.specs.{Starts.total, Sessions.IsObject}
 use Rattle.tool_options.specs.{declared.options.Keep.TheVariants.Nothing, Choices.Choices}
 use Rattle.link_out.specs.Results.{Outcome}
-use Rattle.link_laws.specs.relation.LinkedFrom.{IsLinkedFrom}
+use Rattle.laws.specs.ReachedInstructions.{kind_said, KeepsInstruction, BeginsInstruction}
+use Rattle.laws.specs.{relation.LinkedFrom.IsLinkedFrom, OperandPlaces.{addressing_of, IsOperand, IsDirect}, OperandWords.machine_value}
 use Rattle.instructions.specs.{declared.mode.Addressing.Addressing, declared.operand.Operand.Operand, Instructions.jumps}
 use Rattle.instructions.specs.{declared.instruction.Instruction.Instruction, declared.line.Line.TheVariants.Decoded}
-use Rattle.instructions.specs.{declared.unix.Decoder.TheVariants.Unix, declared.unix.UnixLine.TheVariants.{Machine, Call}}
 use Rattle.instructions.specs.{declared.call.SystemCall.TheVariants.Fork, declared.call_table.CallRow.CallRow}
+use Rattle.instructions.specs.{declared.unix.Decoder.TheVariants.Unix, declared.unix.UnixLine.TheVariants.{Machine, Call}}
 use Rattle.disassemblies.specs.Lines.{unix_line_in}
-use Rattle.suspicions.specs.{declared.evidence.Evidence.TheVariants.{Names, Promise}, Reached.is_text, ReachedLaw.IsReached}
-use Rattle.suspicions.specs.{Suspicions.{suspicions, is_foreign}, SureLaw.NoneIsSure}
-use Rattle.laws.specs.{OperandPlaces.addressing_of, OperandPlaces.IsOperand, OperandPlaces.IsDirect, OperandWords.machine_value}
-use Rattle.laws.specs.ReachedInstructions.{kind_said, KeepsInstruction, BeginsInstruction}
+use Rattle.checks.specs.{declared.evidence.Evidence.TheVariants.{Names, Promise}, Reached.is_text, ReachedLaw.IsReached}
+use Rattle.checks.specs.{Suspicions.{suspicions, is_foreign}, SureLaw.NoneIsSure}
 
 -- control reaches a place of a program, which counts the words of its text
 abbrev pub IsRun : Contents → ℕ → Type 0

@@ -10,8 +10,8 @@ use Rattle.aout_core.specs.{declared.reloc.Reloc.Reloc, Contents.Contents, Words
 use Rattle.link_session.specs.{Starts.total, Starts.own, Sessions.IsObject, Cells.segment_words, Cells.segment_relocs}
 use Rattle.tool_options.specs.{declared.options.Keep.TheVariants.Nothing, Choices.Choices, Choices.lays_commons}
 use Rattle.link_out.specs.{Results.Outcome, function.Link.link}
-use Rattle.link_laws.specs.{relation.Relocated.{base_in, move_in, entry_of, IsAdded}, CommonsAndEntries.IsCommon}
 use Rattle.laws.specs.Core.{Space, of_instructions, of_data, core, IsWordAt}
+use Rattle.laws.specs.{relation.Relocated.{base_in, move_in, entry_of, IsAdded}, CommonsAndEntries.IsCommon}
 
 -- the space in which a segment is always found
 abbrev pub space_of : Segment → Space

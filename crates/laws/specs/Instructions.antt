@@ -8,7 +8,7 @@ use Rattle.aout_core.specs.{Contents.Contents, Contents.IsWord}
 use Rattle.link_session.specs.{Starts.total, Sessions.IsObject}
 use Rattle.tool_options.specs.Choices.{Choices}
 use Rattle.link_out.specs.Results.{Outcome}
-use Rattle.link_laws.specs.{relation.Relocated.IsRelocated, relation.LinkedFrom.IsLinkedFrom}
+use Rattle.laws.specs.{relation.Relocated.IsRelocated, relation.LinkedFrom.IsLinkedFrom}
 use Rattle.instructions.specs.{Alike.{AlikeLine, is_cut}, Instructions.instruction_of, Lines.line_of, Relocated.is_relocated}
 
 -- word i of the text of k is w; the file has v in its place, which is what relocation makes of w

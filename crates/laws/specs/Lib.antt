@@ -1,4 +1,8 @@
 -- The definitions that the laws of this crate are written in.
+pub mod relation
+pub mod WordsAndNames
+pub mod CommonsAndEntries
+pub mod PartialLinksAmongOthers
 pub mod Listings
 pub mod Core
 pub mod CoreLaws

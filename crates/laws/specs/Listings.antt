@@ -11,8 +11,8 @@ use Rattle.link_session.specs.{declared.state.State.TheVariants.Wanted, Starts.t
 use Rattle.tool_options.specs.{NameLists.is_among, declared.options.Keep.TheVariants.Nothing, Choices.Choices}
 use Rattle.tool_options.specs.{declared.nm_options.NmOptions.NmOptions}
 use Rattle.link_out.specs.{ReservedNames.etext, ReservedNames.edata, ReservedNames.end_name, function.Link.Outcome, function.Link.link}
-use Rattle.link_laws.specs.{relation.LinkedTable.{row_for, moved_locals_in}, relation.Refusals.{CommonsTake, kept_locals}}
-use Rattle.link_laws.specs.{relation.NameStates.HasState, relation.Relocated.entry_of, relation.LinkedFrom.IsLinkedFrom}
+use Rattle.laws.specs.{relation.NameStates.HasState, relation.Relocated.entry_of, relation.LinkedFrom.IsLinkedFrom}
+use Rattle.laws.specs.{relation.LinkedTable.{row_for, moved_locals_in}, relation.Refusals.{CommonsTake, kept_locals}}
 use Rattle.symtools.specs.SymbolLines.{is_shown_undefined, letter, symbol_line}
 use Rattle.symtools.specs.{NmLists.arranged, NmLists.shown, NmLists.line_heading, NmLists.nm_text, SizeLines.size_line, SizeLines.size_text}
 

@@ -5,13 +5,13 @@
 use Rattle.std.specs.Prelude.{◌≡◌, ℕ, ◌*◌, ◌<◌, true, List, ◌∷◌, ◌++◌, length, map, Some, None, Ok, slice_get}
 use Rattle.std.specs.List.{AllByRecursion, Contains}
 use Rattle.aout_core.specs.{Contents.Contents, WellFormed.{is_external, masked_type, segment_number}, declared.part.Part.Part}
-use Rattle.aout_core.specs.{declared.reloc.Reloc.Reloc, declared.symbol.Segment.TheVariants.BssSeg, declared.symbol.Symbol.Symbol}
+use Rattle.aout_core.specs.{Placed.{relocs_of, words_of}, declared.reloc.Reloc.Reloc, declared.symbol.Segment.TheVariants.BssSeg, declared.symbol.Symbol.Symbol}
 use Rattle.link_session.specs.{Labelled.Labelled, Labelled.objects, Limits.limit_passed, Sessions.IsObject}
 use Rattle.link_out.specs.{function.Link.link, function.Plans.plan, Results.Outcome}
 use Rattle.link_maps.specs.{declared.places.Places.Places, declared.references.ReferringWord.ReferringWord}
-use Rattle.link_maps.specs.{Members.{capped, first_places, member_of, places_from, start_in}, Leads.aim_of}
-use Rattle.link_maps.specs.{References.{part_words, relocs_of, segment_of_part}, Uses.{Use, uses_in_order}, declared.leads.Aim.Aim}
 use Rattle.link_maps.specs.declared.leads.Aim.TheVariants.{Numbered, Addressed}
+use Rattle.link_maps.specs.{Members.{capped, first_places, member_of, places_from, start_in}, Leads.aim_of}
+use Rattle.link_maps.specs.{References.segment_of_part, Uses.{Use, uses_in_order}, declared.leads.Aim.Aim}
 use Rattle.instructions.specs.declared.unix.Decoder.TheVariants.{Unix}
 use Rattle.disassemblies.specs.Starts.{starts}
 use Rattle.tool_options.specs.Choices.{Choices}
@@ -48,7 +48,7 @@ pub record LeadsTo (k : Contents) (part : Part) (offset : ℕ) (s : Symbol) : Ty
   pub reloc : Reloc
   pub is_there : slice_get (relocs_of k part) i ≡ Some reloc
   pub word : ℕ
-  pub word_there : slice_get (part_words k part) i ≡ Some word
+  pub word_there : slice_get (words_of k part) i ≡ Some word
   pub aim : Aim
   pub leads : aim_of (starts Unix k) k part offset reloc word ≡ Some aim
   pub number : ℕ

@@ -13,13 +13,12 @@ use Rattle.aout_core.specs.declared.reloc.Kind.TheVariants as kinds
 use Rattle.link_session.specs.{Starts.size_of, Starts.own, Sessions.IsObject, Cells.segment_words, Cells.segment_relocs}
 use Rattle.tool_options.specs.{declared.options.Keep.TheVariants.Nothing, Choices.Choices}
 use Rattle.link_out.specs.{Results.Outcome, function.Link.link}
-use Rattle.link_laws.specs.relation.Relocated.{entry_of}
+use Rattle.laws.specs.{relation.Relocated.entry_of, Core.{Space, of_instructions, is_in, IsWordAt}, CoreLaws.{space_of, IsPlace}}
+use Rattle.laws.specs.{Operands.{operand, segment_meant, Defines, is_usable_in}, OperandWords.{machine_value, space_used}}
 use Rattle.instructions.specs.{declared.operation.Operation.Operation, declared.mode.Addressing.Addressing}
-use Rattle.instructions.specs.{declared.mode.Addressing.TheVariants.{Absolute, Relative}, declared.operand.Operand.Operand}
 use Rattle.instructions.specs.{declared.operand.Operand.TheVariants.General, declared.instruction.Instruction.Instruction}
+use Rattle.instructions.specs.{declared.mode.Addressing.TheVariants.{Absolute, Relative}, declared.operand.Operand.Operand}
 use Rattle.instructions.specs.{Modes.{addressing, counts_from_pc}, Instructions.{instruction_of, jumps, word_count_of}, Alike.is_cut}
-use Rattle.laws.specs.{Core.Space, Core.of_instructions, Core.is_in, Core.IsWordAt, CoreLaws.space_of, CoreLaws.IsPlace, Operands.operand}
-use Rattle.laws.specs.{Operands.segment_meant, Operands.Defines, Operands.is_usable_in, OperandWords.machine_value, OperandWords.space_used}
 
 -- how an operand uses its word, if it has one
 abbrev pub addressing_of : Option Operand → Option Addressing

@@ -1,7 +1,7 @@
 -- To what the words of an object refer, and what a word of a linked program finds. (ld(1), the PDP-11's relative and absolute modes)
 use Rattle.std.specs.Prelude.{◌≡◌, ℕ, ◌+◌, Bool, true, false, cond, eqb, List, Option, Some, None, slice_get}
-use Rattle.aout_core.specs.{WellFormed.{is_external, masked_type, segment_of}, declared.symbol.Symbol.Symbol}
 use Rattle.aout_core.specs.{declared.symbol.Segment.Segment, declared.reloc.Kind.Kind, Contents.Contents, Words.plus}
+use Rattle.aout_core.specs.{WellFormed.{is_external, masked_type, segment_of}, declared.symbol.Symbol.Symbol}
 use Rattle.aout_core.specs.declared.symbol.Segment.TheVariants as segments
 use Rattle.aout_core.specs.declared.reloc.Kind.TheVariants as kinds
 use Rattle.link_session.specs.Starts.{own}

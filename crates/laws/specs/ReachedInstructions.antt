@@ -1,5 +1,5 @@
 -- What a linked program has of an object in which nothing is suspicious for sure. (ld(1), the handbook of the PDP-11/70; what is
--- suspicious for sure, and which places are sure: `suspicions`)
+-- suspicious for sure, and which places are sure: `checks`)
 --
 -- The instructions at the sure places are in the program: none begins with a relocated word, and none is cut. Each operand that has a word
 -- is the address of the byte to which the object refers by its relocation word, or it is a number, since each pc bit suits its mode.
@@ -11,14 +11,13 @@ use Rattle.aout_core.specs.declared.reloc.Kind.TheVariants as kinds
 use Rattle.link_session.specs.Sessions.{IsObject}
 use Rattle.tool_options.specs.Choices.{Choices}
 use Rattle.link_out.specs.Results.{Outcome}
-use Rattle.link_laws.specs.relation.LinkedFrom.{IsLinkedFrom}
+use Rattle.laws.specs.{Instructions.KeepsLineAt, OperandWords.machine_value}
+use Rattle.laws.specs.{relation.LinkedFrom.IsLinkedFrom, OperandPlaces.{addressing_of, kind_meant, HasOperand, IsOperand}}
 use Rattle.instructions.specs.{Modes.counts_from_pc, declared.operation.Operation.Operation, declared.mode.Addressing.Addressing}
 use Rattle.instructions.specs.{declared.operand.Operand.Operand, declared.instruction.Instruction.Instruction, Instructions.instruction_of}
 use Rattle.instructions.specs.{Relocated.is_relocated, Alike.is_cut}
-use Rattle.suspicions.specs.{declared.evidence.Evidence.Evidence, Trust.is_sure, Suspicions.suspicions, Suspicions.is_immediate}
-use Rattle.suspicions.specs.{Suspicions.is_foreign, SureLaw.NoneIsSure}
-use Rattle.laws.specs.OperandPlaces.{addressing_of, kind_meant, HasOperand, IsOperand}
-use Rattle.laws.specs.{Instructions.KeepsLineAt, OperandWords.machine_value}
+use Rattle.checks.specs.{declared.evidence.Evidence.Evidence, Trust.is_sure, Suspicions.suspicions, Suspicions.is_immediate}
+use Rattle.checks.specs.{Suspicions.is_foreign, SureLaw.NoneIsSure}
 
 -- what an operand word refers to: the kind of its relocation word. One that is not relocated is a distance within the text in modes 67 and
 -- 77, and else a number

@@ -13,8 +13,8 @@ use Rattle.tool_options.specs.Choices.{Choices}
 use Rattle.surroundings.specs.Events.{Event, looked, opened, stored, written, Opened, opens, paths_of}
 use Rattle.surroundings.specs.{Emits.PutsUnless, declared.nodes.Node.Node, declared.office.Stored.Stored, declared.office.Stored.TheVariants.Kept}
 use Rattle.command_words.specs.Scripts.{Asked, to_add, to_withdraw, to_link}
-use Rattle.v7tools.specs.{FaultTexts.{cause_text, fault_line, no_memory}, SessionRuns.{Chains, RunsLines, events_of, lines_asked}}
 use Rattle.v7tools.specs.{LineRuns.LineRun, LinkRuns.IsLinkRun, declared.fault.CliFault.CliFault}
+use Rattle.v7tools.specs.{FaultTexts.{cause_text, fault_line, no_memory}, SessionRuns.{Chains, RunsLines, events_of, lines_asked}}
 use Rattle.v7tools.specs.declared.fault.CliFault.TheVariants as faults
 use Rattle.laws.specs.{Disks.Did, Disks.Disk, Disks.IsOn, Disks.Run, Disks.Writes}
 

@@ -1,6 +1,6 @@
 //! Laws of commands, over the definitions of what they do. Each law is the contract of a function with an empty body.
-ghost use Rattle.laws.specs.{Builds.{BuildsLaw, OnceLaw, ElsewhereLaw}, Calls.{LinkCallLaw, SessionCallLaw}};
 ghost use Rattle.laws.specs.SessionsByCommands.{LinkLineLaw, RefusedLineLaw, SameDiskLaw, UndoLaw};
+ghost use Rattle.laws.specs.{Builds.{BuildsLaw, OnceLaw, ElsewhereLaw}, Calls.{LinkCallLaw, SessionCallLaw}};
 
 use std::io::Write;
 

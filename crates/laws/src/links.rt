@@ -1,10 +1,10 @@
 //! Laws of loaded programs, lists and maps. Each law is the contract of a function with an empty body.
-ghost use Rattle.laws.specs.{CoreLaws.{WordsAreLoaded, BssIsZero, CommonsAreZero}, Instructions.InstructionsAreThere};
 ghost use Rattle.laws.specs.OperandPlaces.{OperandsAreThere, JumpsArrive, PointersToSegments, PointersToNames};
 ghost use Rattle.laws.specs.ReachedInstructions.{ReachedInstructionsAreKept, SurePlacesBegin};
 ghost use Rattle.laws.specs.CleanPrograms.{CleanObjectsMakeCleanPrograms};
 ghost use Rattle.laws.specs.Listings.{UndefinedAreListed, UndefinedLines, RowLines, ExternalsAreListed, SizesAreSums};
 ghost use Rattle.laws.specs.Maps.{AddressesAreOfTheFile, NoWordIsMissing, WordsLeadToTheirName};
+ghost use Rattle.laws.specs.{CoreLaws.{WordsAreLoaded, BssIsZero, CommonsAreZero}, Instructions.InstructionsAreThere};
 
 /// Which byte is at which address when a linked file is loaded: `core` of specs/Core, for the space of instructions and that of
 /// data, which are one unless spaces are split. (exec(2), a.out(5))

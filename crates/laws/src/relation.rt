@@ -1,0 +1,15 @@
+//! What linking is, over definitions alone. The law is the contract of a function with an empty body.
+ghost use Rattle.laws.specs.{relation.LinkedFrom.{LinkedExactly, LinkedOnce}, relation.Refusals.RefusedExactly};
+
+/// What linking is: the relation `IsLinkedFrom` of specs/relation/LinkedFrom holds of what a link gives, and of nothing else. It is
+/// stated over the objects, the forced names, the options, the file and the report alone. (ld(1), a.out(5))
+///
+/// - `exactly`: a link of objects gives a file and a report if and only if the relation holds of them.
+/// - `once`: it holds of at most one file and report for the same objects, forced names and options.
+/// - `refused`: a link of objects is refused if and only if its end, its table or the number of a symbol is too large. The fault is the
+///   first of these. Whether one applies is stated over the objects, the forced names and the options alone.
+pub fn linking_law()
+    ensures exactly { LinkedExactly }
+    ensures once { LinkedOnce }
+    ensures refused { RefusedExactly }
+{}
