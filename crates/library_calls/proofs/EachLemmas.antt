@@ -9,10 +9,10 @@ use Rattle.link_out.specs.{Inputs.{at_path, kept_with, with_input, with_inputs},
 use Rattle.link_out.specs.Inputs as inputs
 use Rattle.link_maps.specs.Links.{read_inputs}
 use Rattle.library_calls.specs.LinkAnswers.{each_of, numbered, objects_in, refusal_of, taken_each}
-use Rattle.library_calls.specs.{internal.Taken.{with_first, with_object, with_read}, declared.cause.Cause.Cause}
 use Rattle.library_calls.specs.{declared.cause.Cause.TheVariants.NotAdded, declared.cause.Refusal.Refusal}
-use Rattle.library_calls.specs.{declared.parts.ObjectBytes.ObjectBytes, Causes.{at, cause_of_input}, MapAnswers.objects_each}
 use Rattle.library_calls.specs.MemoryWanted.{HasBody, MayRunOutAt}
+use Rattle.library_calls.specs.{internal.Taken.{with_first, with_object, with_read}, declared.cause.Cause.Cause}
+use Rattle.library_calls.specs.{declared.parts.ObjectBytes.ObjectBytes, Causes.{at, cause_of_input}, MapAnswers.objects_each}
 
 -- ---- inputs with their numbers
 

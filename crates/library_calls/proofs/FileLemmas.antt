@@ -5,8 +5,8 @@ use Rattle.aout_core.specs.{Contents.Contents, Decoding.decode, Decoding.header_
 use Rattle.aout_core.specs.{Refusals.refused, WellFormed.first_object_fault, declared.object.ObjectFault.ObjectFault}
 use Rattle.link_out.specs.Steps.{and_then, refused_as, unless}
 use Rattle.link_out.specs.Inputs as inputs
-use Rattle.library_calls.specs.{FileAnswers.{file_in, object_in, object_of}, declared.cause.Cause.TheVariants.{BadFile, BadObject, Memory}}
 use Rattle.library_calls.specs.{declared.cause.Cause.Cause, Causes.cause_of_input, MemoryWanted.HasBody}
+use Rattle.library_calls.specs.{FileAnswers.{file_in, object_in, object_of}, declared.cause.Cause.TheVariants.{BadFile, BadObject, Memory}}
 
 is_whole : (r : Result Contents ReadFault) → IsOk r → IsOk (refused_as BadFile r)
 is_whole (Ok c) h = refl

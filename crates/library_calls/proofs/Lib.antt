@@ -11,5 +11,7 @@ pub mod ObjectNumberLemmas
 pub mod PlaceLemmas
 pub mod RemarkLemmas
 pub mod KeptLemmas
+pub mod ItemLemmas
+pub mod PutLemmas
 mod ReportCountLemmas
 pub mod SizeLemmas

@@ -3,8 +3,8 @@ use Rattle.std.proofs.Common.{◌≡◌, ℕ, List, [], true, Option, Some, None
 use Rattle.std.specs.declared.alloc.AllocError.{AllocError}
 use Rattle.aout_core.specs.{Contents.Contents, Decoding.decode, WellFormed.first_object_fault, declared.file.ReadFault.ReadFault}
 use Rattle.aout_core.specs.declared.header.Header.{Header}
-use Rattle.findings.specs.{Found.Found, Found.all_found, Wrong.wrong_bytes, Wrong.wrong_in, declared.finding.Finding.Finding}
-use Rattle.suspicions.specs.{Suspicions.all_odd, declared.evidence.Evidence.TheVariants.Flow}
+use Rattle.checks.specs.{Found.Found, Found.all_found, Wrong.wrong_bytes, Wrong.wrong_in, declared.finding.Finding.Finding}
+use Rattle.checks.specs.{Suspicions.all_odd, declared.evidence.Evidence.TheVariants.Flow}
 use Rattle.library_calls.specs.RemarkAnswers.{IsRemarked, IsRemarkedBy, Output, header_by, odd_by, remarked_by, remarks_in, wrong_by}
 use Rattle.library_calls.specs.{declared.remarks_call.RemarkRecord.RemarkRecord, declared.remarks_call.Remarks.Remarks}
 

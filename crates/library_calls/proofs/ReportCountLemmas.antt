@@ -11,8 +11,8 @@ use Rattle.link_session.specs.States.{Definition, definition_by, differs, first_
 use Rattle.link_session.proofs.{AgreementLemmas.own_again, StateLemmas.first_definition-append, UpdateLemmas.unmentioned}
 use Rattle.link_out.specs.function.Reports.{is_missing, is_undefined, report_of, reserved_names, reserved_taken, undefined_names}
 use Rattle.link_out.specs.{function.Plans.Plan, Results.ReportNames}
-use Rattle.library_calls.specs.{FindingPlaces.{name_count, named_by_entry}, LinkAnswers.{entry_findings, finding_of}}
 use Rattle.library_calls.specs.RunAnswers.{findings_if, places_if}
+use Rattle.library_calls.specs.{FindingPlaces.{name_count, named_by_entry}, LinkAnswers.{entry_findings, finding_of}}
 use Rattle.library_calls.proofs.CountLemmas.{places_most}
 
 filter_most : {A : Type 0} (p : A → Bool) (xs : List A) → length (filter p xs) ≤ length xs

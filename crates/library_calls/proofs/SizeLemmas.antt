@@ -4,10 +4,10 @@ use Rattle.std.proofs.Common.{◌≡◌, ℕ, zero, suc, ◌+◌, ◌*◌, ◌/�
 use Rattle.std.proofs.Common.{length, take, drop, Result, Ok, Err, refl, sym, ap, ◌∙◌, subst, arith, length-append, ◌%◌}
 use Rattle.std.proofs.{lemmas.List.{length-map, map-append}, lemmas.List.Sums.{sum_by-cons, sum_by_push}}
 use Rattle.std.specs.{Prelude.{IfSome, Option, Some, None, filter, nat_lt, sum_by, ◌-◌, ◌^◌, ◌<◌, min, zip}, List.flat_map}
+use Rattle.aout_core.specs.declared.symbol.Segment.TheVariants.{TextSeg, DataSeg}
 use Rattle.aout_core.specs.{Encoding.{encoding, file_length}, declared.header.Header.Header, declared.reloc.Reloc.Reloc}
 use Rattle.aout_core.specs.{declared.symbol.Symbol.Symbol, Contents.Contents, Decoding.{decode, header_in}}
 use Rattle.aout_core.specs.{WellFormed.{first_object_fault, is_external}, declared.symbol.Segment.Segment}
-use Rattle.aout_core.specs.declared.symbol.Segment.TheVariants.{TextSeg, DataSeg}
 use Rattle.aout_core.proofs.{DecodingLemmas.{decoded_fits, decoded_passed}, EncodingLemmas.{length-parts, with_relocation-add}}
 use Rattle.tool_options.specs.{declared.options.Keep.Keep, Choices.Choices, ForcedNames.takes, ForcedNames.with_name, NameLists.is_among}
 use Rattle.tool_options.specs.declared.options.Keep.TheVariants as kinds
@@ -16,20 +16,20 @@ use Rattle.link_session.specs.{Cells.words_of, Earlier.with_earlier, Labelled.La
 use Rattle.link_session.specs.{Labelled.objects, Limits.refusal, Mentions.Mention, Undo.Kept}
 use Rattle.link_session.proofs.LimitLemmas.{length-new_names}
 use Rattle.link_out.specs.function.Tables.{external_row, external_rows, final_reloc, final_relocs, is_kept_local, keeps, local_rows}
+use Rattle.link_out.specs.{function.Reports.report_of, declared.linked.Linked.Linked, Outcomes.outcome_of}
 use Rattle.link_out.specs.{function.Tables.{moved_local, rows_kept, table}, declared.linked.LinkFault.LinkFault}
 use Rattle.link_out.specs.{function.Link.{link, linked_file}, function.Plans.{Plan, plan}, function.Words.{final_word, final_words}}
 use Rattle.link_out.specs.{Results.{Outcome, ReportNames}, Inputs.{at_path, with_input, with_inputs}, Steps.{and_then, refused_as, unless}}
-use Rattle.link_out.specs.{function.Reports.report_of, declared.linked.Linked.Linked, Outcomes.outcome_of}
 use Rattle.link_out.specs.Inputs as inputs
 use Rattle.link_out.proofs.OutcomeLemmas.{made_file, made_report}
-use Rattle.library_calls.specs.{Causes.at, KeptAnswers.{kept_run, kept_with}, LinkAnswers.{numbered, parts_linked, refusal_of, taken_each}}
 use Rattle.library_calls.specs.LinkRequests.{choices_in, forced_in, name_of, with_names}
 use Rattle.library_calls.specs.RunAnswers.{RunOutput, link_run, output_with, run_output, no_run, parts_run, places_if, results_of}
 use Rattle.library_calls.specs.{FindingPlaces.name_count, declared.places.FindingPlace.FindingPlace}
 use Rattle.library_calls.specs.Sizes.{IsWithin, IsMostOfMaps, IsMostOfRuns, IsMostOfSessions, bytes_in_all, most_of}
 use Rattle.library_calls.specs.MapAnswers.{IsMapAnswer, linked_run, map_asked, map_of_all, objects_each, run_shown}
-use Rattle.library_calls.specs.{declared.cause.Cause.TheVariants.{CutNames, ManyNames, NotLinked}, declared.cause.Cause.Cause}
 use Rattle.library_calls.specs.{declared.cause.Refusal.Refusal, declared.run_call.Wants.Wants, declared.map_call.LinkOutput.LinkOutput}
+use Rattle.library_calls.specs.{Causes.at, KeptAnswers.{kept_run, kept_with}, LinkAnswers.{numbered, parts_linked, refusal_of, taken_each}}
+use Rattle.library_calls.specs.{declared.cause.Cause.TheVariants.{CutNames, ManyNames, NotLinked}, declared.cause.Cause.Cause}
 use Rattle.library_calls.proofs.ReportCountLemmas.{findings_most, given_places, reported_most}
 use Rattle.link_maps.specs.Links.{link_shown}
 use Rattle.link_maps.specs.declared.outcome.Outcome as shown

@@ -7,10 +7,10 @@ use Rattle.link_session.specs.{Edits.last_of, Labelled.Labelled, Labelled.object
 use Rattle.link_session.specs.Sessions.{Adds, Withdraws, nothing_kept}
 use Rattle.link_out.specs.{function.Link.link, Steps.and_then, Steps.refused_as, Steps.unless}
 use Rattle.tool_options.specs.Choices.{Choices}
+use Rattle.library_calls.specs.{StateJson.state_json, StateLines.state_lines}
 use Rattle.library_calls.specs.{declared.cause.Cause.TheVariants.{NoOption, NotAdded, NotLinked, NothingKept}, declared.cause.Cause.Cause}
 use Rattle.library_calls.specs.{declared.cause.Refusal.Refusal, FileAnswers.object_in, LinkRequests.{choices_in, forced_in}}
 use Rattle.library_calls.specs.{MemoryWanted.HasBody, RunAnswers.{RunOutput, output_with}, declared.run_call.Wants.Wants}
-use Rattle.session_states.specs.{StateJson.state_json, StateLines.state_lines}
 
 -- a session of no objects with these forced names
 abbrev pub begun_in : List ℕ → Result Kept Refusal

@@ -6,6 +6,10 @@ pub mod LinkAnswers
 pub mod ObjectParts
 pub mod MemoryWanted
 pub mod RunAnswers
+pub mod Items
+pub mod StateLines
+pub mod Json
+pub mod StateJson
 pub mod KeptAnswers
 pub mod MapAnswers
 pub mod Sizes

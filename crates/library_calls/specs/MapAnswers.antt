@@ -8,8 +8,8 @@ use Rattle.link_out.specs.{function.Reports.status_of, Steps.and_then, Steps.ref
 use Rattle.link_maps.specs.{Links.ShowsLink, Links.read_inputs, Maps.AreRecords, Maps.IsMapOf}
 use Rattle.link_maps.specs.{declared.map.LinkMap.LinkMap, declared.members.Objects.Objects, declared.outcome.Outcome.Outcome}
 use Rattle.link_maps.specs.{Members.all_of, Members.cause_of, Records.bit, Records.no_label, Taking.split, Taking.split_of}
-use Rattle.library_calls.specs.{declared.cause.Cause.TheVariants.{NotAdded, NotLinked}, LinkRequests.{choices_in, forced_in}}
 use Rattle.library_calls.specs.{declared.cause.Refusal.Refusal, declared.map_call.MapHead.MapHead, declared.map_call.LinkOutput.LinkOutput}
+use Rattle.library_calls.specs.{declared.cause.Cause.TheVariants.{NotAdded, NotLinked}, LinkRequests.{choices_in, forced_in}}
 use Rattle.library_calls.specs.{Causes.{at, number_of}, LinkAnswers.{numbered, refusal_of}, MemoryWanted.MayRunOutInParts}
 use Rattle.library_calls.specs.{RunAnswers.{RunOutput, no_run, results_of, run_output}, declared.run_call.Wants.Wants}
 

@@ -6,9 +6,9 @@ use Rattle.std.specs.{Prelude.{ℕ, ◌*◌, ◌%◌, eqb, nat_lt, if◌then◌e
 use Rattle.aout_core.specs.{declared.header.Header.Header, declared.reloc.Reloc.Reloc, declared.symbol.Symbol.Symbol}
 use Rattle.aout_core.specs.{declared.file.ReadFault.TheVariants.OddSize, Names.padded, Contents.Contents, Encoding.encoding}
 use Rattle.link_out.specs.Steps.{and_then}
-use Rattle.library_calls.specs.{declared.cause.LongPart.TheVariants.{Text, Data, Bss, Symbols}, FileAnswers.{file_in, object_in, object_of}}
 use Rattle.library_calls.specs.{declared.parts.FileLists.FileLists, declared.parts.ObjectWord.ObjectWord}
 use Rattle.library_calls.specs.{declared.parts.SymbolRow.SymbolRow, declared.parts.PartLists.PartLists, declared.cause.Cause.Cause}
+use Rattle.library_calls.specs.{declared.cause.LongPart.TheVariants.{Text, Data, Bss, Symbols}, FileAnswers.{file_in, object_in, object_of}}
 use Rattle.library_calls.specs.{declared.cause.Cause.TheVariants.{TooLong, BadFile}, LinkRequests.name_of}
 
 pub record Pieces : Type 0 where

@@ -3,10 +3,10 @@
 -- Each record has the place of its text among all texts, which are one after another. What a text says is in no definition.
 use Rattle.std.specs.Prelude.{◌≡◌, ℕ, ◌+◌, ◌-◌, ◌/◌, true, ◌||◌, nat_le, nat_lt, if◌then◌else◌, List, [], ◌∷◌, ◌++◌, length, Option, Some}
 use Rattle.std.specs.{Prelude.{None, Result, Ok, Err}, List.flat_map}
-use Rattle.aout_core.specs.{Encoding.{relocation_at, symbols_at, file_length}, declared.header.Header.Header, Contents.Contents}
 use Rattle.aout_core.specs.{Decoding.decode, WellFormed.first_object_fault, declared.file.ReadFault.ReadFault}
-use Rattle.findings.specs.{Found.{Found, all_found, kind_number}, Wrong.{wrong_bytes, wrong_in}, declared.finding.Finding.Finding}
-use Rattle.suspicions.specs.{Suspicions.all_odd, declared.evidence.Evidence.TheVariants.Flow}
+use Rattle.aout_core.specs.{Encoding.{relocation_at, symbols_at, file_length}, declared.header.Header.Header, Contents.Contents}
+use Rattle.checks.specs.{Suspicions.all_odd, declared.evidence.Evidence.TheVariants.Flow}
+use Rattle.checks.specs.{Found.{Found, all_found, kind_number}, Wrong.{wrong_bytes, wrong_in}, declared.finding.Finding.Finding}
 use Rattle.library_calls.specs.declared.remarks_call.Located.{Located}
 use Rattle.library_calls.specs.{declared.remarks_call.RemarkRecord.RemarkRecord, declared.remarks_call.Remarks.Remarks}
 

@@ -8,8 +8,8 @@ use Rattle.link_out.specs.{Results.ReportNames, Steps.and_then, Steps.refused_as
 use Rattle.library_calls.specs.{declared.places.FindingPlace.FindingPlace, FindingPlaces.finding_places, declared.cause.Cause.Cause}
 use Rattle.library_calls.specs.{declared.cause.Cause.TheVariants.NotLinked, declared.cause.Refusal.Refusal}
 use Rattle.library_calls.specs.{declared.reported.ReportedName.ReportedName, declared.run_call.RunResult.RunResult, Causes.at}
-use Rattle.library_calls.specs.{declared.run_call.Wants.Wants, LinkAnswers.{all_findings, parts_linked, taken_each}}
 use Rattle.library_calls.specs.LinkRequests.{choices_in, forced_in}
+use Rattle.library_calls.specs.{declared.run_call.Wants.Wants, LinkAnswers.{all_findings, parts_linked, taken_each}}
 
 -- the status, the bytes of the linked file, and what is wanted of its report: the bytes of its lines, a list, and the objects of what
 -- the list has

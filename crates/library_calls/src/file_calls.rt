@@ -2,8 +2,8 @@
 ghost use Rattle.std.specs.Prelude.{◌≡◌, ◌≢◌, ◌∷◌, [], Ok, Err, IsOk, IfOk, IfErr};
 ghost use Rattle.aout_core.specs.Refusals.{refused};
 ghost use Rattle.symtools.specs.{NmLists.nm_text, SizeLines.size_text};
-ghost use Rattle.library_calls.specs.{FileAnswers.{checked_in, names_in, sizes_in, stripped_in}, MemoryWanted.HasBody};
 ghost use Rattle.library_calls.specs.declared.cause.Cause.TheVariants.{Memory};
+ghost use Rattle.library_calls.specs.{FileAnswers.{checked_in, names_in, sizes_in, stripped_in}, MemoryWanted.HasBody};
 
 use crate::cause::Cause;
 use crate::first::{file_length, first_file, first_object};

@@ -1,12 +1,12 @@
 //! The file and the object that bytes begin with.
 ghost use Rattle.std.specs.Prelude.{◌≡◌, ◌≢◌, Ok, Err, IfOk, IfErr};
 ghost use Rattle.aout_core.specs.{Refusals.refused, Decoding.decode, Encoding.file_length};
-ghost use Rattle.library_calls.specs.{FileAnswers.{file_in, object_in, object_of}, MemoryWanted.HasBody};
 ghost use Rattle.library_calls.specs.declared.cause.Cause.TheVariants.{Memory};
+ghost use Rattle.library_calls.specs.{FileAnswers.{file_in, object_in, object_of}, MemoryWanted.HasBody};
 
 use crate::cause::Cause;
 use aout_core::{File, Header, Object, decode_file};
-use findings::FilePlaces;
+use checks::FilePlaces;
 use std::alloc::Global;
 
 /// How many bytes a file with this header takes.

@@ -9,12 +9,13 @@ ghost use Rattle.library_calls.specs.declared.cause.Cause.TheVariants.{Memory, N
 
 use crate::cause::{Cause, Refusal};
 use crate::first::first_object;
+use crate::json::state_json;
+use crate::lines::state_lines;
 use crate::requests::{forced_names, tool_options};
 use crate::run_call::{RunResult, Wants, given_of, link_kept};
 use aout_core::Object;
 use link_out::Options;
 use link_session::Session;
-use session_states::{state_json, state_lines};
 use std::alloc::Global;
 
 /// Begins a session of no objects with forced names, 8 bytes each, filled up with NULs. (own choice)
@@ -117,8 +118,7 @@ pub fn link_session(
     run_kept(alloc, session, wants, &options)
 }
 
-/// What a session shows: with form 0 the lines of `session_states::state_lines`, and with form 1 the JSON of
-/// `session_states::state_json`. (own choice)
+/// What a session shows: with form 0 the lines of `state_lines`, and with form 1 the JSON of `state_json`. (own choice)
 ///
 /// Errors: `NoOption`, 1, if the form is another number. `Memory`, 50, if memory runs out for the text.
 pub fn state_of(alloc: Global, session: &Session, form: u32) -> Result<Vec<u8>, Cause>

@@ -3,16 +3,16 @@ ghost use Rattle.std.specs.Prelude.{◌≡◌, ◌≢◌, Ok, Err, IsOk, IfOk, I
 ghost use Rattle.aout_core.specs.Refusals.{refused};
 ghost use Rattle.link_out.specs.Steps.{refused_as};
 ghost use Rattle.listings.specs.{MemoryWanted.ListingMayRunOut, Reading.read, declared.draft.Addresses.TheVariants.Compared};
-ghost use Rattle.library_calls.specs.{Causes.first_mistake, ListingAnswers.{DescribedMayRunOut, described_in, listed, listed_in}};
 ghost use Rattle.library_calls.specs.declared.cause.Cause.TheVariants.{Memory};
+ghost use Rattle.library_calls.specs.{Causes.first_mistake, ListingAnswers.{DescribedMayRunOut, described_in, listed, listed_in}};
 
 use crate::cause::{Cause, Refusal};
 use crate::first::first_file;
 use crate::written::bytes_of;
 use aout_core::File;
+use checks::Notes;
 use disassemblies::Sweep;
 use explanations::write_explained;
-use findings::Notes;
 use listings::{Addresses, ListingFault, read_listing};
 use std::alloc::{AllocError, Global};
 

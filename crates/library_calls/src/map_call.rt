@@ -6,8 +6,8 @@ ghost use Rattle.link_maps.specs.{Links.read_inputs, Members.{all_of, cause_of}}
 ghost use Rattle.library_calls.specs.LinkAnswers.{each_of};
 ghost use Rattle.library_calls.specs.MapAnswers.{AreTaken, HasNoMap, IsMapAnswer, IsMapped, MapMayRunOut, head_by, linked_head, made_head};
 ghost use Rattle.library_calls.specs.MapAnswers.{map_asked, map_of_all, objects_each, placed_head, run_shown};
-ghost use Rattle.library_calls.specs.{MemoryWanted.{HasBody, MayRunOutInParts}, RunAnswers.results_of, internal.Taken.with_read};
 ghost use Rattle.library_calls.specs.declared.cause.Cause.TheVariants.{Memory};
+ghost use Rattle.library_calls.specs.{MemoryWanted.{HasBody, MayRunOutInParts}, RunAnswers.results_of, internal.Taken.with_read};
 
 use crate::cause::{Cause, Refusal};
 use crate::first::first_object;

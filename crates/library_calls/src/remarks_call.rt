@@ -1,17 +1,15 @@
 //! What is wrong and odd in a file, as records.
 ghost use Rattle.std.specs.Prelude.{◌≡◌, ◌∷◌, ◌<◌, ◌^◌, [], IfOk, IfErr, None, Some, true};
 ghost use Rattle.aout_core.specs.{Refusals.refused, WellFormed.first_object_fault};
-ghost use Rattle.findings.specs.Wrong.{wrong_bytes, wrong_in};
-ghost use Rattle.suspicions.specs.{Suspicions.all_odd, declared.evidence.Evidence.TheVariants.Flow};
+ghost use Rattle.checks.specs.{Wrong.{wrong_bytes, wrong_in}, Suspicions.all_odd, declared.evidence.Evidence.TheVariants.Flow};
 ghost use Rattle.library_calls.specs.RemarkAnswers.{IsRemarked, IsRemarkedBy, at_word, located_in, located_if, records_from, remarked_by, remarks_in, status_by, texts_of};
 ghost use Rattle.library_calls.specs.declared.cause.Cause.TheVariants.{Memory};
 
 use crate::cause::Cause;
 use aout_core::{File, Header, ReadFault, decode_file, object_fault};
+use checks::{Evidence, FilePlaces, Finding, all_odd_of, wrong_bytes, wrong_in};
 use disassemblies::Sweep;
-use findings::{FilePlaces, Finding, wrong_bytes, wrong_in};
 use std::alloc::{AllocError, Global};
-use suspicions::{Evidence, all_odd_of};
 
 /// A remark on a file. (own choice)
 #[repr(C)]

@@ -1,8 +1,8 @@
 //! What is asked of a link.
 ghost use Rattle.std.specs.Prelude.{◌≡◌, ◌≢◌, ◌<◌, IfErr};
 ghost use Rattle.aout_core.specs.Refusals.{refused};
-ghost use Rattle.library_calls.specs.{FileAnswers.{has_bit, nm_options_in}, LinkRequests.{choices_in, entry_of, flags_in, forced_in}};
 ghost use Rattle.library_calls.specs.declared.cause.Cause.TheVariants.{Memory};
+ghost use Rattle.library_calls.specs.{FileAnswers.{has_bit, nm_options_in}, LinkRequests.{choices_in, entry_of, flags_in, forced_in}};
 
 use crate::cause::{Cause, Refusal};
 use aout_core::Name;

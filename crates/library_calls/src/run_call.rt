@@ -3,8 +3,8 @@ ghost use Rattle.std.specs.Prelude.{◌≡◌, ◌≢◌, Ok, Err, IsOk, IfOk, I
 ghost use Rattle.aout_core.specs.Refusals.{refused};
 ghost use Rattle.link_session.specs.Labelled.{objects};
 ghost use Rattle.link_out.specs.{Outcomes.{outcome_of, report_names}, Steps.refused_as, function.Link.link};
-ghost use Rattle.library_calls.specs.{LinkAnswers.each_of, MemoryWanted.{LinkMayRunOut, MayRunOutInLink}};
 ghost use Rattle.library_calls.specs.RunAnswers.{findings_if, lines_if, link_run, no_run, objects_run, output_with, parts_run, places_if};
+ghost use Rattle.library_calls.specs.{LinkAnswers.each_of, MemoryWanted.{LinkMayRunOut, MayRunOutInLink}};
 ghost use Rattle.library_calls.specs.{RunAnswers.{results_of, run_output}, declared.cause.Cause.TheVariants.{Memory, NotLinked}};
 
 use crate::cause::{Cause, Refusal};

@@ -2,8 +2,8 @@
 ghost use Rattle.std.specs.Prelude.{◌≡◌, ◌≢◌, ◌⊎◌, Ok, Err, IfOk, IfErr, IsOk};
 ghost use Rattle.aout_core.specs.Refusals.{refused};
 ghost use Rattle.link_session.specs.Labelled.{objects};
-ghost use Rattle.library_calls.specs.{LinkAnswers.{each_of, taken_each}, MemoryWanted.{HasBody, MayRunOutInParts}};
 ghost use Rattle.library_calls.specs.{internal.Taken.with_first, declared.cause.Cause.TheVariants.Memory};
+ghost use Rattle.library_calls.specs.{LinkAnswers.{each_of, taken_each}, MemoryWanted.{HasBody, MayRunOutInParts}};
 
 use crate::cause::{Cause, Refusal};
 use crate::kept_calls::add_bytes;

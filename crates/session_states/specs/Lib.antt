@@ -1,4 +1,0 @@
-pub mod Items
-pub mod StateLines
-pub mod StateJson
-pub mod Json
