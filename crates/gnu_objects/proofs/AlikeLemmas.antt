@@ -1,18 +1,13 @@
--- What a map finds for a name once a name, or a symbol that counts, has been put in.
+-- What a map finds for a name once a name has been put in.
 use Rattle.std.proofs.Common.{◌≡◌, ℕ, ◌+◌, ◌<◌, Bool, true, false, cond, not, ◌&&◌, nat_eq, if◌then◌else◌, List, drop, take, length, Option}
-use Rattle.std.proofs.{Common.{Some, None, get_or, refl, sym, ap, ◌∙◌, rules}, lemmas.List.drop_more}
+use Rattle.std.proofs.{Common.{Some, get_or, refl, sym, ap, ◌∙◌, rules}, lemmas.List.drop_more}
 use Rattle.std.specs.Cmp.Lexicographic.{pointwise, same_text}
 use Rattle.indexmap.specs.IndexMap.{IndexMap, get}
-use Rattle.gnu_objects.specs.Staying.{are_alike, alike_with}
-use Rattle.gnu_objects.specs.internal.AlikeNames.{other_than, found, first_number, PutsName, PutsSymbol, PutsSymbolsFrom}
-use Rattle.gnu_objects.specs.{declared.alike.Equals.Equals, declared.symbols.GnuSymbol.GnuSymbol}
+use Rattle.gnu_objects.specs.{Staying.{are_alike, counts, alike_with}, declared.alike.Equals.Equals, declared.symbols.GnuSymbol.GnuSymbol, GnuForm.name_at}
+use Rattle.gnu_objects.specs.internal.AlikeNames.{other_than, found, PutsName, PutsSymbol, FindsAlike}
 
 pub alike-symm : (a b : List ℕ) → are_alike a b ≡ are_alike b a
 alike-symm a b = search rules
-
-in_front : (t : Bool) (n : ℕ) (a b c : Option ℕ) → c ≡ first_number a b →
-    (if t then Some n else c) ≡ first_number (if t then Some n else a) b
-in_front t n a b c e = search rules
 
 module _ {S : Type 0} where
   pub puts_name : (name : List ℕ) (number : ℕ) (e : Equals) (old new : IndexMap (List ℕ) Equals S) →
@@ -58,8 +53,10 @@ module _ {S : Type 0} where
 
   -- one symbol more is put in
   pub puts_more : (strings : List ℕ) (externals : Bool) (symbols : List GnuSymbol) (n : ℕ) (d : GnuSymbol)
-      (old before after : IndexMap (List ℕ) Equals S) →
+      (before after : IndexMap (List ℕ) Equals S) →
       n < length symbols → PutsSymbol strings externals n (get_or symbols n d) before after →
-      PutsSymbolsFrom strings externals (n + 1) (drop (n + 1) symbols) old before →
-      PutsSymbolsFrom strings externals n (drop n symbols) old after
-  puts_more strings externals symbols n d old before after inside puts so_far q = search (rules, in_front, drop_more)
+      FindsAlike strings externals (n + 1) (drop (n + 1) symbols) before → FindsAlike strings externals n (drop n symbols) after
+  puts_more strings externals symbols n d before after inside puts so_far q =
+      let s : GnuSymbol = get_or symbols n d in
+      puts q ∙ ap (λ (o : Option ℕ). if counts strings externals s && are_alike q (name_at strings s.place) then Some n else o) (so_far q)
+      ∙ sym (ap (alike_with strings externals q n) (drop_more symbols n d inside))

@@ -1,8 +1,9 @@
 -- Different names of symbols that stay are different in eight bytes.
-use Rattle.std.proofs.Common.{◌≡◌, ◌≢◌, ℕ, zero, suc, ◌+◌, ◌<◌, Bool, true, false, not, ◌&&◌, ◌||◌, if◌then◌else◌, List, [], ◌∷◌, take}
-use Rattle.std.proofs.{Common.{Option, Some, None, slice_get, sym, ap, ◌∙◌, arith, ◌⊎◌, inl, inr, rules}, lemmas.Bool.cases_order}
-use Rattle.gnu_objects.specs.Staying.{is_external, are_alike, counts, alike_with, is_some, collides, stays}
-use Rattle.gnu_objects.specs.GnuRefusals.{alike_at, alike_refusal, first_alike}
+use Rattle.std.proofs.Common.{◌≡◌, ◌≢◌, ℕ, zero, suc, ◌+◌, Bool, true, false, not, ◌&&◌, ◌||◌, if◌then◌else◌, List, [], ◌∷◌, take}
+use Rattle.std.proofs.{Common.{Option, Some, None, slice_get, sym, ap, ◌∙◌, ◌⊎◌, inl, inr, rules}}
+use Rattle.std.specs.Prelude.{is_some, option_map}
+use Rattle.gnu_objects.specs.{Staying.{is_external, are_alike, counts, alike_with, collides, stays}, declared.refusal.Refusal.TheVariants.AlikeNames}
+use Rattle.gnu_objects.specs.GnuRefusals.{alike_refusal, first_alike, first_refusal}
 use Rattle.gnu_objects.specs.{declared.options.Locals.Locals, declared.symbols.GnuSymbol.GnuSymbol, GnuForm.name_at, GnuForm.is_stab}
 use Rattle.gnu_objects.proofs.ReferenceLemmas.{both_none}
 
@@ -26,18 +27,17 @@ none_alike strings externals name m (s ∷ rest) (suc k) t none is counted same 
     let head = no_number (is_alike strings externals name s) m (alike_with strings externals name (m + 1) rest) none in
     none_alike strings externals name (m + 1) rest k t head.1 is counted same
 
-no_alike : (n : ℕ) (o : Option ℕ) → alike_at n o ≡ None → o ≡ None
+no_alike : (n : ℕ) (o : Option ℕ) → option_map (AlikeNames n) o ≡ None → o ≡ None
 no_alike n o e = search rules
 
-apart : (strings : List ℕ) (i : ℕ) (symbols : List GnuSymbol) (m n : ℕ) (s t : GnuSymbol) → first_alike strings i symbols ≡ None → m < n →
-    slice_get symbols m ≡ Some s → slice_get symbols n ≡ Some t → counts strings true s ≡ true → counts strings true t ≡ true →
-    are_alike (name_at strings s.place) (name_at strings t.place) ≡ true → ⊥
-apart strings i [] m n s t none lt is_s is_t count_s count_t same = cc
-apart strings i (x ∷ rest) m zero s t none lt is_s is_t count_s count_t same = omega arith
-apart strings i (x ∷ rest) zero (suc n) s t none lt is_s is_t count_s count_t same = search (rules, both_none, none_alike, no_alike)
-apart strings i (x ∷ rest) (suc m) (suc n) s t none lt is_s is_t count_s count_t same =
-    let head = both_none (alike_refusal strings i x rest) (first_alike strings (i + 1) rest) none in
-    apart strings (i + 1) rest m n s t head.1 (omega arith) is_s is_t count_s count_t same
+apart : (strings : List ℕ) (all : List GnuSymbol) (i : ℕ) (symbols : List GnuSymbol) (m n : ℕ) (s t : GnuSymbol) →
+    first_refusal (alike_refusal strings all) i symbols ≡ None → slice_get symbols m ≡ Some s → slice_get all n ≡ Some t →
+    counts strings true s ≡ true → counts strings true t ≡ true → are_alike (name_at strings s.place) (name_at strings t.place) ≡ true → ⊥
+apart strings all i [] m n s t none is_s is_t count_s count_t same = cc
+apart strings all i (x ∷ rest) zero n s t none is_s is_t count_s count_t same = search (rules, both_none, none_alike, no_alike)
+apart strings all i (x ∷ rest) (suc m) n s t none is_s is_t count_s count_t same =
+    let head = both_none (alike_refusal strings all i x) (first_refusal (alike_refusal strings all) (i + 1) rest) none in
+    apart strings all (i + 1) rest m n s t head.1 is_s is_t count_s count_t same
 
 -- ---- symbols that stay
 
@@ -59,7 +59,7 @@ lone : (strings : List ℕ) (symbols : List GnuSymbol) (n : ℕ) (s t : GnuSymbo
     slice_get symbols n ≡ Some t → is_stab strings t ≡ false → are_alike (name_at strings s.place) (name_at strings t.place) ≡ true → ⊥
 lone strings symbols n s t e is stab same = search (rules, none_alike, none_is, counts_any)
 
-pub distinct : (locals : Locals) (strings : List ℕ) (symbols : List GnuSymbol) (words : List ℕ) → first_alike strings 0 symbols ≡ None →
+pub distinct : (locals : Locals) (strings : List ℕ) (symbols : List GnuSymbol) (words : List ℕ) → first_alike strings symbols ≡ None →
     (m n : ℕ) (s t : GnuSymbol) → slice_get symbols m ≡ Some s → slice_get symbols n ≡ Some t →
     stays locals strings symbols words m s ≡ true → stays locals strings symbols words n t ≡ true →
     name_at strings s.place ≢ name_at strings t.place → take 8 (name_at strings s.place) ≢ take 8 (name_at strings t.place)
@@ -72,17 +72,10 @@ distinct locals strings symbols words none m n s t is_s is_t stays_s stays_t ne 
     other : are_alike (name_at strings t.place) (name_at strings s.place) ≡ true
     other = alike (name_at strings t.place) (name_at strings s.place) (λ same. ne (sym same)) (sym e)
 
-    by_order : counts strings true s ≡ true → counts strings true t ≡ true → (m ≡ n) ⊎ ((m < n) ⊎ (n < m)) → ⊥
-    by_order count_s count_t (inl same) =
-        let both : Some s ≡ Some t = sym is_s ∙ ap (slice_get symbols) same ∙ is_t in
-        let it : s ≡ t = cc in
-        ne (ap (λ (u : GnuSymbol). name_at strings u.place) it)
-    by_order count_s count_t (inr (inl lt)) = apart strings 0 symbols m n s t none lt is_s is_t count_s count_t one
-    by_order count_s count_t (inr (inr gt)) = apart strings 0 symbols n m t s none gt is_t is_s count_t count_s other
-
     by : (is_stab strings s ≡ false) × ((is_external s ≡ true) ⊎ (collides strings symbols s ≡ false)) →
         (is_stab strings t ≡ false) × ((is_external t ≡ true) ⊎ (collides strings symbols t ≡ false)) → ⊥
     by (stab_s, inr lone_s) (stab_t, how) = lone strings symbols n s t lone_s is_t stab_t one
     by (stab_s, inl external_s) (stab_t, inr lone_t) = lone strings symbols m t s lone_t is_s stab_s other
     by (stab_s, inl external_s) (stab_t, inl external_t) =
-        by_order (counts_external strings s stab_s external_s) (counts_external strings t stab_t external_t) (cases_order m n)
+        apart strings symbols 0 symbols m n s t none is_s is_t (counts_external strings s stab_s external_s)
+        (counts_external strings t stab_t external_t) one

@@ -1,6 +1,6 @@
 -- Externals of several files, and what a map finds for their names.
 use Rattle.std.proofs.Common.{◌≡◌, ℕ, ◌+◌, ◌<◌, ◌||◌, Bool, true, false, if◌then◌else◌, List, [], ◌∷◌, ◌++◌, drop, take, length, Option}
-use Rattle.std.proofs.{Common.{Some, None, get_or, refl, sym, ap, ◌∙◌, subst, rules}, lemmas.List.{drop_more, map_more}}
+use Rattle.std.proofs.{Common.{Some, None, get_or, sym, ap, ◌∙◌, subst, rules}, lemmas.List.{drop_more, map_more}}
 use Rattle.std.proofs.lemmas.List.Folds.{list_any-append}
 use Rattle.std.specs.{List.list_any, Option.is_some}
 use Rattle.indexmap.specs.IndexMap.{IndexMap}
@@ -8,17 +8,13 @@ use Rattle.gnu_objects.specs.{Staying.are_alike, internal.AlikeNames.{found, Put
 use Rattle.gnu_objects.specs.{Clashes.alike_after, declared.alike.Equals.Equals, declared.external.External.External}
 
 last_first : (a b : Bool) → (a || (b || false)) ≡ (b || a)
-last_first true true = refl
-last_first true false = refl
-last_first false true = refl
-last_first false false = refl
+last_first a b = search rules
 
 any_more : (p : List ℕ → Bool) (xs : List (List ℕ)) (x : List ℕ) → list_any p (xs ++ x ∷ []) ≡ (p x || list_any p xs)
 any_more p xs x = list_any-append p xs (x ∷ []) ∙ last_first (list_any p xs) (p x)
 
 some_or : (t : Bool) (n : ℕ) (o : Option ℕ) → is_some (if t then Some n else o) ≡ (t || is_some o)
-some_or true n o = refl
-some_or false n o = refl
+some_or t n o = search rules
 
 -- one external more
 names_done : (all : List External) (i : ℕ) (e : External) → i < length all → e ≡ get_or all i e →

@@ -7,5 +7,3 @@ pub mod DistinctLemmas
 pub mod LawLemmas
 pub mod AlikeLemmas
 pub mod ExternalLemmas
-pub mod RankLemmas
-pub mod ChosenLemmas

@@ -14,3 +14,5 @@ front_missing xs e = sym (take-length xs) ∙ ap (λ k. take k xs) (nul_missing 
 -- the same bytes have no NUL
 pub no_nul_in : (name xs : List ℕ) → name ≡ before_nul xs → before_nul name ≡ name
 no_nul_in name xs e = ap before_nul e ∙ before_nul-twice xs ∙ sym e
+
+pub ruleset fronts = (front_found, front_missing, no_nul_in)

@@ -2,15 +2,16 @@
 use Rattle.std.proofs.Common.{◌≡◌, ℕ, zero, suc, ◌+◌, ◌*◌, ◌/◌, ◌%◌, ◌<◌, Bool, true, false, eqb-true, List, [], ◌∷◌, ◌++◌, map, take}
 use Rattle.std.proofs.Common.{length, Option, Some, None, option_map, slice_get, refl, sym, ap, ◌∙◌, arith, rules}
 use Rattle.std.proofs.{lemmas.Bool.cases_lt, lemmas.List.length-map, lemmas.List.take_all, lemmas.Option.slice_get-map, lemmas.Option.slice_get_past}
+use Rattle.std.specs.Option.{option_or}
 use Rattle.aout_core.specs.WellFormed.{kind_numbered, kind_of, symbol_number, word_fault, first_of, first_bad_word}
 use Rattle.aout_core.specs.{declared.object.ObjectFault.ObjectFault, declared.reloc.Reloc.Reloc, declared.reloc.Kind.TheVariants.External}
 use Rattle.aout_core.specs.{declared.symbol.Symbol.Symbol, Contents.Contents}
-use Rattle.gnu_objects.specs.GnuRefusals.{refused_first, dropped_refusal, word_refusal, first_dropped_word}
+use Rattle.gnu_objects.specs.GnuRefusals.{dropped_refusal, first_refusal, word_refusal}
 use Rattle.gnu_objects.specs.{Laws.{GnuFile, RefersAlike, IsSameReference, AreSameReferences}, declared.refusal.Refusal.Refusal}
 use Rattle.gnu_objects.specs.{declared.symbols.GnuSymbol.GnuSymbol, Staying.{refers, kept, count}, Converted.{renumbered, converted_symbol}}
 use Rattle.gnu_objects.proofs.StayingLemmas.{length-kept, kept_at}
 
-pub both_none : (a b : Option Refusal) → refused_first a b ≡ None → (a ≡ None) × (b ≡ None)
+pub both_none : (a b : Option Refusal) → option_or a b ≡ None → (a ≡ None) × (b ≡ None)
 both_none a b e = search rules
 
 first_none : (a b : Option ObjectFault) → first_of a b ≡ None → (a ≡ None) × (b ≡ None)
@@ -25,13 +26,13 @@ bad_split symbols i (r ∷ rs) ys e =
     (ap (λ (f : Option ObjectFault). first_of f (first_bad_word symbols (i + 1) rs)) heads.0 ∙ rest.0, rest.1)
 
 pub dropped_split : (strings : List ℕ) (symbols : List GnuSymbol) (flags : List Bool) (i : ℕ) (xs ys : List ℕ) →
-    first_dropped_word strings symbols flags i (xs ++ ys) ≡ None →
-    (first_dropped_word strings symbols flags i xs ≡ None) × ((j : ℕ) × (first_dropped_word strings symbols flags j ys ≡ None))
+    first_refusal (word_refusal strings symbols flags) i (xs ++ ys) ≡ None →
+    (first_refusal (word_refusal strings symbols flags) i xs ≡ None) × ((j : ℕ) × (first_refusal (word_refusal strings symbols flags) j ys ≡ None))
 dropped_split strings symbols flags i [] ys e = (refl, (i, e))
 dropped_split strings symbols flags i (w ∷ ws) ys e =
-    let heads = both_none (word_refusal strings symbols flags i w) (first_dropped_word strings symbols flags (i + 1) (ws ++ ys)) e in
+    let heads = both_none (word_refusal strings symbols flags i w) (first_refusal (word_refusal strings symbols flags) (i + 1) (ws ++ ys)) e in
     let rest = dropped_split strings symbols flags (i + 1) ws ys heads.1 in
-    (ap (λ (f : Option Refusal). refused_first f (first_dropped_word strings symbols flags (i + 1) ws)) heads.0 ∙ rest.0, rest.1)
+    (ap (λ (f : Option Refusal). option_or f (first_refusal (word_refusal strings symbols flags) (i + 1) ws)) heads.0 ∙ rest.0, rest.1)
 
 -- ---- the bits of a relocation word
 
@@ -113,10 +114,10 @@ same_reference g c flags i j w beside table stays good = search (rules, not_exte
 
 pub references : (g : GnuFile) (c : Contents) (flags : List Bool) (i j : ℕ) (ws : List ℕ) →
     length flags ≡ length g.symbols → c.symbols ≡ map (converted_symbol g.strings) (kept flags g.symbols) →
-    first_dropped_word g.strings g.symbols flags i ws ≡ None → first_bad_word c.symbols j (map (renumbered flags) ws) ≡ None →
+    first_refusal (word_refusal g.strings g.symbols flags) i ws ≡ None → first_bad_word c.symbols j (map (renumbered flags) ws) ≡ None →
     AreSameReferences g c ws (map (renumbered flags) ws)
 references g c flags i j [] beside table stays good = tt
 references g c flags i j (w ∷ ws) beside table stays good =
-    let s = both_none (word_refusal g.strings g.symbols flags i w) (first_dropped_word g.strings g.symbols flags (i + 1) ws) stays in
+    let s = both_none (word_refusal g.strings g.symbols flags i w) (first_refusal (word_refusal g.strings g.symbols flags) (i + 1) ws) stays in
     let b = first_none (word_fault c.symbols j (renumbered flags w)) (first_bad_word c.symbols (j + 1) (map (renumbered flags) ws)) good in
     (same_reference g c flags i j w beside table s.0 b.0, references g c flags (i + 1) (j + 1) ws beside table s.1 b.1)

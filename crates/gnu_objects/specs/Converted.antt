@@ -2,12 +2,11 @@
 --
 -- The words of text and data stay. A relocation word of an external gets the number that its symbol has among those that stay, and
 -- else stays. A symbol keeps the first eight bytes of its name, its type and its value.
-use Rattle.std.specs.Prelude.{ℕ, ◌+◌, ◌*◌, ◌/◌, ◌%◌, Bool, if◌then◌else◌, List, map, take, drop, length, Option, Some, None, Result, Ok}
-use Rattle.std.specs.Prelude.{Err}
+use Rattle.std.specs.Prelude.{ℕ, ◌+◌, ◌*◌, ◌/◌, ◌%◌, Bool, if◌then◌else◌, List, map, take, drop, Option, Some, None, Result, Ok, Err}
 use Rattle.aout_core.specs.{declared.header.Header.Header, declared.reloc.Reloc.Reloc, declared.symbol.Symbol.Symbol}
 use Rattle.aout_core.specs.{declared.object.ObjectFault.ObjectFault, Contents.Contents, Decoding.header_in, WellFormed.first_object_fault}
 use Rattle.gnu_objects.specs.GnuForm.{words_from, symbols_of, strings_of, relocation_of, name_at}
-use Rattle.gnu_objects.specs.{Staying.{refers, staying, pairs_kept, count}, GnuRefusals.{header_refusal, strings_refusal, table_refusal}}
+use Rattle.gnu_objects.specs.{Staying.{refers, staying, pairs_kept, count}, GnuRefusals.{sizes_refusal_under, table_refusal}}
 use Rattle.gnu_objects.specs.{declared.refusal.Refusal.Refusal, declared.refusal.Refusal.TheVariants.BadWord}
 use Rattle.gnu_objects.specs.{declared.symbols.GnuSymbol.GnuSymbol, declared.options.Options.Options}
 
@@ -21,22 +20,19 @@ converted_symbol strings s = record { name = take 8 (name_at strings s.place); t
 abbrev pub converted_symbols : List ℕ → List Bool → List GnuSymbol → List Symbol
 converted_symbols strings flags symbols = map (λ p. converted_symbol strings p.0) (pairs_kept flags symbols)
 
-abbrev pub converted_header : Header → ℕ → Header
-converted_header h count = record {
-  magic = h.magic;
-  text_size = h.text_size;
-  data_size = h.data_size;
-  bss_size = h.bss_size;
-  symbol_size = 12 * count;
-  entry_point = h.entry_point;
-  unused = h.unused;
-  flag = 0;
-}
-
 -- the converted object, of the strings, the symbols, the relocation words, and whether each symbol stays
 abbrev pub contents_with : List ℕ → Header → List ℕ → List GnuSymbol → List ℕ → List Bool → Contents
 contents_with bytes h strings symbols words flags = record {
-  header = converted_header h (count flags);
+  header = record {
+    magic = h.magic;
+    text_size = h.text_size;
+    data_size = h.data_size;
+    bss_size = h.bss_size;
+    symbol_size = 12 * count flags;
+    entry_point = h.entry_point;
+    unused = h.unused;
+    flag = 0;
+  };
   text_words = words_from bytes 16 (h.text_size / 2);
   data_words = words_from bytes (16 + h.text_size) (h.data_size / 2);
   text_reloc = map (renumbered flags) (take (h.text_size / 2) words);
@@ -67,9 +63,7 @@ converted_with o bytes h strings symbols words =
 
 abbrev pub converted_under : Options → List ℕ → Header → Result Contents Refusal
 converted_under o bytes h =
-    unless (header_refusal (length bytes) h)
-    (unless (strings_refusal bytes h)
-    (converted_with o bytes h (strings_of bytes h) (symbols_of bytes h) (relocation_of bytes h)))
+    unless (sizes_refusal_under bytes h) (converted_with o bytes h (strings_of bytes h) (symbols_of bytes h) (relocation_of bytes h))
 
 -- what an object in GNU's form becomes
 abbrev pub converted : Options → List ℕ → Result Contents Refusal

@@ -3,35 +3,24 @@
 -- First the header and the sizes are checked, then the strings, each symbol, the entry point, the number of symbols that stay, the
 -- externals, of which no two may be equal in eight bytes only, and last the relocation words.
 use Rattle.std.specs.Prelude.{ℕ, ◌+◌, ◌/◌, ◌%◌, Bool, true, false, ◌&&◌, ◌||◌, ◌==◌, not, nat_lt, nat_le, if◌then◌else◌, List, [], ◌∷◌}
-use Rattle.std.specs.Prelude.{take, length, slice_get, Option, Some, None}
+use Rattle.std.specs.{Prelude.{take, length, slice_get, Option, Some, None, option_map}, Option.option_or}
 use Rattle.aout_core.specs.{declared.header.Header.Header, Decoding.header_in, Encoding.file_length}
 use Rattle.gnu_objects.specs.declared.refusal.Refusal.TheVariants.{ShortHeader, BadMagic, OddSize, Truncated, BadStrings, Overlay, BadPlace}
 use Rattle.gnu_objects.specs.declared.refusal.Refusal.TheVariants.{Stab, Description, Linked, TooManySymbols, AlikeNames, StabWord}
-use Rattle.gnu_objects.specs.declared.refusal.Refusal.TheVariants.{LocalWord}
-use Rattle.gnu_objects.specs.{declared.refusal.Refusal.Refusal, declared.symbols.GnuSymbol.GnuSymbol, GnuForm.long_at, GnuForm.name_at}
-use Rattle.gnu_objects.specs.{GnuForm.is_stab, Staying.counts, Staying.alike_with, Staying.refers, Staying.count}
+use Rattle.gnu_objects.specs.declared.refusal.{Refusal.TheVariants.LocalWord, Refusal.Refusal}
 use Rattle.gnu_objects.specs.declared.refusal.Size.TheVariants as sizes
-
--- the first of two refusals, if there is one
-abbrev pub refused_first : Option Refusal → Option Refusal → Option Refusal
-refused_first None later = later
-refused_first (Some refusal) later = Some refusal
-
--- which size is not whole
-abbrev pub size_refusal : Header → Option Refusal
-size_refusal h =
-    if not (h.text_size % 2 == 0) then Some (OddSize sizes.TextSize)
-    else (if not (h.data_size % 2 == 0) then Some (OddSize sizes.DataSize)
-    else (if not (h.bss_size % 2 == 0) then Some (OddSize sizes.BssSize)
-    else (if not (h.symbol_size % 8 == 0) then Some (OddSize sizes.SymbolSize)
-    else None)))
+use Rattle.gnu_objects.specs.{declared.symbols.GnuSymbol.GnuSymbol, GnuForm.{is_stab, long_at, name_at}, Staying.{counts, alike_with, refers, count}}
 
 -- what is wrong with the header of a file of so many bytes
 abbrev pub header_refusal : ℕ → Header → Option Refusal
 header_refusal size h =
     if nat_lt size 16 then Some ShortHeader
     else (if not (h.magic == 0o407) then Some (BadMagic h.magic)
-    else refused_first (size_refusal h) (if nat_lt size (file_length h) then Some Truncated else None))
+    else (if not (h.text_size % 2 == 0) then Some (OddSize sizes.TextSize)
+    else (if not (h.data_size % 2 == 0) then Some (OddSize sizes.DataSize)
+    else (if not (h.bss_size % 2 == 0) then Some (OddSize sizes.BssSize)
+    else (if not (h.symbol_size % 8 == 0) then Some (OddSize sizes.SymbolSize)
+    else (if nat_lt size (file_length h) then Some Truncated else None))))))
 
 -- what is wrong with the strings
 abbrev pub strings_refusal : List ℕ → Header → Option Refusal
@@ -44,10 +33,15 @@ strings_refusal bytes h =
 
 -- what is wrong with the header, the sizes and the strings, which is known before any memory is requested
 abbrev pub sizes_refusal_under : List ℕ → Header → Option Refusal
-sizes_refusal_under bytes h = refused_first (header_refusal (length bytes) h) (strings_refusal bytes h)
+sizes_refusal_under bytes h = option_or (header_refusal (length bytes) h) (strings_refusal bytes h)
 
 abbrev pub sizes_refusal : List ℕ → Option Refusal
 sizes_refusal bytes = sizes_refusal_under bytes (header_in (take 16 bytes))
+
+-- the first refusal of these, from number n on
+abbrev pub first_refusal : {A : Type 0} → (ℕ → A → Option Refusal) → ℕ → List A → Option Refusal
+first_refusal refusal n [] = None
+first_refusal refusal n (x ∷ rest) = option_or (refusal n x) (first_refusal refusal (n + 1) rest)
 
 -- what is wrong with symbol n: an overlay, a name that is not in the strings, a symbol for a debugger that is not to be dropped, or
 -- a description, which only such symbols have
@@ -59,33 +53,14 @@ symbol_refusal strings drops n s =
     else (if not (s.description == 0) then Some (Description n)
     else None)))
 
--- the first bad symbol from number n on
-abbrev pub first_bad_symbol : List ℕ → Bool → ℕ → List GnuSymbol → Option Refusal
-first_bad_symbol strings drops n [] = None
-first_bad_symbol strings drops n (s ∷ rest) = refused_first (symbol_refusal strings drops n s) (first_bad_symbol strings drops (n + 1) rest)
+-- symbol n is an external whose name is alike with that of another one of these
+abbrev pub alike_refusal : List ℕ → List GnuSymbol → ℕ → GnuSymbol → Option Refusal
+alike_refusal strings symbols n s =
+    if counts strings true s then option_map (AlikeNames n) (alike_with strings true (name_at strings s.place) 0 symbols) else None
 
--- a linked program: relocation was stripped, and there is an entry point, which an assembler does not give
-abbrev pub linked_refusal : Header → Option Refusal
-linked_refusal h = if not (h.flag == 0) && not (h.entry_point == 0) then Some (Linked h.entry_point) else None
-
--- a table of the Seventh Edition has 5,461 symbols at most
-abbrev pub count_refusal : ℕ → Option Refusal
-count_refusal n = if nat_lt 5461 n then Some (TooManySymbols n) else None
-
--- two externals whose names are alike
-abbrev pub alike_at : ℕ → Option ℕ → Option Refusal
-alike_at n None = None
-alike_at n (Some m) = Some (AlikeNames n m)
-
--- an external of number n, and those after it
-abbrev pub alike_refusal : List ℕ → ℕ → GnuSymbol → List GnuSymbol → Option Refusal
-alike_refusal strings n s rest =
-    if counts strings true s then alike_at n (alike_with strings true (name_at strings s.place) (n + 1) rest) else None
-
--- the first two externals from number n on whose names are alike
-abbrev pub first_alike : List ℕ → ℕ → List GnuSymbol → Option Refusal
-first_alike strings n [] = None
-first_alike strings n (s ∷ rest) = refused_first (alike_refusal strings n s rest) (first_alike strings (n + 1) rest)
+-- the first two externals whose names are alike
+abbrev pub first_alike : List ℕ → List GnuSymbol → Option Refusal
+first_alike strings symbols = first_refusal (alike_refusal strings symbols) 0 symbols
 
 -- word n refers to symbol m, and whether this stays is known
 abbrev pub dropped_refusal : List ℕ → ℕ → ℕ → Option GnuSymbol → Option Bool → Option Refusal
@@ -97,17 +72,12 @@ abbrev pub word_refusal : List ℕ → List GnuSymbol → List Bool → ℕ → 
 word_refusal strings symbols flags n w =
     if refers w then dropped_refusal strings n (w / 16) (slice_get symbols (w / 16)) (slice_get flags (w / 16)) else None
 
--- the first such word from number n on
-abbrev pub first_dropped_word : List ℕ → List GnuSymbol → List Bool → ℕ → List ℕ → Option Refusal
-first_dropped_word strings symbols flags n [] = None
-first_dropped_word strings symbols flags n (w ∷ rest) =
-    refused_first (word_refusal strings symbols flags n w) (first_dropped_word strings symbols flags (n + 1) rest)
-
--- what is wrong with the symbols, and with the words that refer to them
+-- what is wrong with the symbols, and with the words that refer to them. A linked program has no relocation, since it was stripped, and an
+-- entry point, which an assembler does not give; a table of the Seventh Edition has 5,461 symbols at most
 abbrev pub table_refusal : Bool → Header → List ℕ → List GnuSymbol → List ℕ → List Bool → Option Refusal
 table_refusal drops h strings symbols words flags =
-    refused_first (first_bad_symbol strings drops 0 symbols)
-    (refused_first (linked_refusal h)
-    (refused_first (count_refusal (count flags))
-    (refused_first (first_alike strings 0 symbols)
-    (first_dropped_word strings symbols flags 0 words))))
+    option_or (first_refusal (symbol_refusal strings drops) 0 symbols)
+    (option_or (if not (h.flag == 0) && not (h.entry_point == 0) then Some (Linked h.entry_point) else None)
+    (option_or (if nat_lt 5461 (count flags) then Some (TooManySymbols (count flags)) else None)
+    (option_or (first_alike strings symbols)
+    (first_refusal (word_refusal strings symbols flags) 0 words))))

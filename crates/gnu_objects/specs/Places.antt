@@ -2,12 +2,12 @@
 use Rattle.std.specs.Prelude.{ℕ, ◌+◌, ◌*◌, nat_lt, if◌then◌else◌, List, take, length}
 use Rattle.aout_core.specs.declared.object.ObjectFault.TheVariants.{NotAnObject, NoRelocation, BadRelocation, BadSymbolNumber}
 use Rattle.aout_core.specs.Encoding.{relocation_at, symbols_at, file_length}
-use Rattle.aout_core.specs.{declared.header.Header.Header, declared.object.ObjectFault.ObjectFault, Decoding.header_in}
+use Rattle.aout_core.specs.{declared.header.Header.Header, Decoding.header_in}
 use Rattle.gnu_objects.specs.declared.refusal.Refusal.TheVariants.{ShortHeader, BadMagic, OddSize, Truncated, BadStrings, Overlay, BadPlace}
 use Rattle.gnu_objects.specs.declared.refusal.Refusal.TheVariants.{Stab, Description, Linked, TooManySymbols, AlikeNames, StabWord}
 use Rattle.gnu_objects.specs.declared.refusal.Refusal.TheVariants.{LocalWord, BadWord, Memory}
 use Rattle.gnu_objects.specs.declared.refusal.Size.TheVariants.{TextSize, DataSize, BssSize, SymbolSize}
-use Rattle.gnu_objects.specs.{declared.refusal.Refusal.Refusal, declared.refusal.Size.Size}
+use Rattle.gnu_objects.specs.declared.refusal.Refusal.{Refusal}
 
 abbrev pub symbol_place : Header → ℕ → ℕ
 symbol_place h n = symbols_at h + 8 * n
@@ -15,24 +15,14 @@ symbol_place h n = symbols_at h + 8 * n
 abbrev pub word_place : Header → ℕ → ℕ
 word_place h n = relocation_at h + 2 * n
 
--- the word of the header that has the size
-abbrev pub size_place : Size → ℕ
-size_place TextSize = 2
-size_place DataSize = 4
-size_place BssSize = 6
-size_place SymbolSize = 8
-
-abbrev pub fault_place : Header → ObjectFault → ℕ
-fault_place h NotAnObject = 0
-fault_place h NoRelocation = 14
-fault_place h (BadRelocation n) = word_place h n
-fault_place h (BadSymbolNumber n) = word_place h n
-
 -- in a file of so many bytes; for a file that is too short the byte is that after its last
 abbrev pub place_with : ℕ → Header → Refusal → ℕ
 place_with size h ShortHeader = size
 place_with size h (BadMagic magic) = 0
-place_with size h (OddSize which) = size_place which
+place_with size h (OddSize TextSize) = 2
+place_with size h (OddSize DataSize) = 4
+place_with size h (OddSize BssSize) = 6
+place_with size h (OddSize SymbolSize) = 8
 place_with size h Truncated = size
 place_with size h BadStrings = file_length h
 place_with size h (Overlay n) = symbol_place h n
@@ -44,7 +34,10 @@ place_with size h (TooManySymbols count) = 8
 place_with size h (AlikeNames n m) = symbol_place h m
 place_with size h (StabWord n) = word_place h n
 place_with size h (LocalWord n m) = word_place h n
-place_with size h (BadWord fault) = fault_place h fault
+place_with size h (BadWord NotAnObject) = 0
+place_with size h (BadWord NoRelocation) = 14
+place_with size h (BadWord (BadRelocation n)) = word_place h n
+place_with size h (BadWord (BadSymbolNumber n)) = word_place h n
 place_with size h (Memory _) = 0
 
 abbrev pub place_of : List ℕ → Refusal → ℕ

@@ -3,7 +3,7 @@
 -- Externals stay. Symbols for a debugger go. A local goes if the options drop it, and also if its name, cut at eight bytes, is
 -- that of another symbol whose whole name differs.
 use Rattle.std.specs.Prelude.{ℕ, ◌+◌, ◌/◌, ◌%◌, Bool, true, false, ◌&&◌, ◌||◌, ◌==◌, not, nat_eq, if◌then◌else◌, List, [], ◌∷◌, map, filter}
-use Rattle.std.specs.{Prelude.{zip, take, length, Option, Some, None}, List.list_any, Cmp.Lexicographic.pointwise}
+use Rattle.std.specs.{Prelude.{zip, take, length, Option, Some, None, is_some}, List.list_any, Cmp.Lexicographic.pointwise}
 use Rattle.gnu_objects.specs.declared.options.Locals.TheVariants.{KeepAll, KeepNeeded, KeepNone}
 use Rattle.gnu_objects.specs.{declared.options.Locals.Locals, declared.symbols.GnuSymbol.GnuSymbol, GnuForm.name_at, GnuForm.is_stab}
 
@@ -38,10 +38,6 @@ alike_with strings externals name m [] = None
 alike_with strings externals name m (s ∷ rest) =
     if counts strings externals s && are_alike name (name_at strings s.place) then Some m
     else alike_with strings externals name (m + 1) rest
-
-abbrev pub is_some : Option ℕ → Bool
-is_some None = false
-is_some (Some m) = true
 
 -- a symbol whose name is alike with another's
 abbrev pub collides : List ℕ → List GnuSymbol → GnuSymbol → Bool

@@ -2,5 +2,3 @@
 pub mod Sizes
 pub mod AlikeNames
 pub mod Externals
-pub mod Ranks
-pub mod Chosen

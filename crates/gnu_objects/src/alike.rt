@@ -1,7 +1,7 @@
 //! Names that are found by their first eight bytes. Two names are alike if they differ, and are equal in these bytes.
-ghost use Rattle.std.specs.Prelude.{◌≡◌, ◌≤◌, ◌<◌, ◌^◌, false, IfOk, OnOk, length};
+ghost use Rattle.std.specs.Prelude.{◌≡◌, ◌≤◌, ◌<◌, ◌^◌, IfOk, OnOk, length};
 ghost use Rattle.aout_core.specs.Names.{before_nul};
-ghost use Rattle.gnu_objects.specs.{internal.AlikeNames.{found, PutsName, PutsSymbol, PutsSymbols, FindsAlike}, Staying.alike_with};
+ghost use Rattle.gnu_objects.specs.{internal.AlikeNames.{found, PutsName, PutsSymbol, FindsAlike}, Staying.alike_with};
 
 use crate::names::name_at;
 use crate::staying::counts;
@@ -54,7 +54,7 @@ pub(crate) fn put_name(names: &mut AlikeNames, name: &[u8], number: u16) -> Resu
 }
 
 /// Puts in the name of a symbol, if it counts.
-pub(crate) fn put_symbol(
+fn put_symbol(
     names: &mut AlikeNames,
     strings: &[u8],
     externals: bool,
@@ -69,30 +69,14 @@ pub(crate) fn put_symbol(
     Ok(())
 }
 
-/// Puts in the names of the symbols that count, the first of them last.
-fn put_symbols(
-    names: &mut AlikeNames,
-    strings: &[u8],
-    symbols: &[GnuSymbol],
-) -> Result<(), AllocError>
-    requires { length symbols.now < 2 ^ 16 }
-    ensures { OnOk result (PutsSymbols strings.now symbols.now names.old names.new) }
-{
-    let mut n = symbols.len();
-    while n > 0 {
-        n -= 1;
-        put_symbol(names, strings, false, n as u16, &symbols[n])?;
-    }
-    Ok(())
-}
-
-/// The symbols of a file, of which those that are not for a debugger are found by their names.
+/// The symbols of a file, of which those whose names count are found by them: externals alone, or all that are not for a debugger.
 #[derive(Drop)]
 pub(crate) struct NamedSymbols<'a> {
     pub(crate) strings: &'a [u8],
+    pub(crate) externals: bool,
     pub(crate) symbols: &'a [GnuSymbol],
     names: AlikeNames,
-    ghost finds: { FindsAlike strings.now symbols.now names },
+    ghost finds: { FindsAlike strings.now externals 0 symbols.now names },
 }
 
 impl<'a> NamedSymbols<'a> {
@@ -100,25 +84,33 @@ impl<'a> NamedSymbols<'a> {
     pub(crate) fn new(
         alloc: Global,
         strings: &'a [u8],
+        externals: bool,
         symbols: &'a [GnuSymbol],
     ) -> Result<NamedSymbols<'a>, AllocError>
         requires { length symbols.now < 2 ^ 16 }
         ensures strings { IfOk result (λ n. n.strings.now ≡ strings.now) }
+        ensures externals { IfOk result (λ n. n.externals ≡ externals) }
         ensures symbols { IfOk result (λ n. n.symbols.now ≡ symbols.now) }
     {
         let mut names = IndexMap::new(alloc);
-        put_symbols(&mut names, strings, symbols)?;
+        let mut n = symbols.len();
+        while n > 0 {
+            n -= 1;
+            put_symbol(&mut names, strings, externals, n as u16, &symbols[n])?;
+        }
         Ok(NamedSymbols {
             strings,
+            externals,
             symbols,
             names,
         })
     }
 
-    /// The number of the first symbol that is not for a debugger, and whose name is alike with this one.
+    /// The number of the first symbol whose name counts, and is alike with this one.
     pub(crate) fn alike_with(&self, name: &[u8]) -> Option<u16>
         requires { before_nul name.now ≡ name.now }
-        ensures { result ≡ alike_with self.now.strings.now false name.now 0 self.now.symbols.now }
+        ensures { result
+            ≡ alike_with self.now.strings.now self.now.externals name.now 0 self.now.symbols.now }
     {
         found(&self.names, name)
     }

@@ -1,10 +1,8 @@
 //! The object of the Seventh Edition that an object in GNU's form is.
-ghost use Rattle.std.specs.Prelude.{◌≡◌, ◌≢◌, ◌+◌, ◌*◌, ◌/◌, ◌%◌, ◌≤◌, ◌<◌, ◌^◌, IfOk, IfSome, Err, None, length, map, replicate, take};
-ghost use Rattle.aout_core.specs.{Contents.Fits, Parts.contents_of, Encoding.file_length, Refusals.refused};
-ghost use Rattle.gnu_objects.specs.{GnuForm.{symbols_of, relocation_of}, Staying.count};
-ghost use Rattle.gnu_objects.specs.{GnuRefusals.{first_alike, sizes_refusal, table_refusal}, internal.Sizes.IsObjectHeader};
-ghost use Rattle.gnu_objects.specs.Converted.{converted, converted_header, converted_symbol, converted_symbols, converted_by};
-ghost use Rattle.gnu_objects.specs.Converted.{converted_with, contents_with, object_of};
+ghost use Rattle.std.specs.Prelude.{◌≡◌, ◌≢◌, ◌≤◌, IfOk, IfSome, Err};
+ghost use Rattle.aout_core.specs.{Parts.contents_of, Refusals.refused};
+ghost use Rattle.gnu_objects.specs.{GnuRefusals.{sizes_refusal, table_refusal}, Staying.count};
+ghost use Rattle.gnu_objects.specs.Converted.{converted, converted_symbol, converted_symbols, converted_by, contents_with};
 
 use crate::checks::{first_alike, table_refusal};
 use crate::names::name_at;
@@ -17,17 +15,6 @@ use crate::whole::{relocation_of, strings_of, symbols_of, whole_header};
 use crate::words::{all_renumbered, words_from};
 use aout_core::{File, Header, Name, Object, Parts, Symbol};
 use std::alloc::{AllocError, Global};
-
-fn converted_header(header: &Header, count: u16) -> Header
-    requires { count ≤ 5461 }
-    ensures { result ≡ converted_header header.now count }
-{
-    Header {
-        symbol_size: 12 * count,
-        flag: 0,
-        ..*header
-    }
-}
 
 fn converted_symbol(strings: &[u8], symbol: &GnuSymbol) -> Symbol
     ensures { result ≡ converted_symbol strings.now symbol.now }
@@ -56,20 +43,14 @@ fn converted_symbols(
 }
 
 /// The parts of the converted object.
-fn parts_with(
-    alloc: Global,
-    bytes: &[u8],
-    header: &Header,
-    tables: &Tables<'_>,
-) -> Result<Parts, AllocError>
-    requires whole { file_length header.now ≤ length bytes.now }
-    requires few { count tables.now.flags.now ≤ 5461 }
-    requires words { length tables.now.words.now
-        ≡ header.now.text_size / 2 + header.now.data_size / 2 }
-    ensures { IfOk result (λ parts. contents_of parts ≡ contents_with bytes.now header.now
+fn parts_with(alloc: Global, tables: &Tables<'_>) -> Result<Parts, AllocError>
+    requires { count tables.now.flags.now ≤ 5461 }
+    ensures { IfOk result (λ parts. contents_of parts ≡ contents_with tables.now.bytes.now tables.now.header.now
         tables.now.strings.now tables.now.symbols.now tables.now.words.now tables.now.flags.now) }
 {
     let Tables {
+        bytes,
+        header,
         strings,
         symbols,
         words,
@@ -80,7 +61,11 @@ fn parts_with(
     let data = usize::from(header.data_size / 2);
     let data_start = 16 + usize::from(header.text_size);
     Ok(Parts {
-        header: converted_header(header, count(flags) as u16),
+        header: Header {
+            symbol_size: 12 * count(flags) as u16,
+            flag: 0,
+            ..*header
+        },
         text_words: words_from(alloc, bytes, 16, text)?,
         data_words: words_from(alloc, bytes, data_start, data)?,
         text_reloc: all_renumbered(alloc, flags, &words[..text])?,
@@ -89,88 +74,21 @@ fn parts_with(
     })
 }
 
-/// The file as an object.
-fn object_of(file: File) -> Result<Object, Refusal>
-    ensures { result ≡ object_of file }
-{
-    match Object::from_file(file) {
-        Ok(object) => Ok(object),
-        Err((_, fault)) => Err(Refusal::BadWord(fault)),
-    }
-}
-
 /// The object of these tables. A refusal comes before any request for memory.
-fn object_with(
-    alloc: Global,
-    drops: bool,
-    bytes: &[u8],
-    header: &Header,
-    tables: &Tables<'_>,
-) -> Result<Object, Refusal>
-    requires header { IsObjectHeader (length bytes.now) header.now }
-    requires symbols { length tables.now.symbols.now < 2 ^ 16 }
-    requires words { length tables.now.words.now
-        ≡ header.now.text_size / 2 + header.now.data_size / 2 }
-    requires few { length tables.now.words.now ≤ 2 ^ 16 }
-    requires flags { length tables.now.flags.now ≡ length tables.now.symbols.now }
-    requires alike { tables.now.alike
-        ≡ first_alike tables.now.strings.now 0 tables.now.symbols.now }
-    ensures value { result ≢ Err (Refusal.Memory refused) → result ≡ converted_by drops bytes.now header.now
+fn object_with(alloc: Global, drops: bool, tables: &Tables<'_>) -> Result<Object, Refusal>
+    ensures value { result ≢ Err (Refusal.Memory refused) → result ≡ converted_by drops tables.now.bytes.now tables.now.header.now
         tables.now.strings.now tables.now.symbols.now tables.now.words.now tables.now.flags.now }
-    ensures refused { IfSome (table_refusal drops header.now tables.now.strings.now
+    ensures refused { IfSome (table_refusal drops tables.now.header.now tables.now.strings.now
         tables.now.symbols.now tables.now.words.now tables.now.flags.now) (λ refusal.
         result ≡ Err refusal) }
 {
-    if let Some(refusal) = table_refusal(drops, header, tables) {
+    if let Some(refusal) = table_refusal(drops, tables) {
         return Err(refusal);
     }
-    let parts = parts_with(alloc, bytes, header, tables)?;
-    object_of(File::from_parts(parts))
-}
-
-/// The object of these strings, symbols and relocation words.
-fn convert_rows(
-    alloc: Global,
-    options: Options,
-    bytes: &[u8],
-    header: &Header,
-    strings: &[u8],
-    symbols: &[GnuSymbol],
-    words: &[u16],
-) -> Result<Object, Refusal>
-    requires header { IsObjectHeader (length bytes.now) header.now }
-    requires symbols { length symbols.now < 2 ^ 16 }
-    requires words { length words.now ≡ header.now.text_size / 2 + header.now.data_size / 2 }
-    requires few { length words.now ≤ 2 ^ 16 }
-    ensures { result ≢ Err (Refusal.Memory refused)
-        → result ≡ converted_with options bytes.now header.now strings.now symbols.now words.now }
-{
-    let flags = staying(alloc, options.locals, strings, symbols, words)?;
-    let tables = Tables {
-        strings,
-        symbols,
-        words,
-        flags: &flags,
-        alike: first_alike(alloc, strings, symbols)?,
-    };
-    object_with(alloc, options.drops_debugger, bytes, header, &tables)
-}
-
-/// The object of these strings, and of the symbols and relocation words in the bytes.
-fn convert_with(
-    alloc: Global,
-    options: Options,
-    bytes: &[u8],
-    header: &Header,
-    strings: &[u8],
-) -> Result<Object, Refusal>
-    requires { IsObjectHeader (length bytes.now) header.now }
-    ensures { result ≢ Err (Refusal.Memory refused) → result ≡ converted_with options bytes.now header.now
-        strings.now (symbols_of bytes.now header.now) (relocation_of bytes.now header.now) }
-{
-    let symbols = symbols_of(alloc, bytes, header)?;
-    let words = relocation_of(alloc, bytes, header)?;
-    convert_rows(alloc, options, bytes, header, strings, &symbols, &words)
+    match Object::from_file(File::from_parts(parts_with(alloc, tables)?)) {
+        Ok(object) => Ok(object),
+        Err((_, fault)) => Err(Refusal::BadWord(fault)),
+    }
 }
 
 /// Converts the object in GNU's form with which the bytes begin to one of the Seventh Edition. Symbols for a debugger are
@@ -187,5 +105,18 @@ pub fn convert(alloc: Global, bytes: &[u8], options: Options) -> Result<Object, 
     ensures refused { IfSome (sizes_refusal bytes.now) (λ refusal. result ≡ Err refusal) }
 {
     let header = whole_header(bytes)?;
-    convert_with(alloc, options, bytes, &header, strings_of(bytes, &header))
+    let strings = strings_of(bytes, &header);
+    let symbols = symbols_of(alloc, bytes, &header)?;
+    let words = relocation_of(alloc, bytes, &header)?;
+    let flags = staying(alloc, options.locals, strings, &symbols, &words)?;
+    let tables = Tables {
+        bytes,
+        header: &header,
+        strings,
+        symbols: &symbols,
+        words: &words,
+        flags: &flags,
+        alike: first_alike(alloc, strings, &symbols)?,
+    };
+    object_with(alloc, options.drops_debugger, &tables)
 }

@@ -37,7 +37,6 @@
 mod alike;
 mod bytes;
 mod checks;
-mod chosen;
 mod clash;
 mod conversion;
 mod external;

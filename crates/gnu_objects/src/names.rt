@@ -12,6 +12,7 @@ fn nul_at(bytes: &[u8]) -> Option<usize>
 }
 
 /// The bytes before the first NUL.
+#[tactic(auto, using(crate::proofs::NameLemmas::fronts))]
 fn before_nul(bytes: &[u8]) -> &[u8]
     ensures value { result.now ≡ before_nul bytes.now }
     ensures no_nul { before_nul result.now ≡ result.now }

@@ -1,6 +1,6 @@
 //! Where in a file a refusal stands, and the whole names of symbols.
 ghost use Rattle.std.specs.Prelude.{◌≡◌};
-ghost use Rattle.gnu_objects.specs.Places.{symbol_place, word_place, size_place, fault_place, place_of};
+ghost use Rattle.gnu_objects.specs.Places.{symbol_place, place_of};
 
 use crate::checks::{strings_at, symbols_at};
 use crate::names::name_at;
@@ -16,34 +16,6 @@ fn symbol_place(header: &Header, n: u16) -> usize
     symbols_at(header) + 8 * usize::from(n)
 }
 
-/// The place of a relocation word.
-fn word_place(header: &Header, n: u16) -> usize
-    ensures { result ≡ word_place header.now n }
-{
-    16 + usize::from(header.text_size) + usize::from(header.data_size) + 2 * usize::from(n)
-}
-
-fn size_place(size: Size) -> usize
-    ensures { result ≡ size_place size }
-{
-    match size {
-        Size::TextSize => 2,
-        Size::DataSize => 4,
-        Size::BssSize => 6,
-        Size::SymbolSize => 8,
-    }
-}
-
-fn fault_place(header: &Header, fault: ObjectFault) -> usize
-    ensures { result ≡ fault_place header.now fault }
-{
-    match fault {
-        ObjectFault::NotAnObject => 0,
-        ObjectFault::NoRelocation => 14,
-        ObjectFault::BadRelocation(n) | ObjectFault::BadSymbolNumber(n) => word_place(header, n),
-    }
-}
-
 /// The byte of the file, counted from 0, at which `convert` found what it refuses: a word of the header, the length of the
 /// strings, a symbol, the second of two, or a relocation word; or the end of a file that is too short. (own choice)
 pub fn place_of(bytes: &[u8], refusal: Refusal) -> usize
@@ -55,8 +27,11 @@ pub fn place_of(bytes: &[u8], refusal: Refusal) -> usize
     let header = header_of(bytes);
     match refusal {
         Refusal::ShortHeader | Refusal::Truncated => bytes.len(),
-        Refusal::BadMagic(_) | Refusal::Memory(_) => 0,
-        Refusal::OddSize(size) => size_place(size),
+        Refusal::BadMagic(_) | Refusal::Memory(_) | Refusal::BadWord(ObjectFault::NotAnObject) => 0,
+        Refusal::OddSize(Size::TextSize) => 2,
+        Refusal::OddSize(Size::DataSize) => 4,
+        Refusal::OddSize(Size::BssSize) => 6,
+        Refusal::OddSize(Size::SymbolSize) | Refusal::TooManySymbols(_) => 8,
         Refusal::BadStrings => strings_at(&header),
         Refusal::Overlay(n)
         | Refusal::BadPlace(n)
@@ -64,9 +39,12 @@ pub fn place_of(bytes: &[u8], refusal: Refusal) -> usize
         | Refusal::Description(n)
         | Refusal::AlikeNames(_, n) => symbol_place(&header, n),
         Refusal::Linked(_) => 10,
-        Refusal::TooManySymbols(_) => 8,
-        Refusal::StabWord(n) | Refusal::LocalWord(n, _) => word_place(&header, n),
-        Refusal::BadWord(fault) => fault_place(&header, fault),
+        Refusal::BadWord(ObjectFault::NoRelocation) => 14,
+        Refusal::StabWord(n)
+        | Refusal::LocalWord(n, _)
+        | Refusal::BadWord(ObjectFault::BadRelocation(n) | ObjectFault::BadSymbolNumber(n)) => {
+            16 + usize::from(header.text_size) + usize::from(header.data_size) + 2 * usize::from(n)
+        }
     }
 }
 

@@ -1,11 +1,9 @@
 //! What there is to say of names that are cut, and of locals that go because of their names. Only tested.
 use crate::alike::NamedSymbols;
-use crate::chosen::ChosenLocals;
 use crate::names::{is_stab, name_at};
 use crate::options::Locals;
 use crate::refusal::Refusal;
-use crate::staying::is_external;
-use crate::symbols::GnuSymbol;
+use crate::staying::{is_chosen, is_external};
 use crate::whole::{relocation_of, strings_of, symbols_of, whole_header};
 use std::alloc::Global;
 
@@ -18,27 +16,6 @@ pub enum Remark<'a> {
     Dropped(&'a [u8], &'a [u8]),
 }
 
-fn remark_of<'a>(
-    strings: &'a [u8],
-    named: &NamedSymbols<'_>,
-    chosen: &ChosenLocals<'_>,
-    n: u16,
-    symbol: &GnuSymbol,
-) -> Option<Remark<'a>> {
-    let name = name_at(strings, symbol.place);
-    if is_stab(strings, symbol) {
-        return None;
-    }
-    if is_external(symbol) {
-        return (name.len() > 8).then_some(Remark::Cut(name));
-    }
-    if !chosen.has(n) {
-        return None;
-    }
-    let other = named.symbols.get(usize::from(named.alike_with(name)?))?;
-    Some(Remark::Dropped(name, name_at(strings, other.place)))
-}
-
 /// What there is to say of the symbols of an object in GNU's form that is converted with these locals, in their order:
 /// each external whose name is cut, and each local that goes only because of its name. (own choice)
 ///
@@ -49,12 +26,22 @@ pub fn remarks(alloc: Global, bytes: &[u8], locals: Locals) -> Result<Vec<Remark
     let strings = strings_of(bytes, &header);
     let symbols = symbols_of(alloc, bytes, &header)?;
     let words = relocation_of(alloc, bytes, &header)?;
-    let named = NamedSymbols::new(alloc, strings, &symbols)?;
-    let chosen = ChosenLocals::new(alloc, locals, &words)?;
+    let named = NamedSymbols::new(alloc, strings, false, &symbols)?;
     let mut remarks = Vec::new(alloc);
     for (n, symbol) in symbols.iter().enumerate() {
-        if let Some(remark) = remark_of(strings, &named, &chosen, n as u16, symbol) {
-            remarks.push(remark)?;
+        let name = name_at(strings, symbol.place);
+        if is_stab(strings, symbol) {
+            continue;
+        }
+        if is_external(symbol) {
+            if name.len() > 8 {
+                remarks.push(Remark::Cut(name))?;
+            }
+        } else if is_chosen(locals, &words, n as u16)
+            && let Some(other) = named.alike_with(name)
+            && let Some(other) = symbols.get(usize::from(other))
+        {
+            remarks.push(Remark::Dropped(name, name_at(strings, other.place)))?;
         }
     }
     Ok(remarks)

@@ -35,6 +35,7 @@ pub(crate) fn symbol_at(bytes: &[u8], at: usize) -> GnuSymbol
 }
 
 /// So many symbols from a place on.
+#[tactic(auto, using(crate::proofs::RowLemmas::rows))]
 pub(crate) fn symbols_from(
     alloc: Global,
     bytes: &[u8],

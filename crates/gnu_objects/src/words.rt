@@ -1,13 +1,14 @@
 //! Words and relocation words.
-ghost use Rattle.std.specs.Prelude.{◌≡◌, ◌+◌, ◌*◌, ◌≤◌, [], IfOk, OnOk, length, map};
-ghost use Rattle.gnu_objects.specs.{GnuForm.words_from, Converted.renumbered, Staying.count, internal.Ranks.{one_if, ranks_to, ranks_of}};
+ghost use Rattle.std.specs.Prelude.{◌≡◌, ◌+◌, ◌*◌, ◌≤◌, IfOk, length, map};
+ghost use Rattle.gnu_objects.specs.{GnuForm.words_from, Converted.renumbered};
 
 use crate::bytes::word_at;
-use crate::staying::refers;
+use crate::staying::{count, refers};
 use aout_core::Reloc;
 use std::alloc::{AllocError, Global};
 
 /// So many words from a place on.
+#[tactic(auto, using(crate::proofs::RowLemmas::rows))]
 pub(crate) fn words_from(
     alloc: Global,
     bytes: &[u8],
@@ -24,47 +25,15 @@ pub(crate) fn words_from(
     Ok(words)
 }
 
-fn one_if(stays: bool) -> usize
-    ensures { result ≡ one_if stays }
-{
-    if stays { 1 } else { 0 }
-}
-
-/// Appends for each symbol how many of those before it stay, and returns how many of all.
-fn put_ranks(ranks: &mut Vec<usize>, flags: &[bool]) -> Result<usize, AllocError>
-    requires { ranks.old.items ≡ [] }
-    ensures ranks { OnOk result (ranks.new.items ≡ ranks_to (length flags.now) flags.now) }
-    ensures all { IfOk result (λ all. all ≡ count flags.now) }
-{
-    let mut before: usize = 0;
-    for stays in flags {
-        ranks.push(before)?;
-        before += one_if(*stays);
-    }
-    Ok(before)
-}
-
-/// For each symbol how many of those before it stay, and last how many of all.
-fn ranks_of(alloc: Global, flags: &[bool]) -> Result<Vec<usize>, AllocError>
-    ensures { IfOk result (λ v. v.items ≡ ranks_of flags.now) }
-{
-    let mut ranks = Vec::new(alloc);
-    let all = put_ranks(&mut ranks, flags)?;
-    ranks.push(all)?;
-    Ok(ranks)
-}
-
 /// A relocation word, an external by its number among the symbols that stay.
-fn renumbered(flags: &[bool], ranks: &[usize], word: u16) -> Reloc
-    requires { ranks.now ≡ ranks_of flags.now }
+fn renumbered(flags: &[bool], word: u16) -> Reloc
     ensures { result ≡ renumbered flags.now word }
 {
-    let reloc = Reloc(word);
     if !refers(word) {
-        return reloc;
+        return Reloc(word);
     }
-    let before = usize::from(reloc.number()).min(flags.len());
-    Reloc(16 * ranks[before] as u16 + word % 16)
+    let before = &flags[..usize::from(word / 16).min(flags.len())];
+    Reloc(16 * count(before) as u16 + word % 16)
 }
 
 /// Relocation words, externals by their numbers among the symbols that stay.
@@ -75,9 +44,8 @@ pub(crate) fn all_renumbered(
 ) -> Result<Vec<Reloc>, AllocError>
     ensures { IfOk result (λ v. v.items ≡ map (renumbered flags.now) words.now) }
 {
-    let ranks = ranks_of(alloc, flags)?;
     words
         .iter()
-        .map(|word| renumbered(flags, &ranks, *word))
+        .map(|word| renumbered(flags, *word))
         .collect(alloc)
 }

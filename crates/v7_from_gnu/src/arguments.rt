@@ -1,5 +1,5 @@
 //! What the arguments ask for.
-ghost use Rattle.std.specs.{Prelude.{◌≡◌, ◌++◌, codes, ◌∷◌, [], None, map, string_bytes, IfOk}, Option.option_map};
+ghost use Rattle.std.specs.{Prelude.{◌≡◌, ◌∷◌, [], map, string_bytes, IfOk}, Option.option_map};
 ghost use Rattle.v7_from_gnu.specs.{Calls.{after_slash, conversion_of, into_folder, jobs_of, locals_in}, internal.Lists.listed};
 
 use gnu_objects::{Locals, Options};
@@ -64,23 +64,16 @@ fn after_slash(path: &str) -> &str
     name
 }
 
-/// The path of a name in a folder.
-fn path_in(alloc: Global, folder: &str, name: &str) -> Result<String, AllocError>
-    ensures { IfOk result (λ path. string_bytes path ≡ folder.now ++ codes "/" ++ name.now) }
-{
-    let mut path = String::from_str(alloc, folder)?;
-    path.push_str("/")?;
-    path.push_str(name)?;
-    Ok(path)
-}
-
 /// The conversion of a file to one of the same name in a folder.
 fn into_folder(alloc: Global, folder: &str, path: &str) -> Result<Job, AllocError>
     ensures { IfOk result (λ job. job ≡ into_folder folder.now path.now) }
 {
+    let mut to = String::from_str(alloc, folder)?;
+    to.push_str("/")?;
+    to.push_str(after_slash(path))?;
     Ok(Job {
         from: String::from_str(alloc, path)?,
-        to: path_in(alloc, folder, after_slash(path))?,
+        to,
     })
 }
 
@@ -108,16 +101,6 @@ fn one_job(alloc: Global, from: &str, to: &str) -> Result<Vec<Job>, AllocError>
     Ok(jobs)
 }
 
-/// What is to be converted without a folder: one file to another.
-fn pair_of(alloc: Global, paths: &[String]) -> Result<Result<Vec<Job>, Reason>, AllocError>
-    ensures { IfOk result (λ jobs. listed jobs ≡ jobs_of None (map string_bytes paths.now)) }
-{
-    match paths {
-        [from, to] => Ok(Ok(one_job(alloc, from.as_str(), to.as_str())?)),
-        _ => Ok(Err(Reason::NotTwoFiles)),
-    }
-}
-
 /// What is to be converted: all files to a folder, or without a folder one file to another.
 fn jobs_of(
     alloc: Global,
@@ -127,12 +110,11 @@ fn jobs_of(
     ensures { IfOk result (λ jobs. listed jobs
         ≡ jobs_of (option_map (λ f. f.now) folder.entry) (map string_bytes paths.now)) }
 {
-    let Some(folder) = folder else {
-        return pair_of(alloc, paths);
-    };
-    match paths {
-        [] => Ok(Err(Reason::NoFile)),
-        _ => Ok(Ok(all_into_folder(alloc, folder, paths)?)),
+    match (folder, paths) {
+        (None, [from, to]) => Ok(Ok(one_job(alloc, from.as_str(), to.as_str())?)),
+        (None, _) => Ok(Err(Reason::NotTwoFiles)),
+        (Some(_), []) => Ok(Err(Reason::NoFile)),
+        (Some(folder), _) => Ok(Ok(all_into_folder(alloc, folder, paths)?)),
     }
 }
 

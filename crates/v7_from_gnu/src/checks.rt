@@ -1,17 +1,17 @@
 //! What is checked before a file is opened, and before one is written.
 ghost use Rattle.std.specs.Prelude.{◌≡◌, [], map, position, string_bytes, IfOk, Ok};
 ghost use Rattle.gnu_objects.specs.Clashes.{has_clash};
-ghost use Rattle.surroundings.specs.Answers.{Ends, Refuses};
+ghost use Rattle.surroundings.specs.Answers.{Refuses};
 ghost use Rattle.v7_from_gnu.specs.Checks.{ChecksInputs, Judges, Looks, bytes_of, goes_to, has_path_twice, replaces};
 ghost use Rattle.v7_from_gnu.specs.internal.Lists.{listed};
 
 use crate::arguments::Job;
 use crate::converting::Target;
 use crate::program::NAME;
-use gnu_objects::{Clash, clash_among};
+use gnu_objects::clash_among;
 use std::alloc::{AllocError, Global};
 use surroundings::{
-    Answer, Fault, Nodes, Office, error_answer, fault_at, is_input, nodes_at, output_is_input,
+    Fault, Nodes, Office, error_answer, fault_at, is_input, nodes_at, output_is_input,
 };
 use texts::{Printable, Text};
 
@@ -64,20 +64,15 @@ fn first_replacing(found: &[Nodes]) -> Option<usize>
     found.iter().position(|nodes| is_input(found, nodes.output))
 }
 
-/// The path of the object of the job at a place.
-fn path_to(jobs: &[Job], place: usize) -> &str {
-    match jobs.get(place) {
-        Some(job) => job.to.as_str(),
-        None => "",
-    }
-}
-
 /// Checks that no object would replace one of the files that were found.
 fn judge(alloc: Global, jobs: &[Job], found: &[Nodes]) -> Result<(), Fault>
     ensures { Judges (Ok found.now) result }
 {
     match first_replacing(found) {
-        Some(place) => Err(output_is_input(alloc, NAME, path_to(jobs, place))),
+        Some(place) => {
+            let path = jobs.get(place).map_or("", |job| job.to.as_str());
+            Err(output_is_input(alloc, NAME, path))
+        }
         None => Ok(()),
     }
 }
@@ -107,23 +102,9 @@ fn bytes_of(alloc: Global, targets: &[Target]) -> Result<Vec<&[u8]>, AllocError>
 
 /// The path of the file of this number.
 fn path_of(targets: &[Target], number: usize) -> &str {
-    match targets.get(number) {
-        Some(target) => target.source.from.as_str(),
-        None => "",
-    }
-}
-
-/// The answer that two externals would become one.
-fn clashing(alloc: Global, targets: &[Target], clash: Clash<'_>) -> Result<Answer, AllocError>
-    ensures { IfOk result (λ a. Ends 1 a) }
-{
-    let (path, name) = (path_of(targets, clash.second_file), Printable(clash.second));
-    let (other, first) = (path_of(targets, clash.first_file), Printable(clash.first));
-    let mut line = Text::new(alloc);
-    line.say(format_args!(
-        "{NAME}: {path}: {name} is equal in eight bytes to {first} of {other}\n"
-    ));
-    error_answer(alloc, line, 1)
+    targets
+        .get(number)
+        .map_or("", |target| target.source.from.as_str())
 }
 
 /// Checks the names of files that are converted together: no two externals would become one.
@@ -131,8 +112,14 @@ pub(crate) fn check_names(alloc: Global, targets: &[Target]) -> Result<(), Fault
     ensures { Refuses 1 (has_clash (bytes_of targets.now)) result }
 {
     let files = bytes_of(alloc, targets)?;
-    match clash_among(alloc, &files)? {
-        Some(clash) => Err(Fault::Answered(clashing(alloc, targets, clash)?)),
-        None => Ok(()),
-    }
+    let Some(clash) = clash_among(alloc, &files)? else {
+        return Ok(());
+    };
+    let (path, name) = (path_of(targets, clash.second_file), Printable(clash.second));
+    let (other, first) = (path_of(targets, clash.first_file), Printable(clash.first));
+    let mut line = Text::new(alloc);
+    line.say(format_args!(
+        "{NAME}: {path}: {name} is equal in eight bytes to {first} of {other}\n"
+    ));
+    Err(Fault::Answered(error_answer(alloc, line, 1)?))
 }

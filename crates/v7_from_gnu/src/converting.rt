@@ -1,6 +1,6 @@
 //! Conversions of files that were read. Nothing is written before all are converted.
 ghost use Rattle.std.specs.Prelude.{◌≡◌, [], IfErr, IfOk, Some};
-ghost use Rattle.surroundings.specs.Answers.{Ends, FindsOr, Stops, is_none};
+ghost use Rattle.surroundings.specs.Answers.{FindsOr, Stops, is_none};
 ghost use Rattle.v7_from_gnu.specs.{Converting.{converted_from, outcome, target_of}, Runs.{IsConversion, IsConverting}};
 ghost use Rattle.v7_from_gnu.specs.internal.Lists.{RefusedAs};
 
@@ -11,7 +11,7 @@ use crate::reading::{Source, read_all};
 use crate::storing::store_all;
 use aout_core::Object;
 use gnu_objects::{Options, Refusal, convert};
-use std::alloc::{AllocError, Global};
+use std::alloc::Global;
 use std::marker::Model;
 use surroundings::{Answer, Fault, Office, error_answer};
 use texts::Text;
@@ -31,15 +31,6 @@ impl Model for Target {
     ghost view = { λ t. record { source = t.source; object = t.object } };
 }
 
-/// The answer that a file is refused.
-fn refusal_answer(alloc: Global, source: &Source, refusal: Refusal) -> Result<Answer, AllocError>
-    ensures { IfOk result (λ a. Ends 1 a) }
-{
-    let mut line = Text::new(alloc);
-    put_refusal(&mut line, source, refusal);
-    error_answer(alloc, line, 1)
-}
-
 /// The fault that a file is refused, or that memory ran out.
 fn refused(alloc: Global, source: &Source, refusal: Refusal) -> Fault
     ensures { RefusedAs refusal result }
@@ -47,7 +38,9 @@ fn refused(alloc: Global, source: &Source, refusal: Refusal) -> Fault
     if let Refusal::Memory(refused) = refusal {
         return Fault::Memory(refused);
     }
-    match refusal_answer(alloc, source, refusal) {
+    let mut line = Text::new(alloc);
+    put_refusal(&mut line, source, refusal);
+    match error_answer(alloc, line, 1) {
         Ok(answer) => Fault::Answered(answer),
         Err(error) => Fault::from(error),
     }
@@ -86,14 +79,9 @@ fn convert_all(alloc: Global, options: Options, sources: Vec<Source>) -> Result<
     ensures ok { IfOk result (λ targets. outcome options sources.items ≡ Some targets.items) }
     ensures err { IfErr result (λ fault. Stops (is_none (outcome options sources.items)) 1 fault) }
 {
-    let targets = match convert_each(alloc, options, sources) {
-        Ok(targets) => targets,
-        Err(fault) => return Err(fault),
-    };
-    match check_names(alloc, &targets) {
-        Ok(()) => Ok(targets),
-        Err(fault) => Err(fault),
-    }
+    let targets = convert_each(alloc, options, sources)?;
+    check_names(alloc, &targets)?;
+    Ok(targets)
 }
 
 /// Converts files after their paths were checked: reads all, converts all, and then writes the objects.

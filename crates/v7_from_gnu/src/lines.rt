@@ -11,8 +11,11 @@ fn name_in(file: &Source, n: u16) -> Printable<'_> {
     Printable(whole_name(&file.bytes, n))
 }
 
-/// Puts the symbols of a refusal with their whole names.
-fn put_names(line: &mut Text, file: &Source, refusal: Refusal) {
+/// Puts the line of a file that is refused, and the whole names of the symbols that it is refused for.
+pub(crate) fn put_refusal(line: &mut Text, file: &Source, refusal: Refusal) {
+    let path = file.from.as_str();
+    let place = place_of(&file.bytes, refusal);
+    line.say(format_args!("{NAME}: {path}: byte 0{place:o} ({place}): {refusal}"));
     match refusal {
         Refusal::Overlay(n)
         | Refusal::Stab(n)
@@ -23,43 +26,24 @@ fn put_names(line: &mut Text, file: &Source, refusal: Refusal) {
         }
         _ => {}
     }
-}
-
-/// Puts the line of a file that is refused.
-pub(crate) fn put_refusal(line: &mut Text, file: &Source, refusal: Refusal) {
-    let path = file.from.as_str();
-    let place = place_of(&file.bytes, refusal);
-    line.say(format_args!("{NAME}: {path}: byte 0{place:o} ({place}): {refusal}"));
-    put_names(line, file, refusal);
     line.put("\n");
 }
 
-/// Puts the line of a name that is cut, or of a local that is dropped for its name.
-fn put_remark(line: &mut Text, path: &str, remark: Remark<'_>) {
-    match remark {
-        Remark::Cut(name) => {
-            let (whole, cut) = (Printable(name), Printable(&name[..name.len().min(8)]));
-            line.say(format_args!("{NAME}: {path}: {whole} is cut to {cut}\n"));
-        }
-        Remark::Dropped(name, other) => {
-            let (local, other) = (Printable(name), Printable(other));
-            line.say(format_args!(
-                "{NAME}: {path}: the local {local} is dropped, being equal to {other} in eight bytes\n"
-            ));
-        }
-    }
-}
-
-/// Puts what becomes of the names of a file.
-fn put_remarks(text: &mut Text, locals: Locals, target: &Target) {
-    match remarks(text.allocator(), &target.source.bytes, locals) {
-        Ok(list) => {
-            for remark in list {
-                put_remark(text, target.source.from.as_str(), remark);
+/// Puts the lines of names that are cut, and of locals that are dropped for their names.
+fn put_remarks(text: &mut Text, path: &str, remarks: &[Remark<'_>]) {
+    for remark in remarks {
+        match *remark {
+            Remark::Cut(name) => {
+                let (whole, cut) = (Printable(name), Printable(&name[..name.len().min(8)]));
+                text.say(format_args!("{NAME}: {path}: {whole} is cut to {cut}\n"));
+            }
+            Remark::Dropped(name, other) => {
+                let (local, other) = (Printable(name), Printable(other));
+                text.say(format_args!(
+                    "{NAME}: {path}: the local {local} is dropped, being equal to {other} in eight bytes\n"
+                ));
             }
         }
-        Err(Refusal::Memory(refused)) => text.cut(AllocError::from(refused)),
-        Err(_) => {}
     }
 }
 
@@ -72,7 +56,12 @@ pub(crate) fn all_remarks(
     let mut text = Text::new(alloc);
     if let Some(locals) = locals {
         for target in targets {
-            put_remarks(&mut text, locals, target);
+            let source = &target.source;
+            match remarks(alloc, &source.bytes, locals) {
+                Ok(remarks) => put_remarks(&mut text, source.from.as_str(), &remarks),
+                Err(Refusal::Memory(refused)) => return Err(AllocError::from(refused)),
+                Err(_) => {}
+            }
         }
     }
     text.finish()

@@ -1,23 +1,14 @@
 -- Maps that have names by their first eight bytes: the last name that was put in, and the last one before it that differs from it.
-use Rattle.std.specs.Prelude.{◌≡◌, ℕ, Bool, true, false, ◌&&◌, nat_eq, if◌then◌else◌, List, take, Option, Some, None}
+use Rattle.std.specs.Prelude.{◌≡◌, ℕ, Bool, ◌&&◌, nat_eq, if◌then◌else◌, List, take, Option, Some, None}
 use Rattle.std.specs.Cmp.Lexicographic.{pointwise}
 use Rattle.indexmap.specs.IndexMap.{IndexMap, get}
 use Rattle.gnu_objects.specs.{declared.alike.Equals.Equals, declared.symbols.GnuSymbol.GnuSymbol, GnuForm.name_at}
-use Rattle.gnu_objects.specs.{declared.refusal.Refusal.Refusal, GnuRefusals.alike_at, Staying.are_alike, Staying.counts, Staying.alike_with}
+use Rattle.gnu_objects.specs.Staying.{are_alike, counts, alike_with}
 
 -- the last of these that differs from a name
 abbrev pub other_than : List ℕ → Option Equals → Option ℕ
 other_than name None = None
 other_than name (Some e) = if pointwise nat_eq e.name.items name then e.other else Some e.number
-
--- what is wrong with external n, if this is found for its name
-abbrev pub alike_among : List ℕ → ℕ → GnuSymbol → Option ℕ → Option Refusal
-alike_among strings n s other = if counts strings true s then alike_at n other else None
-
--- the first of two numbers
-abbrev pub first_number : Option ℕ → Option ℕ → Option ℕ
-first_number None later = later
-first_number (Some n) later = Some n
 
 module _ {S : Type 0} where
   -- the number that is found for a name
@@ -33,17 +24,6 @@ module _ {S : Type 0} where
   PutsSymbol strings externals n s old new =
       (q : List ℕ) → found new q ≡ (if counts strings externals s && are_alike q (name_at strings s.place) then Some n else found old q)
 
-  -- the first of these symbols, from number n on, that is alike with a name is found before what was there
-  abbrev pub PutsSymbolsFrom : List ℕ → Bool → ℕ → List GnuSymbol → IndexMap (List ℕ) Equals S → IndexMap (List ℕ) Equals S → Type 0
-  PutsSymbolsFrom strings externals n symbols old new =
-      (q : List ℕ) → found new q ≡ first_number (alike_with strings externals q n symbols) (found old q)
-
-  abbrev pub PutsSymbols : List ℕ → List GnuSymbol → IndexMap (List ℕ) Equals S → IndexMap (List ℕ) Equals S → Type 0
-  PutsSymbols strings symbols old new = PutsSymbolsFrom strings false 0 symbols old new
-
   -- the first of these symbols, from number n on, that is alike with a name is found
-  abbrev pub FindsAlikeFrom : List ℕ → Bool → ℕ → List GnuSymbol → IndexMap (List ℕ) Equals S → Type 0
-  FindsAlikeFrom strings externals n symbols names = (q : List ℕ) → found names q ≡ alike_with strings externals q n symbols
-
-  abbrev pub FindsAlike : List ℕ → List GnuSymbol → IndexMap (List ℕ) Equals S → Type 0
-  FindsAlike strings symbols names = FindsAlikeFrom strings false 0 symbols names
+  abbrev pub FindsAlike : List ℕ → Bool → ℕ → List GnuSymbol → IndexMap (List ℕ) Equals S → Type 0
+  FindsAlike strings externals n symbols names = (q : List ℕ) → found names q ≡ alike_with strings externals q n symbols

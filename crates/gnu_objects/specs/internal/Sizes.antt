@@ -3,16 +3,12 @@ use Rattle.std.specs.Prelude.{◌≡◌, ℕ, ◌%◌, ◌≤◌, List, None, le
 use Rattle.aout_core.specs.{declared.header.Header.Header, Decoding.header_in, Encoding.file_length}
 use Rattle.gnu_objects.specs.GnuRefusals.{header_refusal, strings_refusal}
 
--- segments of whole words
-pub record HasWholeSizes (h : Header) : Type 0 where
+-- the header of an object, with segments of whole words, in a file of so many bytes
+pub record IsObjectHeader (size : ℕ) (h : Header) : Type 0 where
+  pub magic : h.magic ≡ 0o407
   pub text : h.text_size % 2 ≡ 0
   pub «data» : h.data_size % 2 ≡ 0
   pub bss : h.bss_size % 2 ≡ 0
-
--- the header of an object, in a file of so many bytes
-pub record IsObjectHeader (size : ℕ) (h : Header) : Type 0 where
-  pub magic : h.magic ≡ 0o407
-  pub sizes : HasWholeSizes h
   pub long : file_length h ≤ size
 
 -- the header of these bytes, whose header, sizes and strings are not refused

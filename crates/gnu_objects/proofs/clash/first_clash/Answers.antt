@@ -1,4 +1,4 @@
-use Rattle.std.proofs.Common.{◌≡◌, true, false, List, ℕ, None, take, get_or, refl, sym, ap, ◌∙◌, rules}
+use Rattle.std.proofs.Common.{◌≡◌, true, false, List, ℕ, None, take, get_or, refl, sym, ◌∙◌, rules}
 use Rattle.std.specs.{List.list_any, Option.is_some}
 use Rattle.gnu_objects.specs.{Staying.are_alike, internal.AlikeNames.found, internal.Externals.names_in}
 use Rattle.gnu_objects.proofs.ExternalLemmas.{has_next, is_apart, is_clash, no_names}
