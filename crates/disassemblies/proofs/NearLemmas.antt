@@ -4,7 +4,7 @@ use Rattle.std.proofs.{Common.{None, IsSome, ◌==◌, nat_lt, refl, sym, ◌∙
 use Rattle.std.specs.{Ordering.{nat_cmp, is_lt, is_gt, ordering_then}, declared.cmp.Ordering.TheVariants.{Less, Equal, Greater}}
 use Rattle.aout_core.specs.{WellFormed.{first_of, segment_number}, declared.symbol.Symbol.Symbol, declared.symbol.Segment.Segment}
 use Rattle.instructions.specs.declared.reference.Reference.{Reference}
-use Rattle.disassemblies.specs.{Naming.symbol_at, Near.{bytes_beyond, label_before, nearest_within, near}}
+use Rattle.disassemblies.specs.{Naming.symbol_at, Near.{bytes_beyond, label_before, nearest_within}}
 use Rattle.disassemblies.specs.internal.Nearest.{IsUpTo, IsLastUpTo, IsFree, IsNearest}
 
 -- no label is so many bytes before an address
@@ -39,16 +39,15 @@ still_within symbols segment address n (suc more) x h =
     (still_within symbols segment address n more x h)
 
 -- no label fewer bytes before, and one so many
-found_within : (symbols : List Symbol) (segment : Segment) (address d : ℕ) (o : Option Reference) →
+found_within : (symbols : List Symbol) (segment : Segment) (address n d : ℕ) (o : Option Reference) →
     ((k : ℕ) → k < d → label_before symbols segment address k ≡ None) → label_before symbols segment address d ≡ o → IsSome o →
-    d < 256 → near symbols segment address ≡ o
-unfolding near
-found_within symbols segment address d None none is some h = absurd cc
-found_within symbols segment address d (Some x) none is some h =
+    d < n → nearest_within symbols segment address n ≡ o
+found_within symbols segment address n d None none is some h = absurd cc
+found_within symbols segment address n d (Some x) none is some h =
     let now : nearest_within symbols segment address (suc d) ≡ Some x =
     ap (λ (y : Option Reference). first_of y (label_before symbols segment address d)) (none_within symbols segment address d none) ∙ is in
-    let length : 256 ≡ 255 - d + suc d = omega (arith, h) in
-    ap (nearest_within symbols segment address) length ∙ still_within symbols segment address (suc d) (255 - d) x now
+    let length : n ≡ n - suc d + suc d = omega (arith, h) in
+    ap (nearest_within symbols segment address) length ∙ still_within symbols segment address (suc d) (n - suc d) x now
 
 -- a symbol that has a value is found
 is_some_beyond : (o : Option Symbol) (n : ℕ) → IsSome o → IsSome (bytes_beyond o n)
@@ -56,24 +55,23 @@ is_some_beyond (Some s) n h = refl
 is_some_beyond None n h = h
 
 -- no label is near
-pub none_near : (symbols : List Symbol) (segment : Segment) (address : ℕ) → IsNearest symbols segment address None →
-    near symbols segment address ≡ None
-unfolding near
-none_near symbols segment address h =
-    none_within symbols segment address 256 (λ k less.
+pub none_near : (symbols : List Symbol) (segment : Segment) (address n : ℕ) → IsNearest symbols segment address n None →
+    nearest_within symbols segment address n ≡ None
+none_near symbols segment address n h =
+    none_within symbols segment address n (λ k less.
     no_label symbols segment address k (λ le. h (address - k) (omega arith) (omega (arith, le, less))))
 
 -- the label at the nearest value
-pub near_is : (symbols : List Symbol) (segment : Segment) (address v : ℕ) → IsNearest symbols segment address (Some v) →
-    near symbols segment address ≡ bytes_beyond (symbol_at symbols segment v) (address - v)
-near_is symbols segment address v h =
+pub near_is : (symbols : List Symbol) (segment : Segment) (address n v : ℕ) → IsNearest symbols segment address n (Some v) →
+    nearest_within symbols segment address n ≡ bytes_beyond (symbol_at symbols segment v) (address - v)
+near_is symbols segment address n v h =
     let d : ℕ = address - v in
     let back : address - d ≡ v = omega (arith, h.0) in
     let le : nat_le d address ≡ true = grind (arith, nat_tests) in
     let here : label_before symbols segment address d ≡ bytes_beyond (symbol_at symbols segment v) d =
     ap (λ (t : Bool). if t then bytes_beyond (symbol_at symbols segment (address - d)) d else None) le
     ∙ ap (λ (a : ℕ). bytes_beyond (symbol_at symbols segment a) d) back in
-    found_within symbols segment address d (bytes_beyond (symbol_at symbols segment v) d) (λ k less.
+    found_within symbols segment address n d (bytes_beyond (symbol_at symbols segment v) d) (λ k less.
     no_label symbols segment address k (λ fits. h.3 (address - k) (omega (arith, h.0, less, fits)) (omega arith))) here
     (is_some_beyond (symbol_at symbols segment v) d h.2)
     (omega (arith, h.0, h.1))
@@ -130,23 +128,23 @@ free_by symbols segment k v w a (Some s) is h le apart =
     absurd (apart both.0 both.1 both.2)
 
 -- no key is up to the address
-pub nearest_none : (symbols : List Symbol) (segment : Segment) (a : ℕ) → IsLastUpTo symbols (segment_number segment, a) None →
-    IsNearest symbols segment a None
-nearest_none symbols segment a h w le near = h (segment_number segment, w) (up_to (segment_number segment) w a le)
+pub nearest_none : (symbols : List Symbol) (segment : Segment) (a within : ℕ) → IsLastUpTo symbols (segment_number segment, a) None →
+    IsNearest symbols segment a within None
+nearest_none symbols segment a within h w le near = h (segment_number segment, w) (up_to (segment_number segment) w a le)
 
 -- the last key is of another segment, or far
-pub nearest_far : (symbols : List Symbol) (segment : Segment) (a k v : ℕ) →
-    IsLastUpTo symbols (segment_number segment, a) (Some (k, v)) → (k ≡ segment_number segment → a < v + 256 → ⊥) →
-    IsNearest symbols segment a None
-nearest_far symbols segment a k v h far w le near =
+pub nearest_far : (symbols : List Symbol) (segment : Segment) (a within k v : ℕ) →
+    IsLastUpTo symbols (segment_number segment, a) (Some (k, v)) → (k ≡ segment_number segment → a < v + within → ⊥) →
+    IsNearest symbols segment a within None
+nearest_far symbols segment a within k v h far w le near =
     free_by symbols segment k v w a (symbol_at symbols segment w) refl h le
     (λ same low high. far same (omega (arith, low, near)))
 
 -- it is near
-pub nearest_some : (symbols : List Symbol) (segment : Segment) (a k v : ℕ) →
-    IsLastUpTo symbols (segment_number segment, a) (Some (k, v)) → k ≡ segment_number segment → a < v + 256 →
-    IsNearest symbols segment a (Some v)
-nearest_some symbols segment a k v h same close =
+pub nearest_some : (symbols : List Symbol) (segment : Segment) (a within k v : ℕ) →
+    IsLastUpTo symbols (segment_number segment, a) (Some (k, v)) → k ≡ segment_number segment → a < v + within →
+    IsNearest symbols segment a within (Some v)
+nearest_some symbols segment a within k v h same close =
     let n : ℕ = segment_number segment in
     let h' : IsLastUpTo symbols (n, a) (Some (n, v)) =
     subst (λ (x : ℕ). IsLastUpTo symbols (n, a) (Some (x, v))) same h in (

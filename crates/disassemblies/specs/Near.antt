@@ -1,4 +1,4 @@
--- The label near an address: the nearest one of its segment at the address or before it. (own choice)
+-- The nearest label of a segment at an address or before it. (own choice)
 --
 -- A label is near if it is fewer than 0400 bytes before the address. Of several with one value an external comes first, and then the
 -- first of the table.
@@ -22,6 +22,10 @@ abbrev pub nearest_within : List Symbol → Segment → ℕ → ℕ → Option R
 nearest_within symbols segment address zero = None
 nearest_within symbols segment address (suc n) =
     first_of (nearest_within symbols segment address n) (label_before symbols segment address n)
+
+-- the nearest of all
+unfoldable pub nearest_label : List Symbol → Segment → ℕ → Option Reference
+nearest_label symbols segment address = nearest_within symbols segment address (suc address)
 
 unfoldable pub near : List Symbol → Segment → ℕ → Option Reference
 near symbols segment address = nearest_within symbols segment address 0o400

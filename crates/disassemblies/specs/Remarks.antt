@@ -7,7 +7,7 @@
 -- In a linked file an immediate number, an absolute address without a name and an argument of a system call may be addresses. If one
 -- is in data and a string is there, the remark is the string. Else it is the near label of data or bss, or the symbol of text with
 -- exactly this address.
-use Rattle.std.specs.Prelude.{ℕ, ◌+◌, ◌-◌, ◌*◌, Bool, false, eqb, nat_lt, if◌then◌else◌, List, [], ◌∷◌, ◌++◌, take, drop, codes, Option, Some, None}
+use Rattle.std.specs.Prelude.{ℕ, ◌+◌, ◌-◌, ◌*◌, Bool, false, nat_lt, if◌then◌else◌, List, [], ◌∷◌, ◌++◌, take, drop, codes, Option, Some, None}
 use Rattle.std.specs.Prelude.{slice_get}
 use Rattle.aout_core.specs.{declared.symbol.Symbol.Symbol, declared.symbol.Segment.Segment, declared.reloc.Reloc.Reloc}
 use Rattle.aout_core.specs.{declared.reloc.Kind.Kind, Contents.Contents, Addresses.{target, data_start_in}, WellFormed.kind_of}
@@ -20,7 +20,7 @@ use Rattle.instructions.specs.{declared.unix.UnixLine.TheVariants.Call, Instruct
 use Rattle.instructions.specs.{declared.operand.Operand.Operand, declared.operand.Operand.TheVariants.General}
 use Rattle.instructions.specs.{declared.operation.Operation.Operation, declared.mode.Addressing.Addressing, Modes.addressing}
 use Rattle.instructions.specs.declared.mode.Addressing.TheVariants.{Immediate, Absolute}
-use Rattle.instructions.specs.{Instructions.jumps, References.reference_text, declared.unix.Decoder.TheVariants.Unix}
+use Rattle.instructions.specs.{Instructions.jumps, References.reference_text}
 use Rattle.disassemblies.specs.{Lines.{unix_line_in, references, argument_reference, text_of}, Listed.{listed_line, cut_remark}}
 use Rattle.disassemblies.specs.{Naming.{symbol_at, exact, referred, referred_text, from_the_pc}, Linked.segment_at, Near.near}
 use Rattle.disassemblies.specs.Strings.{is_string, string_remark}
@@ -116,16 +116,6 @@ line_remarks c place (Machine (Decoded i a b)) =
     operand_remarks c i.row.operation i.first (place + 1) a x.first
     ++ operand_remarks c i.row.operation i.second (place + 1 + word_count_of i.first) b x.second
 line_remarks c place (Call k) = argument_remarks c (place + 1) (take k.words (drop (place + 1) c.text_words))
-
--- the remarks on the line at a place of a linked file: a listing has them after its instruction
-abbrev pub linked_remarks : Contents → ℕ → UnixLine → List ℕ
-linked_remarks c place line = if eqb c.header.flag 0 then [] else line_remarks c place line
-
--- the text of the line at a place, as a listing has it
-unfoldable pub listed_text : Contents → ℕ → List ℕ
-listed_text c place =
-    let line : UnixLine = listed_line Unix c place in
-    text_of c place line ++ (cut_remark line (unix_line_in Unix c place) ++ linked_remarks c place line)
 
 -- the text of the line at a place, and its remarks
 unfoldable pub remarked_text : Decoder → Contents → ℕ → List ℕ

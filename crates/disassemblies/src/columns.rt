@@ -3,15 +3,14 @@ ghost use Rattle.std.specs.{Prelude.{◌≡◌, ◌<◌, ◌≤◌, ◌+◌, ◌
 ghost use Rattle.aout_core.specs.declared.symbol.Segment.TheVariants.{TextSeg};
 ghost use Rattle.texts.specs.{Numbers.six_digits, Texts.Puts};
 ghost use Rattle.instructions.specs.Lines.{words_of};
-ghost use Rattle.disassemblies.specs.{Listed.listed_line, Labels.labels, Remarks.remarked_text, internal.Rows.with_digits};
+ghost use Rattle.disassemblies.specs.{Listed.listed_line, Labels.labels, internal.Rows.with_digits};
 ghost use Rattle.disassemblies.specs.Columns.{columns, rest_row, row_of, row, range, times_text, again_text, rows_again, row_words, others};
 ghost use Rattle.disassemblies.specs.Columns.{rows, labelled_rows, disassembly, plain_row, plain_disassembly};
 
 use crate::label::put_labels;
-use crate::line::put_text_of;
-use crate::listed::{ListedLines, put_cut};
+use crate::listed::ListedLines;
 use crate::named::NamedFile;
-use crate::remarks::put_remarks;
+use crate::remarks::put_remarked_text;
 use aout_core::{File, Segment};
 use instructions::{Decoder, Line, UnixLine, decode};
 use std::alloc::AllocError;
@@ -95,19 +94,6 @@ struct PlacedLine<'a> {
     line: UnixLine,
 }
 
-/// Appends the text of a line, and its remarks.
-#[tactic(auto, unfolding(crate::specs::Remarks::remarked_text), using(crate::proofs::ListedLemmas::listed_fits))]
-fn put_remarked_text(text: &mut Text, at: &PlacedLine<'_>)
-    requires within { at.now.place < length at.now.file.now.text_words }
-    requires line { at.now.line ≡ listed_line at.now.decoder at.now.file.now at.now.place }
-    ensures { Puts text.old text.new
-        (remarked_text at.now.decoder at.now.file.now at.now.place) }
-{
-    put_text_of(text, at.file, at.place, &at.line);
-    put_cut(text, at.decoder, at.file.file(), at.place, &at.line);
-    put_remarks(text, at.file, at.place, &at.line);
-}
-
 /// Appends these words of a line, in columns.
 fn put_row_of(text: &mut Text, at: &PlacedLine<'_>, words: &[u16])
     requires within { at.now.place < length at.now.file.now.text_words }
@@ -118,7 +104,7 @@ fn put_row_of(text: &mut Text, at: &PlacedLine<'_>, words: &[u16])
 {
     let (shown, rest) = first_three(words);
     put_columns(text, at.file.address(at.place), shown);
-    put_remarked_text(text, at);
+    put_remarked_text(text, at.decoder, at.file, at.place, &at.line);
     text.put_byte(b'\n');
     put_rest_row(text, at.place + 3, rest);
 }

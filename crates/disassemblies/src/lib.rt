@@ -51,6 +51,7 @@ pub use label::put_labels;
 pub use line::{put_line_text, unix_line_in};
 pub use listed::ListedLines;
 pub use named::NamedFile;
+pub use names::Names;
 pub use remarks::put_pointed_text;
 pub use starts::{is_start, line_start, line_starts};
 pub use strings::put_string_in;

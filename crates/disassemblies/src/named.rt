@@ -79,7 +79,8 @@ impl<'a> NamedFile<'a> {
         (2 * place) as u16
     }
 
-    pub(crate) fn names(&self) -> &Names<'a>
+    /// Its symbols by their segments and values.
+    pub fn names(&self) -> &Names<'a>
         ensures { result.now.symbols.now ≡ self.now.symbols }
     {
         &self.names

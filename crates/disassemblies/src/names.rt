@@ -1,5 +1,5 @@
 //! The symbols that name values, each found by its value.
-ghost use Rattle.std.specs.{Prelude.{◌≡◌, ℕ, if◌then◌else◌, Some, OnOk, IfOk}, BTreeMap.get};
+ghost use Rattle.std.specs.{Prelude.{◌≡◌, ◌≤◌, ℕ, if◌then◌else◌, Some, OnOk, IfOk}, BTreeMap.get};
 ghost use Rattle.aout_core.specs.WellFormed.{first_of};
 ghost use Rattle.disassemblies.specs.{Naming.symbol_at, internal.FirstNamed.{key_cmp, has_key, first_with, FindsNamed}};
 ghost use Rattle.disassemblies.specs.internal.Nearest.{IsLastUpTo, IsNearest};
@@ -49,15 +49,15 @@ fn named(alloc: Global, symbols: &[Symbol]) -> Result<Named, AllocError>
 
 /// Symbols that are found by their segments and values, in time in proportion to the logarithm of how many there are.
 #[derive(Drop)]
-pub(crate) struct Names<'a> {
-    pub(crate) symbols: &'a [Symbol],
+pub struct Names<'a> {
+    pub symbols: &'a [Symbol],
     named: Named,
     ghost finds: { FindsNamed symbols.now named },
 }
 
 impl<'a> Names<'a> {
     /// These symbols. An error: out of memory.
-    pub(crate) fn new(alloc: Global, symbols: &'a [Symbol]) -> Result<Names<'a>, AllocError>
+    pub fn new(alloc: Global, symbols: &'a [Symbol]) -> Result<Names<'a>, AllocError>
         ensures { IfOk result (λ n. n.symbols.now ≡ symbols.now) }
     {
         Ok(Names {
@@ -84,14 +84,15 @@ impl<'a> Names<'a> {
         }
     }
 
-    /// The nearest value of a segment's symbols at an address or fewer than 0400 bytes before it.
-    pub(crate) fn nearest(&self, segment: Segment, address: u16) -> Option<u16>
-        ensures { IsNearest self.now.symbols.now segment address result }
+    /// The nearest value of a segment's symbols at an address or fewer than so many bytes before it.
+    pub(crate) fn nearest(&self, segment: Segment, address: u16, within: usize) -> Option<u16>
+        requires { within ≤ 65536 }
+        ensures { IsNearest self.now.symbols.now segment address within result }
     {
         let number = segment.number();
         match self.last_up_to(number, address) {
             Some((of, value))
-                if of == number && usize::from(address) < usize::from(value) + 0o400 => {
+                if of == number && usize::from(address) < usize::from(value) + within => {
                 Some(value)
             }
             _ => None,

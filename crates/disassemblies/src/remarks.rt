@@ -3,10 +3,10 @@ ghost use Rattle.std.specs.Prelude.{◌≡◌, ◌<◌, ◌≤◌, ◌+◌, ◌*
 ghost use Rattle.texts.specs.Texts.{Puts};
 ghost use Rattle.aout_core.specs.{WellFormed.kind_of, Addresses.data_start_in, declared.symbol.Segment.TheVariants.DataSeg};
 ghost use Rattle.instructions.specs.{UnixLines.unix_length, declared.line.Line.TheVariants.Decoded};
-ghost use Rattle.instructions.specs.{declared.unix.UnixLine.TheVariants.{Machine, Call}, declared.unix.Decoder.TheVariants.Unix};
+ghost use Rattle.instructions.specs.declared.unix.UnixLine.TheVariants.{Machine, Call};
 ghost use Rattle.disassemblies.specs.Lines.{operand_reference, argument_reference};
 ghost use Rattle.disassemblies.specs.Listed.{listed_line};
-ghost use Rattle.disassemblies.specs.Remarks.{near_referred, string_at, pointed_remark, pointed_text, target_remarks, perhaps, perhaps_data, perhaps_in, perhaps_at, addressing_of, unrelocated_remark, word_remarks, operand_remarks, argument_remarks, line_remarks, linked_remarks, listed_text};
+ghost use Rattle.disassemblies.specs.Remarks.{near_referred, string_at, pointed_remark, pointed_text, target_remarks, perhaps, perhaps_data, perhaps_in, perhaps_at, addressing_of, unrelocated_remark, word_remarks, operand_remarks, argument_remarks, line_remarks, remarked_text};
 
 use crate::line::{Spot, argument_reference, operand_reference, put_text_of, reloc_at, spots};
 use crate::linked::segment_at;
@@ -261,7 +261,7 @@ fn put_call(text: &mut Text, file: &NamedFile<'_>, place: usize, call: &CallRow)
 }
 
 /// Appends the remarks on the words of a line at a place of a file's text.
-pub(crate) fn put_remarks(text: &mut Text, file: &NamedFile<'_>, place: usize, line: &UnixLine)
+fn put_remarks(text: &mut Text, file: &NamedFile<'_>, place: usize, line: &UnixLine)
     requires within { place < length file.now.text_words }
     requires fits { place + unix_length line.now ≤ length file.now.text_words }
     ensures { Puts text.old text.new (line_remarks file.now place line.now) }
@@ -275,16 +275,20 @@ pub(crate) fn put_remarks(text: &mut Text, file: &NamedFile<'_>, place: usize, l
     }
 }
 
-/// Appends the text of the line that a listing shows at a place, and in a linked file its remarks.
-#[tactic(auto, unfolding(crate::specs::Remarks::listed_text), using(crate::proofs::ListedLemmas::listed_fits))]
-pub(crate) fn put_listed_text(text: &mut Text, file: &NamedFile<'_>, place: usize, line: &UnixLine)
+/// Appends the text of the line that a listing shows at a place, and its remarks.
+#[tactic(auto, unfolding(crate::specs::Remarks::remarked_text), using(crate::proofs::ListedLemmas::listed_fits))]
+pub(crate) fn put_remarked_text(
+    text: &mut Text,
+    decoder: Decoder,
+    file: &NamedFile<'_>,
+    place: usize,
+    line: &UnixLine,
+)
     requires within { place < length file.now.text_words }
-    requires line { line.now ≡ listed_line Unix file.now place }
-    ensures { Puts text.old text.new (listed_text file.now place) }
+    requires line { line.now ≡ listed_line decoder file.now place }
+    ensures { Puts text.old text.new (remarked_text decoder file.now place) }
 {
     put_text_of(text, file, place, line);
-    put_cut(text, Decoder::Unix, file.file(), place, line);
-    if file.file().header().flag != 0 {
-        put_remarks(text, file, place, line);
-    }
+    put_cut(text, decoder, file.file(), place, line);
+    put_remarks(text, file, place, line);
 }

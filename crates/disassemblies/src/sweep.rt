@@ -2,13 +2,13 @@
 ghost use Rattle.std.specs.Prelude.{◌≡◌, ◌≤◌, ◌<◌, ◌+◌, ◌++◌, length, IfOk, OnOk};
 ghost use Rattle.texts.specs.Texts.{Puts};
 ghost use Rattle.instructions.specs.{UnixLines.unix_length, declared.unix.Decoder.TheVariants.Unix};
-ghost use Rattle.disassemblies.specs.{Lines.unix_line_in, Listed.listed_line, Remarks.listed_text, Starts.{starts, is_start, swept_line}};
+ghost use Rattle.disassemblies.specs.{Lines.unix_line_in, Listed.listed_line, Remarks.remarked_text, Starts.{starts, is_start, swept_line}};
 ghost use Rattle.disassemblies.specs.internal.Swept.{swept, line_words};
 
 use crate::line::unix_line_in;
 use crate::listed::{ListedLines, is_plain_line};
 use crate::named::NamedFile;
-use crate::remarks::put_listed_text;
+use crate::remarks::put_remarked_text;
 use aout_core::File;
 use instructions::{Decoder, UnixLine};
 use std::alloc::{AllocError, Global};
@@ -130,12 +130,12 @@ impl<'a> Sweep<'a> {
         }
     }
 
-    /// Appends the text of a line at a place, and in a linked file its remarks, as `put_disassembly` has them.
-    pub fn put_listed_text(&self, text: &mut Text, place: usize, line: &UnixLine)
+    /// Appends the text of a line at a place and its remarks, as `put_disassembly` has them.
+    pub fn put_remarked_text(&self, text: &mut Text, place: usize, line: &UnixLine)
         requires within { place < length self.now.text_words }
         requires line { line.now ≡ listed_line Unix self.now place }
-        ensures { Puts text.old text.new (listed_text self.now place) }
+        ensures { Puts text.old text.new (remarked_text Unix self.now place) }
     {
-        put_listed_text(text, &self.named, place, line);
+        put_remarked_text(text, Decoder::Unix, &self.named, place, line);
     }
 }

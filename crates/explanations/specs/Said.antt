@@ -1,7 +1,7 @@
 -- What a listing remarks of a file: its notes, the labels of its words, for each word the instruction or the string that begins there or
 -- what its relocation word refers to, and the letter that nm has for each symbol. (a.out(5), as(1), nm(1); the words: own choice)
 --
--- A word that a link does not change says nothing. In a linked file an instruction has the remarks of a disassembly.
+-- An instruction has the remarks of a disassembly, and its operand words have none.
 --
 -- A byte below the blank is shown as a backslash and three octal digits, so a note or a remark never leaves its line.
 use Rattle.std.specs.Prelude.{ℕ, ◌+◌, ◌*◌, ◌%◌, Bool, true, ◌&&◌, nat_lt, nat_le, eqb, if◌then◌else◌, List, [], ◌∷◌, ◌++◌, length, map}
@@ -16,7 +16,7 @@ use Rattle.symtools.specs.SymbolLines.{letter}
 use Rattle.texts.specs.{Names.escaped, Names.printable_name}
 use Rattle.listings.specs.{Listing.Remarks, Reading.is_numbered}
 use Rattle.instructions.specs.{declared.unix.Decoder.TheVariants.Unix, UnixLines.unix_length, Relocated.is_relocated}
-use Rattle.disassemblies.specs.{Listed.listed_line, Labels.label_lines, Remarks.listed_text, Remarks.pointed_text, Starts.is_start}
+use Rattle.disassemblies.specs.{Listed.listed_line, Labels.label_lines, Remarks.remarked_text, Remarks.pointed_text, Starts.is_start}
 use Rattle.disassemblies.specs.{Strings.string_in}
 
 abbrev pub printed_byte : ℕ → List ℕ
@@ -53,13 +53,9 @@ abbrev pub reloc_said : Contents → ℕ → ℕ → Option Reloc → List ℕ
 reloc_said c at w None = []
 reloc_said c at w (Some r) = word_said c at w r
 
--- the remark on a word of text: the instruction that begins there, or what the relocation word refers to
+-- the remark on a word of text: the instruction that begins there
 abbrev pub text_said : List Bool → Contents → ℕ → List ℕ
-text_said starts c i =
-    if nat_lt i (length c.text_words)
-    then (if is_start starts i then listed_text c i
-    else reloc_said c (2 * i) (slice_index c.text_words i) (slice_get c.text_reloc i))
-    else []
+text_said starts c i = if nat_lt i (length c.text_words) && is_start starts i then remarked_text Unix c i else []
 
 -- the address of a word of data, or of their end
 abbrev pub data_address : Contents → ℕ → ℕ

@@ -1,7 +1,7 @@
 //! What a file is, in a word or two.
 
 use aout_core::Header;
-use findings::OtherForm;
+use checks::OtherForm;
 
 /// What a file is.
 #[derive(Clone, Copy, Debug, PartialEq, Eq)]

@@ -2,10 +2,9 @@
 
 use crate::file_kind::{FileKind, file_kind, kind_of_form};
 use aout_core::{File, Header, ReadFault, Symbol};
+use checks::{Evidence, Finding, all_odd_of, header_of, is_of_gnu, other_form};
 use disassemblies::Sweep;
-use findings::{Finding, header_of, is_of_gnu, other_form};
 use std::alloc::{AllocError, Global};
-use suspicions::{Evidence, all_odd_of};
 
 /// The sizes of segments in bytes.
 #[derive(Clone, Copy, Debug, PartialEq, Eq)]

@@ -6,8 +6,8 @@ ghost use Rattle.disassemblies.specs.Starts.{starts};
 ghost use Rattle.explanations.specs.Said.{explained};
 
 use crate::remarks::Explained;
+use checks::Notes;
 use disassemblies::Sweep;
-use findings::Notes;
 use listings::{write_cut_listing, write_listing};
 use std::alloc::{AllocError, Global};
 

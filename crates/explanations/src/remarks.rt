@@ -1,17 +1,17 @@
 //! What a listing remarks of a file.
-ghost use Rattle.std.specs.Prelude.{◌≡◌, ◌<◌, ◌≤◌, ◌+◌, ◌*◌, ◌++◌, ◌∷◌, [], false, length, map, slice_get, slice_index};
+ghost use Rattle.std.specs.Prelude.{◌≡◌, ◌<◌, ◌≤◌, ◌+◌, ◌*◌, ◌++◌, ◌∷◌, [], false, length, map};
 ghost use Rattle.texts.specs.{Lines.text_of, Texts.Puts};
 ghost use Rattle.listings.specs.Listing.{remarked, note_lines};
 ghost use Rattle.explanations.specs.internal.Lines.{Holds};
 ghost use Rattle.explanations.specs.Said.{printed_byte, printed, is_plain, reloc_said, text_said, data_address, data_said, labels_said, data_labels_said, from_slash, without_number};
 ghost use Rattle.instructions.specs.declared.unix.Decoder.TheVariants.{Unix};
 ghost use Rattle.aout_core.specs.declared.symbol.Segment.TheVariants.{TextSeg, DataSeg, BssSeg};
-ghost use Rattle.disassemblies.specs.{Listed.listed_line, Remarks.listed_text, Strings.string_in, Starts.starts, Labels.label_lines};
+ghost use Rattle.disassemblies.specs.{Listed.listed_line, Remarks.remarked_text, Strings.string_in, Starts.starts, Labels.label_lines};
 
 use crate::words_in::put_word_text;
-use aout_core::{File, Part, Reloc, Segment, Symbol};
+use aout_core::{File, Part, PlacedWord, Segment, Symbol};
+use checks::Notes;
 use disassemblies::{NamedFile, Sweep, put_labels, put_string_in};
-use findings::Notes;
 use instructions::{UnixLine, is_relocated};
 use listings::{Remark, is_numbered};
 use std::alloc::Global;
@@ -137,21 +137,13 @@ fn put_made(text: &mut Text, remark: Text)
     }
 }
 
-/// A word at an address, and its relocation word if it has one.
-#[derive(Clone, Copy)]
-struct PlacedWord {
-    at: u16,
-    word: u16,
-    reloc: Option<Reloc>,
-}
-
 /// What the relocation word of a word says.
 fn reloc_text(alloc: Global, file: &NamedFile<'_>, spot: PlacedWord) -> Text
-    ensures { Holds result (reloc_said file.now spot.at spot.word spot.reloc) }
+    ensures { Holds result (reloc_said file.now spot.address spot.word spot.reloc) }
 {
     let mut text = Text::new(alloc);
     if let Some(reloc) = spot.reloc {
-        put_word_text(&mut text, file, spot.at, spot.word, reloc);
+        put_word_text(&mut text, file, spot.address, spot.word, reloc);
     }
     text
 }
@@ -159,48 +151,20 @@ fn reloc_text(alloc: Global, file: &NamedFile<'_>, spot: PlacedWord) -> Text
 /// Appends what the relocation word of a word says.
 fn put_reloc(text: &mut Text, file: &NamedFile<'_>, spot: PlacedWord)
     ensures { Puts text.old text.new
-        (remarked (printed (without_number (reloc_said file.now spot.at spot.word spot.reloc)))) }
+        (remarked (printed (without_number (reloc_said file.now spot.address spot.word spot.reloc)))) }
 {
     let remark = reloc_text(text.allocator(), file, spot);
     put_made(text, remark);
 }
 
-fn text_spot(file: &File, place: usize) -> PlacedWord
-    requires { place < length file.now.text_words }
-    ensures at { result.at ≡ 2 * place }
-    ensures word { result.word ≡ slice_index file.now.text_words place }
-    ensures reloc { result.reloc ≡ slice_get file.now.text_reloc place }
-{
-    let words = file.text_words();
-    PlacedWord {
-        at: (2 * place) as u16,
-        word: words[place],
-        reloc: file.text_reloc().get(place).copied(),
-    }
-}
-
-fn data_spot(file: &File, place: usize) -> PlacedWord
-    requires { place < length file.now.data_words }
-    ensures at { result.at ≡ data_address file.now place }
-    ensures word { result.word ≡ slice_index file.now.data_words place }
-    ensures reloc { result.reloc ≡ slice_get file.now.data_reloc place }
-{
-    let words = file.data_words();
-    PlacedWord {
-        at: data_address(file, place),
-        word: words[place],
-        reloc: file.data_reloc().get(place).copied(),
-    }
-}
-
-/// The instruction that begins at a place of the text, and in a linked file its remarks.
+/// The instruction that begins at a place of the text, and its remarks.
 fn instruction_text(alloc: Global, sweep: &Sweep<'_>, place: usize, line: &UnixLine) -> Text
     requires within { place < length sweep.now.text_words }
     requires line { line.now ≡ listed_line Unix sweep.now place }
-    ensures { Holds result (listed_text sweep.now place) }
+    ensures { Holds result (remarked_text Unix sweep.now place) }
 {
     let mut text = Text::new(alloc);
-    sweep.put_listed_text(&mut text, place, line);
+    sweep.put_remarked_text(&mut text, place, line);
     text
 }
 
@@ -208,24 +172,22 @@ fn instruction_text(alloc: Global, sweep: &Sweep<'_>, place: usize, line: &UnixL
 fn put_instruction(text: &mut Text, sweep: &Sweep<'_>, place: usize, line: &UnixLine)
     requires within { place < length sweep.now.text_words }
     requires line { line.now ≡ listed_line Unix sweep.now place }
-    ensures { Puts text.old text.new (remarked (printed (without_number (listed_text sweep.now place)))) }
+    ensures { Puts text.old text.new (remarked (printed (without_number (remarked_text Unix sweep.now place)))) }
 {
     let remark = instruction_text(text.allocator(), sweep, place, line);
     put_made(text, remark);
 }
 
-/// Appends what is remarked of a word of text: its instruction, or what its relocation word says.
+/// Appends what is remarked of a word of text: the instruction that begins there.
 fn put_text_remark(x: &Explained<'_>, text: &mut Text, place: usize)
     ensures { Puts text.old text.new
         (remarked (printed (without_number (text_said (starts Unix x.now.sweep.now) x.now.sweep.now place)))) }
 {
-    let file = x.sweep.file();
-    if place >= file.text_words().len() {
+    if place >= x.sweep.file().text_words().len() {
         return;
     }
-    match x.sweep.line_from(place) {
-        Some(line) => put_instruction(text, x.sweep, place, &line),
-        None => put_reloc(text, x.sweep.named(), text_spot(file, place)),
+    if let Some(line) = x.sweep.line_from(place) {
+        put_instruction(text, x.sweep, place, &line);
     }
 }
 
@@ -256,7 +218,7 @@ fn put_data_remark(x: &Explained<'_>, text: &mut Text, place: usize)
     if place >= file.data_words().len() {
         return;
     }
-    let spot = data_spot(file, place);
+    let spot = file.placed_word(Part::Data, place);
     if is_relocated(spot.reloc) {
         put_reloc(text, x.sweep.named(), spot);
     } else {
