@@ -1,0 +1,7 @@
+pub mod BadWordLemmas
+pub mod SymbolLemmas
+pub mod WordLemmas
+pub mod WrongLemmas
+pub mod SpreadLemmas
+pub mod ReachLemmas
+pub mod SureLemmas

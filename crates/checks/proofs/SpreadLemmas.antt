@@ -1,0 +1,71 @@
+-- The places that lead to more, one after the other.
+use Rattle.std.proofs.Common.{◌≡◌, ℕ, zero, suc, ◌+◌, ◌-◌, ◌<◌, ◌≤◌, refl, sym, ap, ◌∙◌, inl, inr, arith, append_assoc}
+use Rattle.std.proofs.{lemmas.Bool.{cases_lt, eq-eqb, lt-ltb, le-ltb}, lemmas.List.{drop_more, get_or_past}, lemmas.List.Folds.list_any_at}
+use Rattle.std.specs.Prelude.{Option, map, [], ◌∷◌, Bool, true, false, eqb, if◌then◌else◌, List, ◌++◌, length, drop, get_or, slice_index}
+use Rattle.aout_core.specs.Contents.{Contents}
+use Rattle.checks.specs.{Found.Found, Reached.{leads_to, visited, visited_all, named, entry, nameless, evident, spread}}
+use Rattle.checks.specs.{declared.evidence.Evidence.Evidence, Suspicions.{suspicious_place, suspicious_words}, internal.Marks.AreMarks}
+
+-- the step of `spread`, if a place is left
+first : (e : Evidence) (c : Contents) (more next : ℕ) (found : List ℕ) → next < length found →
+    spread e c (suc more) next found
+    ≡ spread e c more (next + 1) (visited_all (length c.text_words) found (leads_to e c (slice_index found next)))
+first e c more next found h =
+    ap (λ (b : Bool). if b then spread e c more (next + 1)
+    (visited_all (length c.text_words) found (leads_to e c (slice_index found next))) else found)
+    (lt-ltb next (length found) h)
+
+pub spread_more : (e : Evidence) (c : Contents) (n next : ℕ) (found new whole : List ℕ) → next < n → next < length found →
+    new ≡ visited_all (length c.text_words) found (leads_to e c (slice_index found next)) → spread e c (n - next) next found ≡ whole →
+    spread e c (n - (next + 1)) (next + 1) new ≡ whole
+spread_more e c n next found new whole inside h is so_far =
+    let left : n - next ≡ suc (n - (next + 1)) = omega arith in
+    ap (λ (l : List ℕ). spread e c (n - (next + 1)) (next + 1) l) is
+    ∙ sym (ap (λ (k : ℕ). spread e c k next found) left ∙ first e c (n - (next + 1)) next found h)
+    ∙ so_far
+
+-- no place is left
+pub spread_all : (e : Evidence) (c : Contents) (more next : ℕ) (found : List ℕ) → length found ≤ next → spread e c more next found ≡ found
+spread_all e c zero next found h = refl
+spread_all e c (suc more) next found h =
+    ap (λ (b : Bool). if b then spread e c more (next + 1)
+    (visited_all (length c.text_words) found (leads_to e c (slice_index found next))) else found)
+    (le-ltb next (length found) h)
+
+-- each place that has been found is one of the text
+pub found_inside : (marks : List Bool) (found : List ℕ) (next d : ℕ) → AreMarks marks found → next < length found →
+    get_or found next d < length marks
+found_inside marks found next d h inside =
+    let place : ℕ = get_or found next d in
+    let marked : get_or marks place false ≡ true =
+    h place ∙ list_any_at (eqb place) found next d inside (eq-eqb place place refl) in
+    elim (cases_lt place (length marks)) [
+      | inl below ↦ below
+      | inr above ↦ let none : get_or marks place false ≡ false = get_or_past marks place false above in absurd cc
+    ]
+
+-- what is suspicious at one place more
+pub places_more : (e : Evidence) (c : Contents) (words : List ℕ) (i : ℕ) (old new whole : List Found) → i < length words →
+    new ≡ old ++ suspicious_place e c i → old ++ suspicious_words e c i (drop i words) ≡ whole →
+    new ++ suspicious_words e c (i + 1) (drop (i + 1) words) ≡ whole
+places_more e c words i old new whole inside put so_far =
+    let rest : List Found = suspicious_words e c (i + 1) (drop (i + 1) words) in
+    ap (λ (l : List Found). l ++ rest) put
+    ∙ append_assoc old (suspicious_place e c i) rest
+    ∙ ap (λ (l : List ℕ). old ++ suspicious_words e c i l) (sym (drop_more words i 0 inside))
+    ∙ so_far
+
+-- addresses after others
+joined : (n : ℕ) (found : List ℕ) (xs ys : List (Option ℕ)) → visited_all n found (xs ++ ys) ≡ visited_all n (visited_all n found xs) ys
+joined n found [] ys = refl
+joined n found (x ∷ xs) ys = joined n (visited n found x) xs ys
+
+-- the places with which an evidence begins: the entry, then those of symbols, then those that need no name
+pub begun_with : (e : Evidence) (c : Contents) (n : ℕ) (found first second third : List ℕ) → first ≡ visited n found (entry c.header) →
+    second ≡ visited_all n first (map (named e c) c.symbols) → third ≡ visited_all n second (nameless e c) →
+    third ≡ visited_all n found (evident e c)
+begun_with e c n found first second third one two three =
+    three
+    ∙ ap (λ (l : List ℕ). visited_all n l (nameless e c))
+    (two ∙ ap (λ (l : List ℕ). visited_all n l (map (named e c) c.symbols)) one)
+    ∙ sym (joined n (visited n found (entry c.header)) (map (named e c) c.symbols) (nameless e c))

@@ -1,0 +1,80 @@
+-- One more symbol of a table: what is odd in it, and that its name is noted.
+use Rattle.std.proofs.Common.{◌≡◌, refl, ℕ, ◌+◌, ◌<◌, Bool, true, false, if◌then◌else◌, not, ◌&&◌, is_some, Option, Some, None, List, []}
+use Rattle.std.proofs.Common.{◌∷◌, ◌++◌, take, drop, length, get_or, sym, ◌∙◌, ap, arith, append_assoc}
+use Rattle.std.proofs.{lemmas.List.{drop_more, take_more, length-take}, lemmas.Slice.Eq.bytes_eq-Decides, lemmas.Bool.and_parts}
+use Rattle.std.specs.Prelude.{bytes_eq, Result, Ok, Err, OnOk}
+use Rattle.aout_core.specs.{declared.symbol.Symbol.Symbol, Contents.Contents, WellFormed.first_of, WellFormed.is_external}
+use Rattle.checks.specs.{Found.Found, Odd.{first_named_from, first_named, odd_symbol, odd_symbols, first_alike, has_name}}
+
+pub symbols_more : (commons : Bool) (c : Contents) (bytes : List ℕ) (symbols : List Symbol) (i : ℕ) (s : Symbol) (old new whole : List Found) →
+    i < length symbols → s ≡ get_or symbols i s →
+    new ≡ old ++ odd_symbol commons c bytes (first_alike s (take i c.symbols)) i s → old ++ odd_symbols commons c bytes i
+    (drop i symbols) ≡ whole → new ++ odd_symbols commons c bytes (i + 1) (drop (i + 1) symbols) ≡ whole
+symbols_more commons c bytes symbols i s old new whole inside is put so_far =
+    let rest : List Found = odd_symbols commons c bytes (i + 1) (drop (i + 1) symbols) in
+    ap (λ (l : List Found). l ++ rest) put
+    ∙ append_assoc old (odd_symbol commons c bytes (first_alike s (take i c.symbols)) i s) rest
+    ∙ ap (λ (l : List Symbol). old ++ odd_symbols commons c bytes i l)
+    (sym (drop_more symbols i s inside ∙ ap (λ (x : Symbol). x ∷ drop (i + 1) symbols) (sym is)))
+    ∙ so_far
+
+first_named-joined : (name : List ℕ) (n : ℕ) (ss : List Symbol) (s : Symbol) → first_named_from n name (ss ++ s ∷ [])
+    ≡ first_of (first_named_from n name ss) (if has_name s name then Some (n + length ss) else None)
+first_named-joined name n [] s = let same : n ≡ n + 0 = omega arith in ap (λ (k : ℕ). if has_name s name then Some k else None) same
+first_named-joined name n (e ∷ ss) s =
+    let same : n + 1 + length ss ≡ n + length (e ∷ ss) = omega arith in
+    by (has_name e name) (first_named-joined name (n + 1) ss s
+    ∙ ap (λ (k : ℕ). first_of (first_named_from (n + 1) name ss) (if has_name s name then Some k else None)) same)
+  where
+    by : (b : Bool) → first_named_from (n + 1) name (ss ++ s ∷ []) ≡ first_of (first_named_from (n + 1) name ss)
+        (if has_name s name then Some (n + length (e ∷ ss)) else None) →
+        (if b then Some n else first_named_from (n + 1) name (ss ++ s ∷ [])) ≡ first_of (if b then Some n
+        else first_named_from (n + 1) name ss) (if has_name s name then Some (n + length (e ∷ ss)) else None)
+    by true rest = refl
+    by false rest = rest
+
+-- what is noted of a name, if this is the name that was looked up or not
+noted : (is_name : Bool) (found old : Option ℕ) (i : ℕ) → (is_name ≡ true → found ≡ old) →
+    (if is_name && not (is_some found) then Some i else old) ≡ first_of old (if is_name then Some i else None)
+noted true found old i same = ap (λ (o : Option ℕ). if not (is_some o) then Some i else old) (same refl) ∙ by old
+  where
+    by : (o : Option ℕ) → (if not (is_some o) then Some i else o) ≡ first_of o (Some i)
+    by None = refl
+    by (Some x) = refl
+noted false found None i same = refl
+noted false found (Some x) i same = refl
+
+pub noted_more : (symbols : List Symbol) (i : ℕ) (s : Symbol) (other : List ℕ) (found old new : Option ℕ) →
+    i < length symbols → s ≡ get_or symbols i s →
+    new ≡ (if has_name s other && not (is_some found) then Some i else old) → found ≡ first_named s.name
+    (take i symbols) → old ≡ first_named other (take i symbols) → new ≡ first_named other (take (i + 1) symbols)
+noted_more symbols i s other found old new inside is put looked so_far =
+    let before : List Symbol = take i symbols in
+    let count : 0 + length before ≡ i = omega (arith, length-take i symbols) in
+    let joined : take (i + 1) symbols ≡ before ++ s ∷ [] = take_more symbols i s inside ∙ ap (λ (e : Symbol). before ++ e ∷ []) (sym is) in
+    put
+    ∙ noted (has_name s other) found old i
+    (λ e. looked
+    ∙ ap (λ (name : List ℕ). first_named name before) ((bytes_eq-Decides s.name other).0 (and_parts (is_external s) (bytes_eq s.name other) e).1)
+    ∙ sym so_far)
+    ∙ ap (λ (o : Option ℕ). first_of o (if has_name s other then Some i else None)) so_far
+    ∙ ap (λ (k : ℕ). first_of (first_named other before) (if has_name s other then Some k else None)) (sym count)
+    ∙ sym (first_named-joined other 0 before s)
+    ∙ ap (λ (l : List Symbol). first_named other l) (sym joined)
+
+-- what is noted of the name of an external
+pub external_noted : {A E : Type 0} (r : Result A E) (s : Symbol) (i : ℕ) (old new : List ℕ → Option ℕ) → is_external s ≡ true →
+    OnOk r ((other : List ℕ) → new other ≡ (if bytes_eq s.name other && not (is_some (old s.name)) then Some i else old other)) →
+    OnOk r ((other : List ℕ) → new other ≡ (if has_name s other && not (is_some (old s.name)) then Some i else old other))
+external_noted (Ok x) s i old new e h =
+    λ other. h other
+    ∙ ap (λ (b : Bool). if (b && bytes_eq s.name other) && not (is_some (old s.name)) then Some i else old other) (sym e)
+external_noted (Err x) s i old new e h = h
+
+-- four lists that are added one after another
+pub four_parts : (old first second third fourth ks ls ms ns : List Found) → first ≡ old ++ ks → second ≡ first ++ ls →
+    third ≡ second ++ ms → fourth ≡ third ++ ns → fourth ≡ old ++ (ks ++ ls ++ ms ++ ns)
+four_parts old first second third fourth ks ls ms ns a b c d =
+    let two : second ≡ old ++ (ks ++ ls) = b ∙ ap (λ (l : List Found). l ++ ls) a ∙ append_assoc old ks ls in
+    let three : third ≡ old ++ (ks ++ ls ++ ms) = c ∙ ap (λ (l : List Found). l ++ ms) two ∙ append_assoc old (ks ++ ls) ms in
+    d ∙ ap (λ (l : List Found). l ++ ns) three ∙ append_assoc old (ks ++ ls ++ ms) ns

@@ -1,0 +1,16 @@
+pub mod Found
+pub mod Segments
+pub mod Odd
+pub mod Outside
+pub mod Wrong
+pub mod WrongLaw
+pub mod Addresses
+pub mod Branches
+pub mod Reached
+pub mod ReachedLaw
+pub mod Referents
+pub mod SureLaw
+pub mod Suspicions
+pub mod Trust
+pub mod Uses
+pub mod internal

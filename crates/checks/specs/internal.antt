@@ -1,0 +1,2 @@
+pub mod BadWords
+pub mod Marks

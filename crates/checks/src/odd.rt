@@ -1,0 +1,412 @@
+//! What is odd of a file, and not refused. Only tested: the texts of the findings.
+ghost use Rattle.std.specs.Prelude.{◌≡◌, ◌^◌, ◌<◌, ◌&&◌, not, None, Some, length, slice_get, take, if◌then◌else◌, bytes_eq, is_some, IfOk};
+ghost use Rattle.std.specs.Ordering.{nat_cmp};
+ghost use Rattle.std.specs.{Prelude.{OnOk, List, ℕ}, List.{flat_map, list_any}, BTreeMap.get, Cmp.Lexicographic.slice_cmp};
+ghost use Rattle.aout_core.specs.{WellFormed.is_external, Placed.{placed_word, placed_words, relocs_of, words_of}};
+ghost use Rattle.checks.specs.Odd.{after_name, first_alike, has_name, has_type, ignores_number, is_hidden, odd, odd_fields, odd_header};
+ghost use Rattle.checks.specs.Odd.{odd_rest, odd_name, refers_to, is_unused, odd_reloc, odd_symbol, odd_symbols, odd_word};
+ghost use Rattle.checks.specs.{Found.{all_found, Finds}, Segments.segment_meant, Outside.is_byte};
+
+use crate::finding::{Finding, FindingKind, Findings};
+use crate::outside::{has_byte, is_sure_value, is_sure_word};
+use crate::places::{FilePlaces, Outside, Title, has_address, range_of, segment_name, symbol_at};
+use aout_core::{File, Header, Kind, Name, Part, Reloc, Segment, Symbol};
+use disassemblies::Sweep;
+use std::alloc::{AllocError, Global};
+use std::collections::BTreeMap;
+use texts::is_printable;
+
+/// The segment that a kind of relocation word is for.
+fn segment_meant(kind: Option<Kind>) -> Segment
+    ensures { result ≡ segment_meant kind }
+{
+    match kind {
+        Some(Kind::TextSeg) => Segment::TextSeg,
+        Some(Kind::DataSeg) => Segment::DataSeg,
+        Some(Kind::BssSeg) => Segment::BssSeg,
+        Some(Kind::Absolute | Kind::External) | None => Segment::Undefined,
+    }
+}
+
+/// Whether the bits of a relocation word above 17 are ignored.
+fn ignores_number(kind: Option<Kind>) -> bool
+    ensures { result ≡ ignores_number kind }
+{
+    !matches!(kind, None | Some(Kind::External))
+}
+
+/// Whether a name has a byte that does not print.
+fn has_hidden(name: &[u8]) -> bool
+    ensures { result ≡ list_any is_hidden name.now }
+{
+    name.iter()
+        .any(|byte| !is_printable(*byte) && *byte != b'\\')
+}
+
+/// Whether the bytes of a name after its NUL are not NULs too.
+fn has_rest(bytes: &[u8], place: usize, symbol: &Symbol) -> bool
+    requires { place < 2 ^ 32 }
+    ensures { result ≡ list_any is_byte (after_name bytes.now place symbol.now) }
+{
+    let used = symbol.name.as_bytes().len();
+    let end = place + 8;
+    if bytes.len() < end {
+        return false;
+    }
+    has_byte(&bytes[place + used..end])
+}
+
+/// Whether the format has a type like that of a symbol.
+fn has_type(symbol: &Symbol) -> bool
+    ensures { result ≡ has_type symbol.now }
+{
+    let bits = symbol.masked_type();
+    bits < 5 || bits == 0o24 || bits == 0o37
+}
+
+/// A file, the bytes that it was read from, and whether commons of odd sizes are wanted.
+#[derive(Clone, Copy)]
+struct Source<'a> {
+    bytes: &'a [u8],
+    sweep: &'a Sweep<'a>,
+    commons: bool,
+}
+
+/// Adds what is odd of the name of a symbol, which an earlier external has first, if one has it.
+fn find_name(
+    findings: &mut Findings,
+    bytes: &[u8],
+    place: usize,
+    first: Option<usize>,
+    number: usize,
+    symbol: &Symbol,
+)
+    requires { place < 2 ^ 32 }
+    ensures { Finds findings.old findings.new (odd_name bytes.now (is_some first) place symbol.now) }
+{
+    use FindingKind::*;
+    let title = Title { number, symbol };
+    let name = symbol.name.as_bytes();
+    let earlier = first.unwrap_or(0);
+    findings.find_if(
+        name.is_empty(),
+        place,
+        EmptyName,
+        format_args!("{title} has an empty name"),
+    );
+    findings.find_if(
+        has_hidden(name),
+        place,
+        UnprintableName,
+        format_args!("{title} has bytes in its name that do not print"),
+    );
+    findings.find_if(
+        has_rest(bytes, place, symbol),
+        place,
+        BytesAfterName,
+        format_args!("{title} has bytes after the NUL of its name, which are ignored"),
+    );
+    findings.find_if(
+        first.is_some(),
+        place,
+        RepeatedName,
+        format_args!("{title} has the name of symbol {earlier}; names are equal in eight bytes"),
+    );
+}
+
+/// Adds what is odd of the type and the value of a symbol.
+fn find_fields(
+    findings: &mut Findings,
+    file: &File,
+    commons: bool,
+    place: usize,
+    number: usize,
+    symbol: &Symbol,
+)
+    requires { place < 2 ^ 32 }
+    ensures { Finds findings.old findings.new (odd_fields commons file.now place symbol.now) }
+{
+    use FindingKind::*;
+    let header = file.header();
+    let title = Title { number, symbol };
+    let (bits, value, segment) = (symbol.type_bits, symbol.value, symbol.segment());
+    let (label, range) = (segment_name(segment), range_of(header, segment));
+    let outside = Outside {
+        segment,
+        range,
+        address: value,
+    };
+    findings.find_if(
+        bits >= 0o100,
+        place + 8,
+        IgnoredTypeBits,
+        format_args!("{title} has type {bits:06o}, of which the bits above 77 are ignored"),
+    );
+    findings.find_if(
+        !has_type(symbol),
+        place + 8,
+        UnknownType,
+        format_args!(
+            "{title} has type {bits:06o}, which the format does not have; it is taken as absolute"
+        ),
+    );
+    findings.find_if(
+        commons && symbol.is_undefined() && value % 2 == 1,
+        place + 10,
+        OddCommon,
+        format_args!(
+            "{title} is undefined with value {value:06o}: a common of {value} bytes, rounded up to even"
+        ),
+    );
+    findings.find_if(
+        symbol.is_undefined() && value > 0o157777,
+        place + 10,
+        NoRoom,
+        format_args!("{title} is a common of {value} bytes, which have no room in memory"),
+    );
+    findings.find_if_as(
+        is_sure_value(file, symbol),
+        !has_address(header, segment, value),
+        place + 10,
+        OutsideValue,
+        format_args!("{title} of {label} has value {value:06o}, and {outside}"),
+    );
+}
+
+/// Whether a relocation word refers to the symbol of a number.
+fn refers_to(number: usize, reloc: Reloc) -> bool
+    ensures { result ≡ refers_to number reloc }
+{
+    reloc.0 / 2 % 8 == 4 && usize::from(reloc.number()) == number
+}
+
+/// Whether some relocation word refers to the symbol of a number.
+fn has_reference(relocs: &[Reloc], number: usize) -> bool
+    ensures { result ≡ list_any (refers_to number) relocs.now }
+{
+    relocs.iter().any(|reloc| refers_to(number, *reloc))
+}
+
+/// Whether a symbol of an object is undefined, and no word refers to it.
+fn is_unused(file: &File, number: usize, symbol: &Symbol) -> bool
+    ensures { result ≡ is_unused file.now number symbol.now }
+{
+    file.header().flag == 0
+        && symbol.is_undefined()
+        && symbol.value == 0
+        && !(has_reference(file.text_reloc(), number) || has_reference(file.data_reloc(), number))
+}
+
+/// Adds what is odd of a symbol, whose name an earlier one has first, if one has it.
+fn find_symbol(
+    findings: &mut Findings,
+    source: &Source<'_>,
+    number: usize,
+    first: Option<usize>,
+    symbol: &Symbol,
+)
+    requires few { number < 65536 }
+    requires first { first ≡ first_alike symbol.now (take number source.now.sweep.now.symbols) }
+    ensures { Finds findings.old findings.new (odd_symbol source.now.commons source.now.sweep.now source.now.bytes.now
+        (first_alike symbol.now (take number source.now.sweep.now.symbols)) number symbol.now) }
+{
+    let file = source.sweep.file();
+    let header = file.header();
+    let place = symbol_at(header, number);
+    find_name(findings, source.bytes, place, first, number, symbol);
+    find_fields(findings, file, source.commons, place, number, symbol);
+    let title = Title { number, symbol };
+    findings.find_if_as(
+        false,
+        is_unused(file, number, symbol),
+        place,
+        FindingKind::UnusedName,
+        format_args!("{title} is undefined, and no word refers to it"),
+    );
+}
+
+/// The number that was noted first with a name, which is noted if none was.
+fn first_noted(
+    seen: &mut BTreeMap<Name, usize>,
+    name: Name,
+    number: usize,
+) -> Result<Option<usize>, AllocError>
+    ensures first { IfOk result (λ first. first ≡ get (slice_cmp nat_cmp) seen.old name) }
+    ensures noted { OnOk result ((other : List ℕ) → get (slice_cmp nat_cmp) seen.new other
+        ≡ (if bytes_eq name other && not (is_some (get (slice_cmp nat_cmp) seen.old name))
+        then Some number else get (slice_cmp nat_cmp) seen.old other)) }
+{
+    if let Some(first) = seen.get(&name) {
+        return Ok(Some(*first));
+    }
+    seen.insert(name, number)?;
+    Ok(None)
+}
+
+/// The number of the first external so far that has the name of an external, which is noted if none has it.
+fn first_alike(
+    seen: &mut BTreeMap<Name, usize>,
+    symbol: &Symbol,
+    number: usize,
+) -> Result<Option<usize>, AllocError>
+    ensures first { IfOk result (λ first. first ≡ (if is_external symbol.now
+        then get (slice_cmp nat_cmp) seen.old symbol.now.name else None)) }
+    ensures noted { OnOk result ((other : List ℕ) → get (slice_cmp nat_cmp) seen.new other
+        ≡ (if has_name symbol.now other
+        && not (is_some (get (slice_cmp nat_cmp) seen.old symbol.now.name))
+        then Some number else get (slice_cmp nat_cmp) seen.old other)) }
+{
+    if !symbol.is_external() {
+        return Ok(None);
+    }
+    first_noted(seen, symbol.name, number)
+}
+
+/// Adds what is odd of the symbols.
+fn find_symbols(findings: &mut Findings, source: &Source<'_>)
+    ensures { Finds findings.old findings.new
+        (odd_symbols source.now.commons source.now.sweep.now source.now.bytes.now 0
+        source.now.sweep.now.symbols) }
+{
+    let mut seen = BTreeMap::new(findings.allocator());
+    let symbols = source.sweep.file().symbols();
+    for (number, symbol) in symbols.iter().enumerate() {
+        match first_alike(&mut seen, symbol, number) {
+            Ok(first) => find_symbol(findings, source, number, first, symbol),
+            Err(error) => return findings.cut(error),
+        }
+    }
+}
+
+/// Adds what is odd of a word of a part.
+fn find_word(findings: &mut Findings, sweep: &Sweep<'_>, part: Part, number: usize)
+    requires { number < length (words_of sweep.now part) }
+    ensures { Finds findings.old findings.new
+        (odd_reloc sweep.now (placed_word sweep.now part number) (slice_get (relocs_of sweep.now part) number)) }
+{
+    let file = sweep.file();
+    let at = file.placed_word(part, number);
+    let Some(reloc) = at.reloc else {
+        return;
+    };
+    let segment = segment_meant(reloc.kind());
+    let (label, range) = (segment_name(segment), range_of(file.header(), segment));
+    let target = reloc.target(at.word, at.address);
+    let outside = Outside {
+        segment,
+        range,
+        address: target,
+    };
+    let (bits, address) = (reloc.0, at.address);
+    findings.find_if(
+        bits >= 0o20 && ignores_number(reloc.kind()),
+        at.reloc_place,
+        FindingKind::IgnoredRelocationBits,
+        format_args!(
+            "relocation word {bits:06o} of the word at {address:06o}: bits above 17 are ignored"
+        ),
+    );
+    if !has_address(file.header(), segment, target) {
+        findings.find_if_as(
+            is_sure_word(sweep, part, number, segment, reloc, target),
+            true,
+            at.reloc_place,
+            FindingKind::OutsideReference,
+            format_args!(
+                "the word at {address:06o} is of kind {label} and refers to {target:06o}; {outside}"
+            ),
+        );
+    }
+}
+
+/// Adds what is odd of the words of a part.
+fn find_words(findings: &mut Findings, sweep: &Sweep<'_>, part: Part)
+    ensures { Finds findings.old findings.new
+        (flat_map (odd_word sweep.now) (placed_words sweep.now part)) }
+{
+    let words = sweep.file().words_of(part);
+    for (number, _) in words.iter().enumerate() {
+        find_word(findings, sweep, part, number);
+    }
+}
+
+/// Adds bytes after the table of a file with this header. Zeros may fill a block.
+fn find_rest(findings: &mut Findings, header: &Header, bytes: &[u8])
+    ensures { Finds findings.old findings.new (odd_rest header.now bytes.now) }
+{
+    let end = FilePlaces::of(header).end;
+    let is_longer = bytes.len() > end;
+    if !is_longer {
+        return;
+    }
+    let rest = &bytes[end..];
+    let more = rest.len();
+    findings.find_if_as(
+        has_byte(rest),
+        true,
+        end,
+        FindingKind::BytesAfterTable,
+        format_args!("0{more:o} ({more}) bytes after the symbol table are not read"),
+    );
+}
+
+/// Adds what is odd of the header, and bytes after the table.
+fn find_header(findings: &mut Findings, source: &Source<'_>)
+    ensures { Finds findings.old findings.new
+        (odd_header source.now.sweep.now.header source.now.bytes.now) }
+{
+    let header = source.sweep.file().header();
+    let (entry, unused) = (header.entry_point, header.unused);
+    findings.find_if(
+        entry != 0 && header.flag == 0,
+        10,
+        FindingKind::IgnoredEntry,
+        format_args!("the entry point of an object, {entry:06o}, is ignored"),
+    );
+    findings.find_if(
+        unused != 0,
+        12,
+        FindingKind::IgnoredWord,
+        format_args!("the unused word, {unused:06o}, is ignored"),
+    );
+    find_rest(findings, header, source.bytes);
+    let end = range_of(header, Segment::BssSeg).end;
+    findings.find_if_as(
+        u32::from(header.data_size) + u32::from(header.bss_size) > 65535,
+        end > 65535,
+        2,
+        FindingKind::NoRoom,
+        format_args!("text, data and bss end at {end:06o}, and have no room in memory"),
+    );
+}
+
+/// Adds what is odd of a file, which the bytes begin with.
+fn find_odd(findings: &mut Findings, source: &Source<'_>)
+    ensures { Finds findings.old findings.new
+        (odd source.now.commons source.now.bytes.now source.now.sweep.now) }
+{
+    find_header(findings, source);
+    find_words(findings, source.sweep, Part::Text);
+    find_words(findings, source.sweep, Part::Data);
+    find_symbols(findings, source);
+}
+
+/// What is odd of a file, which these bytes begin with, with the commons of odd sizes or without them. An error: out of memory.
+pub fn odd_of(
+    alloc: Global,
+    bytes: &[u8],
+    sweep: &Sweep<'_>,
+    commons: bool,
+) -> Result<Vec<Finding>, AllocError>
+    ensures { IfOk result (λ findings.
+        all_found findings.items ≡ odd commons bytes.now sweep.now) }
+{
+    let mut findings = Findings::new(alloc);
+    let source = Source {
+        bytes,
+        sweep,
+        commons,
+    };
+    find_odd(&mut findings, &source);
+    findings.finish()
+}

@@ -1,0 +1,298 @@
+//! What is suspicious in a text. Only tested: what the findings say.
+ghost use Rattle.std.specs.Prelude.{◌≡◌, ◌+◌, ◌*◌, ◌^◌, ◌<◌, ◌&&◌, ◌++◌, Some, length, slice_get, IfOk};
+ghost use Rattle.aout_core.specs.WellFormed.{is_pc_relative};
+ghost use Rattle.instructions.specs.{Modes.counts_from_pc, declared.unix.Decoder.TheVariants.Unix};
+ghost use Rattle.instructions.specs.{Instructions.{instruction_of, word_count_of}, Relocated.is_relocated};
+ghost use Rattle.disassemblies.specs.Starts.{starts, is_start};
+ghost use Rattle.checks.specs.Found.{all_found, Finds};
+ghost use Rattle.checks.specs.{declared.evidence.Evidence.TheVariants.Names, Reached.branch_of, internal.Marks.ShowReached};
+ghost use Rattle.checks.specs.Suspicions.{reloc_place, may_begin, suspicious_first, differ, is_immediate, suspicious_bit};
+ghost use Rattle.checks.specs.Suspicions.{suspicious_by, suspicious_operand, is_foreign, suspicious_lack, suspicious_plain};
+ghost use Rattle.checks.specs.Suspicions.{suspicious_line, suspicious_at, suspicious_place, suspicious_words, suspicions, all_odd};
+ghost use Rattle.checks.specs.{Trust.trust, Branches.{of_lines, suspicious_branch}};
+
+use crate::addresses::find_addresses;
+use crate::branches::find_branch;
+use crate::evidence::{Evidence, Reached};
+use crate::finding::{Finding, FindingKind, Findings};
+use crate::leads::{branch_of, reloc_at};
+use crate::odd::odd_of;
+use crate::places::FilePlaces;
+use crate::reached::{is_marked, reached_places};
+use crate::referent::find_references;
+use crate::suspect::{Suspect, doubt_text};
+use crate::trust::{Trust, is_sure};
+use crate::uses::find_uses;
+use aout_core::{File, Reloc};
+use disassemblies::Sweep;
+use instructions::{Addressing, Instruction, Line, Operand, UnixLine, decode, is_relocated};
+use std::alloc::{AllocError, Global};
+
+/// The byte of the file at which the relocation word of a word of text is.
+fn reloc_place(file: &File, place: usize) -> usize
+    requires { place < 2 ^ 20 }
+    ensures { result ≡ reloc_place file.now place }
+{
+    FilePlaces::of(file.header()).relocation + 2 * place
+}
+
+/// Whether the word at a place would begin an instruction, if it were not relocated, with a last word that is an operand word and not
+/// relocated.
+fn may_begin(file: &File, place: usize) -> bool
+    requires { place < length file.now.text_words }
+    ensures { result ≡ may_begin file.now place }
+{
+    let count = decode(file.text_words(), place).length();
+    1 < count && !is_relocated(reloc_at(file, place + count - 1))
+}
+
+/// Adds a plain word, if it is relocated.
+fn find_first(findings: &mut Findings, at: &Suspect<'_>)
+    ensures { Finds findings.old findings.new
+        (suspicious_first at.now.lines.sweep.now at.now.trust at.now.start) }
+{
+    let file = at.sweep().file();
+    if is_relocated(reloc_at(file, at.start))
+        && (at.trust.is_reached || may_begin(file, at.start))
+    {
+        at.find_here(
+            findings,
+            reloc_place(file, at.start),
+            FindingKind::RelocatedFirstWord,
+            "the first word of the instruction at",
+            " is relocated",
+        );
+    }
+}
+
+/// Whether a relocation word has a pc bit that does not suit its operand.
+fn is_unsuitable(reloc: Reloc, addressing: Addressing) -> bool
+    ensures { result
+        ≡ (is_relocated (Some reloc) && differ (is_pc_relative reloc) (counts_from_pc addressing)) }
+{
+    is_relocated(Some(reloc)) && reloc.is_pc() != addressing.counts_from_pc()
+}
+
+/// Whether an operand is the word itself.
+fn is_immediate(addressing: Addressing) -> bool
+    ensures { result ≡ is_immediate addressing }
+{
+    matches!(addressing, Addressing::Immediate)
+}
+
+/// Adds an operand whose word, if it has one, is at a place, and has a pc bit that does not suit it.
+fn find_operand(findings: &mut Findings, at: &Suspect<'_>, place: usize, operand: Option<Operand>)
+    requires { place < 2 ^ 20 }
+    ensures { Finds findings.old findings.new
+        (suspicious_operand at.now.lines.sweep.now at.now.trust.is_sure place operand) }
+{
+    let Some(Operand::General(mode, register)) = operand else {
+        return;
+    };
+    let Some(addressing) = mode.addressing(register) else {
+        return;
+    };
+    let file = at.sweep().file();
+    let Some(reloc) = reloc_at(file, place) else {
+        return;
+    };
+    if is_unsuitable(reloc, addressing) {
+        let is_sure = at.trust.is_sure && !is_immediate(addressing);
+        let what = if reloc.is_pc() {
+            "is set, and its operand does not count"
+        } else {
+            "is not set, and its operand counts"
+        };
+        let (address, doubt) = (2 * place, doubt_text(is_sure));
+        at.find(
+            findings,
+            is_sure,
+            reloc_place(file, place),
+            FindingKind::UnsuitablePcBit,
+            format_args!("the pc bit of the word at {address:06o} {what} from the pc{doubt}"),
+        );
+    }
+}
+
+/// Whether a word begins an instruction of another PDP-11.
+fn is_foreign(word: u16) -> bool
+    ensures { result ≡ is_foreign word }
+{
+    word / 0o100 == 0o1064
+        || word / 0o100 == 0o1067
+        || word / 0o40 == 0o1720
+        || word / 0o1000 == 0o76
+}
+
+/// Adds a plain word at a place that is reached.
+fn find_lack(findings: &mut Findings, at: &Suspect<'_>, word: u16)
+    ensures { Finds findings.old findings.new
+        (suspicious_lack at.now.trust.is_sure at.now.start word (instruction_of word)) }
+{
+    let place = at.place();
+    if Instruction::from_first_word(word).is_some() {
+        let (before, after) = ("the instruction at", " is cut by the end of the text");
+        at.find_here(findings, place, FindingKind::CutInstruction, before, after);
+    } else if !is_foreign(word) {
+        let (before, after) = ("an instruction leads to", ", where none begins");
+        at.find_here(findings, place, FindingKind::NoInstruction, before, after);
+    }
+}
+
+/// Adds what is suspicious of a plain word.
+fn find_plain(findings: &mut Findings, at: &Suspect<'_>, word: u16)
+    ensures { Finds findings.old findings.new
+        (suspicious_plain at.now.lines.sweep.now at.now.trust at.now.start word) }
+{
+    if is_relocated(reloc_at(at.sweep().file(), at.start)) {
+        find_first(findings, at);
+    } else if at.trust.is_reached {
+        find_lack(findings, at, word);
+    }
+}
+
+/// Adds what is suspicious of a line.
+fn find_line(findings: &mut Findings, at: &Suspect<'_>, line: &UnixLine)
+    ensures { Finds findings.old findings.new
+        (suspicious_line at.now.lines.evidence at.now.lines.sweep.now at.now.trust at.now.start
+        line.now) }
+{
+    match line {
+        UnixLine::Machine(Line::Plain(word)) => find_plain(findings, at, *word),
+        UnixLine::Machine(Line::Decoded(instruction, _, _)) => {
+            let (place, address) = (at.start + 1, at.address());
+            let later = place + instruction.words_before_second();
+            find_operand(findings, at, place, instruction.first);
+            find_operand(findings, at, later, instruction.second);
+            find_branch(findings, at, branch_of(address, instruction.first));
+            find_branch(findings, at, branch_of(address, instruction.second));
+        }
+        UnixLine::Call(_) => {}
+    }
+}
+
+/// Adds what is suspicious of the line at a place, and of what its operands refer to.
+fn find_at(findings: &mut Findings, at: &Suspect<'_>)
+    ensures { Finds findings.old findings.new
+        (suspicious_at at.now.lines.evidence at.now.lines.sweep.now at.now.trust
+        at.now.start) }
+{
+    let line = at.sweep().line_at(at.start);
+    find_line(findings, at, &line);
+    find_references(findings, at, &line);
+    find_uses(findings, at, &line);
+}
+
+/// The places that an evidence of sure places shows, and for each word of the text whether names show it.
+#[derive(Clone, Copy)]
+struct Marked<'a> {
+    shown: Reached<'a>,
+    names: &'a [bool],
+    ghost by_names: { ShowReached names.now Names shown.sweep.now },
+}
+
+/// The lines that a branch may enter.
+fn lines_of<'a>(marked: &Marked<'a>) -> Reached<'a>
+    ensures evidence { result.evidence ≡ of_lines marked.now.shown.evidence }
+    ensures sweep { result.sweep.now ≡ marked.now.shown.sweep.now }
+{
+    match marked.shown.evidence {
+        Evidence::Promise => marked.shown,
+        Evidence::Names | Evidence::Flow => Reached {
+            evidence: Evidence::Names,
+            sweep: marked.shown.sweep,
+            marks: marked.names,
+        },
+    }
+}
+
+/// How far it is sure that the line at a place is an instruction.
+fn trust_at(marked: &Marked<'_>, place: usize) -> Trust
+    requires { place < length marked.now.shown.sweep.now.text_words }
+    ensures { result ≡ trust marked.now.shown.evidence marked.now.shown.sweep.now place }
+{
+    let is_sure = is_sure(&marked.shown, place);
+    Trust {
+        is_reached: is_marked(marked.names, place) || is_sure,
+        is_sure,
+    }
+}
+
+/// Adds what is suspicious at a place.
+fn find_place(findings: &mut Findings, marked: &Marked<'_>, place: usize)
+    requires { place < length marked.now.shown.sweep.now.text_words }
+    ensures { Finds findings.old findings.new
+        (suspicious_place marked.now.shown.evidence marked.now.shown.sweep.now place) }
+{
+    let is_inside = place < marked.shown.sweep.file().text_words().len();
+    prove!(is_inside);
+    let trust = trust_at(marked, place);
+    if trust.is_reached || marked.shown.sweep.is_start(place) {
+        let at = Suspect {
+            lines: lines_of(marked),
+            start: place,
+            trust,
+        };
+        find_at(findings, &at);
+    }
+}
+
+/// Adds what is suspicious at each place.
+fn find_places(findings: &mut Findings, marked: &Marked<'_>)
+    ensures { Finds findings.old findings.new (suspicious_words marked.now.shown.evidence
+        marked.now.shown.sweep.now 0 marked.now.shown.sweep.now.text_words) }
+{
+    let words = marked.shown.sweep.file().text_words();
+    for (place, _) in words.iter().enumerate() {
+        find_place(findings, marked, place);
+    }
+}
+
+/// Adds what is suspicious at each place, and at addresses.
+fn find_all<'a>(findings: &mut Findings, shown: Reached<'a>, names: &'a [bool])
+    requires { ShowReached names.now Names shown.sweep.now }
+    ensures { Finds findings.old findings.new (suspicions shown.entry.evidence shown.entry.sweep.now) }
+{
+    let marked = Marked { shown, names };
+    find_places(findings, &marked);
+    find_addresses(findings, &marked.shown);
+}
+
+/// What is suspicious in the text of a file, in the order of the places; the evidence, `Flow` or `Promise`, says which places are sure. An
+/// error: out of memory. (a.out(5), the handbook of the PDP-11/70; what is suspicious: own choice)
+pub fn suspicions_of(
+    alloc: Global,
+    evidence: Evidence,
+    sweep: &Sweep<'_>,
+) -> Result<Vec<Finding>, AllocError>
+    ensures { IfOk result (λ findings.
+        all_found findings.items ≡ suspicions evidence sweep.now) }
+{
+    let mut findings = Findings::new(alloc);
+    let names = reached_places(alloc, Evidence::Names, sweep)?;
+    let marks = reached_places(alloc, evidence, sweep)?;
+    let shown = Reached {
+        evidence,
+        sweep: &*sweep,
+        marks: &marks,
+    };
+    find_all(&mut findings, shown, &names);
+    findings.finish()
+}
+
+/// What is odd of a file, which these bytes begin with, and what is suspicious in it. An error: out of memory.
+pub fn all_odd_of(
+    alloc: Global,
+    evidence: Evidence,
+    bytes: &[u8],
+    sweep: &Sweep<'_>,
+    commons: bool,
+) -> Result<Vec<Finding>, AllocError>
+    ensures { IfOk result (λ found.
+        all_found found.items ≡ all_odd evidence commons bytes.now sweep.now) }
+{
+    let mut found = odd_of(alloc, bytes, sweep, commons)?;
+    let mut more = suspicions_of(alloc, evidence, sweep)?;
+    found.append(&mut more)?;
+    Ok(found)
+}

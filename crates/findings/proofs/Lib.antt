@@ -1,4 +1,0 @@
-pub mod BadWordLemmas
-pub mod SymbolLemmas
-pub mod WordLemmas
-pub mod WrongLemmas

@@ -1,3 +1,0 @@
-pub mod SpreadLemmas
-pub mod ReachLemmas
-pub mod SureLemmas
