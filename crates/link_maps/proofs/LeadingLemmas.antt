@@ -1,11 +1,11 @@
 -- Words that have neither the key of a symbol's number nor that of its address do not lead to it.
-use Rattle.std.proofs.Common.{◌≡◌, ℕ, Bool, true, false, ◌&&◌, cond, eqb, if◌then◌else◌, List, [], ◌∷◌, ◌++◌, filter, length, refl, sym, ap}
+use Rattle.std.proofs.Common.{◌≡◌, ℕ, Bool, true, false, cond, eqb, if◌then◌else◌, List, [], ◌∷◌, ◌++◌, filter, length, refl, sym, ap}
 use Rattle.std.proofs.{Common.{◌∙◌, arith}, lemmas.Grind.common_steps}
 use Rattle.std.specs.List.{flat_map}
 use Rattle.link_maps.specs.{declared.leads.Aim.Aim, declared.leads.Lead.Lead, Leads.leads_to, Leads.reference_if, References.reference_at}
 use Rattle.link_maps.specs.declared.leads.Aim.TheVariants.{Numbered, Addressed}
 use Rattle.link_maps.specs.internal.Leading.{number_key, address_key, aim_key, has_key, HaveAllTo}
-use Rattle.aout_core.specs.{declared.symbol.Symbol.Symbol, WellFormed.masked_type, WellFormed.segment_number}
+use Rattle.aout_core.specs.{declared.symbol.Symbol.Symbol, WellFormed.masked_type}
 
 pub leads_nowhere : (number : ℕ) (s : Symbol) (a : Aim) → eqb (number_key number) (aim_key a) ≡ false →
     eqb (address_key (masked_type s) s.value) (aim_key a) ≡ false → leads_to a number s ≡ false

@@ -1,4 +1,3 @@
-pub mod LabelLemmas
 pub mod LeadLemmas
 pub mod LeadingLemmas
 pub mod LinkLemmas

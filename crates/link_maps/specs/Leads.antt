@@ -8,7 +8,7 @@ use Rattle.std.specs.List.{flat_map}
 use Rattle.aout_core.specs.{WellFormed.{first_of, kind_of, symbol_number}, declared.symbol.Symbol.Symbol}
 use Rattle.aout_core.specs.{declared.symbol.Segment.TheVariants.{TextSeg, DataSeg, BssSeg}, declared.reloc.Reloc.Reloc}
 use Rattle.aout_core.specs.{declared.reloc.Kind.Kind, Addresses.{pc_target, target}, Contents.Contents, Words.plus, declared.part.Part.Part}
-use Rattle.aout_core.specs.declared.part.Part.TheVariants.{Text, Data}
+use Rattle.aout_core.specs.{Placed.{relocs_of, words_of}, declared.part.Part.TheVariants.{Text, Data}}
 use Rattle.aout_core.specs.declared.reloc.Kind.TheVariants as kinds
 use Rattle.instructions.specs.{declared.mode.Addressing.Addressing, declared.operand.Operand.Operand}
 use Rattle.instructions.specs.declared.operand.Operand.TheVariants.{General, Forward, Backward}
@@ -17,7 +17,7 @@ use Rattle.instructions.specs.{Operands.takes_word, Relocated.is_relocated, Text
 use Rattle.disassemblies.specs.Naming.{is_at}
 use Rattle.link_maps.specs.{declared.leads.Aim.Aim, declared.leads.Lead.Lead, declared.references.ReferringWord.ReferringWord}
 use Rattle.link_maps.specs.declared.leads.Aim.TheVariants.{Numbered, Addressed}
-use Rattle.link_maps.specs.References.{address_in, line_of, part_words, reference_at, relocs_of}
+use Rattle.link_maps.specs.References.{address_in, line_of, reference_at}
 
 -- ---- words that a link relocates
 
@@ -95,7 +95,7 @@ leads_in starts o part offset (r ∷ rs) (w ∷ ws) =
     lead_by part offset (aim_of starts o part offset r w) ++ leads_in starts o part (plus offset 2) rs ws
 
 abbrev pub leads_of : List Bool → Contents → Part → List Lead
-leads_of starts o part = leads_in starts o part 0 (relocs_of o part) (part_words o part)
+leads_of starts o part = leads_in starts o part 0 (relocs_of o part) (words_of o part)
 
 -- those of text, and then those of data
 abbrev pub leads : List Bool → Contents → List Lead

@@ -10,7 +10,8 @@ use Rattle.link_session.specs.{Labelled.number_or_none, Undo.Kept}
 use Rattle.link_maps.specs.{Members.{Member, capped, start_in}, Uses.{Use, is_common, is_definition, name_of, stays_undefined}}
 use Rattle.link_maps.specs.{declared.outcome.Outcome.Outcome, declared.places.Places.Places, declared.name_records.NameRecord.NameRecord}
 use Rattle.link_maps.specs.{declared.records.ObjectRecord.ObjectRecord, declared.records.UseRecord.UseRecord}
-use Rattle.link_maps.specs.{declared.references.Before.Before, declared.references.ReferringWord.ReferringWord}
+use Rattle.instructions.specs.declared.reference.Reference.{Reference}
+use Rattle.link_maps.specs.declared.references.ReferringWord.{ReferringWord}
 use Rattle.link_maps.specs.Rows.{is_multiple_in, row_among, rows_in}
 
 -- ---- objects
@@ -150,13 +151,13 @@ abbrev pub word_kind : Part → ℕ
 word_kind Text = 5
 word_kind Data = 6
 
-abbrev pub label_shown : Option Before → List ℕ
+abbrev pub label_shown : Option Reference → List ℕ
 label_shown None = no_label
 label_shown (Some b) = padded b.name
 
-abbrev pub beyond_label : Option Before → ℕ
+abbrev pub beyond_label : Option Reference → ℕ
 beyond_label None = 0
-beyond_label (Some b) = b.bytes
+beyond_label (Some b) = b.offset
 
 -- a word that refers to the name with this number, in an object whose segments begin there
 abbrev pub word_record : Places → ℕ → ℕ → ReferringWord → UseRecord

@@ -2,52 +2,23 @@
 --
 -- A word of text is in a line, an instruction or a plain word; a word of data is a line of its own. A label is a symbol of text or of data,
 -- at its address in the object. The one before a line is that with the largest address up to the line's own; of several at that address,
--- the first of the table. In text the labels of functions come first: the other labels count if none of those is before the line.
-use Rattle.std.specs.Prelude.{ℕ, ◌-◌, ◌*◌, ◌/◌, Bool, true, false, ◌&&◌, ◌||◌, eqb, nat_lt, nat_le, if◌then◌else◌, List, [], ◌∷◌}
-use Rattle.std.specs.Prelude.{length, filter, Option, Some, None}
-use Rattle.aout_core.specs.{WellFormed.{first_of, is_external, segment_of, segment_number}, declared.symbol.Symbol.Symbol}
+-- an external or else the first of the table. In text the labels of functions come first: the other labels count if none of those is before
+-- the line.
+use Rattle.std.specs.Prelude.{ℕ, ◌*◌, ◌/◌, Bool, false, ◌||◌, eqb, nat_lt, if◌then◌else◌, List, [], ◌∷◌, length, filter, Option, None}
+use Rattle.aout_core.specs.{WellFormed.{first_of, is_external}, declared.symbol.Symbol.Symbol}
 use Rattle.aout_core.specs.{declared.symbol.Segment.Segment, declared.symbol.Segment.TheVariants.{TextSeg, DataSeg, BssSeg}}
-use Rattle.aout_core.specs.{declared.reloc.Reloc.Reloc, Contents.Contents, Words.plus, declared.part.Part.Part}
+use Rattle.aout_core.specs.{Contents.Contents, Words.plus, declared.part.Part.Part}
 use Rattle.aout_core.specs.declared.part.Part.TheVariants.{Text, Data}
-use Rattle.instructions.specs.declared.unix.Decoder.TheVariants.{Unix}
-use Rattle.disassemblies.specs.{Lines.line_text_in, Starts.line_start}
+use Rattle.instructions.specs.{declared.reference.Reference.Reference, declared.unix.Decoder.TheVariants.Unix}
+use Rattle.disassemblies.specs.{Lines.line_text_in, Near.nearest_label, Starts.line_start}
 use Rattle.link_session.specs.Starts.{own}
-use Rattle.link_maps.specs.{declared.references.Before.Before, declared.references.ReferringWord.ReferringWord}
+use Rattle.link_maps.specs.declared.references.ReferringWord.{ReferringWord}
 
 abbrev pub segment_of_part : Part → Segment
 segment_of_part Text = TextSeg
 segment_of_part Data = DataSeg
 
-abbrev pub relocs_of : Contents → Part → List Reloc
-relocs_of o Text = o.text_reloc
-relocs_of o Data = o.data_reloc
-
-abbrev pub part_words : Contents → Part → List ℕ
-part_words o Text = o.text_words
-part_words o Data = o.data_words
-
 -- ---- labels
-
--- a symbol of the segment, at the address or before it
-abbrev pub is_label : Segment → ℕ → Symbol → Bool
-is_label segment address s = eqb (segment_number (segment_of s)) (segment_number segment) && nat_le s.value address
-
-abbrev pub is_nearer : Option Symbol → Symbol → Bool
-is_nearer None s = true
-is_nearer (Some best) s = nat_lt best.value s.value
-
--- the nearest label so far, with one more symbol
-abbrev pub nearer : Segment → ℕ → Option Symbol → Symbol → Option Symbol
-nearer segment address best s = if is_label segment address s && is_nearer best s then Some s else best
-
--- the nearest label, after those that the table has before these symbols
-abbrev pub nearest : Segment → ℕ → Option Symbol → List Symbol → Option Symbol
-nearest segment address best [] = best
-nearest segment address best (s ∷ ss) = nearest segment address (nearer segment address best s) ss
-
-abbrev pub before : ℕ → Option Symbol → Option Before
-before address None = None
-before address (Some s) = Some (record { name = s.name; bytes = address - s.value })
 
 -- a function, or a variable of C: an external, or a name after a `_`, as compilers name those of one file
 abbrev pub begins_in_c : List ℕ → Bool
@@ -58,15 +29,12 @@ abbrev pub is_function : Symbol → Bool
 is_function s = is_external s || begins_in_c s.name
 
 -- the nearest label of text, data or bss
-abbrev pub nearest_in : List Symbol → Segment → ℕ → Option Symbol
-nearest_in symbols TextSeg address =
-    first_of (nearest TextSeg address None (filter is_function symbols)) (nearest TextSeg address None symbols)
-nearest_in symbols DataSeg address = nearest DataSeg address None symbols
-nearest_in symbols BssSeg address = nearest BssSeg address None symbols
-nearest_in symbols _ address = None
-
-abbrev pub label_before : List Symbol → Segment → ℕ → Option Before
-label_before symbols segment address = before address (nearest_in symbols segment address)
+abbrev pub label_before : List Symbol → Segment → ℕ → Option Reference
+label_before symbols TextSeg address =
+    first_of (nearest_label (filter is_function symbols) TextSeg address) (nearest_label symbols TextSeg address)
+label_before symbols DataSeg address = nearest_label symbols DataSeg address
+label_before symbols BssSeg address = nearest_label symbols BssSeg address
+label_before symbols _ address = None
 
 -- ---- words
 
@@ -85,7 +53,7 @@ abbrev pub address_in : Contents → Part → ℕ → ℕ
 address_in o part offset = plus offset (own o (segment_of_part part))
 
 -- the label before a line
-abbrev pub before_line : Contents → Part → ℕ → Option Before
+abbrev pub before_line : Contents → Part → ℕ → Option Reference
 before_line o part line = label_before o.symbols (segment_of_part part) (address_in o part line)
 
 -- the word of a part so many bytes after the first

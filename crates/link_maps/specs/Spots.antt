@@ -3,7 +3,7 @@
 -- With separate spaces text has the addresses of data and bss too, and if an object is refused the addresses of each segment count from 0:
 -- then an address has several spots.
 use Rattle.std.specs.Prelude.{ℕ, ◌+◌, ◌-◌, ◌&&◌, nat_le, nat_lt, if◌then◌else◌, List, [], ◌∷◌, ◌++◌, Option, Some, None, slice_get}
-use Rattle.aout_core.specs.{declared.header.Header.Header, declared.part.Part.Part, declared.part.Part.TheVariants.{Text, Data}}
+use Rattle.aout_core.specs.{declared.header.Header.Header, declared.part.Part.TheVariants.{Text, Data}}
 use Rattle.link_out.specs.Layouts.{Bases}
 use Rattle.link_maps.specs.{Members.Member, Rows.bases_of, declared.map.LinkMap.LinkMap, declared.places.Places.Places}
 use Rattle.link_maps.specs.{declared.spots.Spot.Spot, declared.spots.Spot.TheVariants.{Word, Bss, Common}}
@@ -12,19 +12,16 @@ use Rattle.link_maps.specs.{declared.spots.Spot.Spot, declared.spots.Spot.TheVar
 abbrev pub offset_in : ℕ → ℕ → ℕ → Option ℕ
 offset_in start size address = if nat_le start address && nat_lt (address - start) size then Some (address - start) else None
 
-abbrev pub word_if : ℕ → Part → Option ℕ → List Spot
-word_if object part None = []
-word_if object part (Some offset) = Word object part offset ∷ []
-
-abbrev pub bss_if : ℕ → Option ℕ → List Spot
-bss_if object None = []
-bss_if object (Some offset) = Bss object offset ∷ []
+abbrev pub spot_if : (ℕ → Spot) → Option ℕ → List Spot
+spot_if spot None = []
+spot_if spot (Some offset) = spot offset ∷ []
 
 -- those in the segments of an object
 abbrev pub spots_in : ℕ → ℕ → Header → Places → List Spot
 spots_in address object h at =
-    word_if object Text (offset_in at.text h.text_size address) ++ word_if object Data (offset_in at.«data» h.data_size address)
-    ++ bss_if object (offset_in at.bss h.bss_size address)
+    spot_if (λ n. Word object Text n) (offset_in at.text h.text_size address)
+    ++ spot_if (λ n. Word object Data n) (offset_in at.«data» h.data_size address)
+    ++ spot_if (λ n. Bss object n) (offset_in at.bss h.bss_size address)
 
 abbrev pub spots_by : ℕ → ℕ → Header → Option Places → List Spot
 spots_by address object h None = []

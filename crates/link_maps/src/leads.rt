@@ -2,10 +2,10 @@
 ghost use Rattle.std.specs.Prelude.{◌≡◌, ◌++◌, slice_get, IfOk, OnOk};
 ghost use Rattle.aout_core.specs.WellFormed.{kind_of};
 ghost use Rattle.disassemblies.specs.Naming.{is_at};
-ghost use Rattle.link_maps.specs.Leads.{aim_by, aim_of, branch_by, branch_of, instruction_by, is_from_pc, lead_by, leads, leads_of, leads_to};
-ghost use Rattle.link_maps.specs.Leads.{operand_at, operand_target, target_in, text_aim, text_target, unmoved_aim};
+ghost use Rattle.link_maps.specs.Leads.{aim_by, aim_of, branch_by, branch_of, instruction_by, is_from_pc, leads, leads_of, leads_to};
+ghost use Rattle.link_maps.specs.Leads.{operand_at, target_in, text_target, unmoved_aim};
 
-use crate::references::{address_in, line_of, part_words, relocs_of};
+use crate::references::{address_in, line_of};
 use aout_core::{File, Kind, Part, Reloc, Segment, Symbol, pc_target};
 use instructions::{
     Addressing, Instruction, Operand, branch_back_target, branch_target, is_relocated,
@@ -86,17 +86,6 @@ fn is_from_pc(operand: Option<Operand>) -> bool
     }
 }
 
-/// Where the word of an operand at an address leads.
-fn operand_target(operand: Option<Operand>, word: u16, address: u16) -> Option<u16>
-    ensures { result ≡ operand_target operand word address }
-{
-    if is_from_pc(operand) {
-        Some(pc_target(word, address))
-    } else {
-        None
-    }
-}
-
 /// The instruction that the word at a place begins.
 fn instruction_at(words: &[u16], place: usize) -> Option<Instruction>
     ensures { result ≡ instruction_by (slice_get words.now place) }
@@ -112,8 +101,11 @@ fn target_in(instruction: Option<Instruction>, line: u16, address: u16, word: u1
     if line == address {
         return branch_of(address, &instruction);
     }
-    let count = address.saturating_sub(line) / 2;
-    operand_target(operand_at(&instruction, count), word, address)
+    if is_from_pc(operand_at(&instruction, address.saturating_sub(line) / 2)) {
+        Some(pc_target(word, address))
+    } else {
+        None
+    }
 }
 
 /// Where a word of text leads that no link changes, by its line: the target of a branch, or an operand that counts from the pc. (as(1))
@@ -150,12 +142,6 @@ pub(crate) fn linked_target(
     }
 }
 
-fn text_aim(address: Option<u16>) -> Option<Aim>
-    ensures { result ≡ text_aim address }
-{
-    Some(Aim::Addressed(Segment::TextSeg, address?))
-}
-
 /// Where a word leads that no link changes.
 fn unmoved_aim(file: &File, starts: &[bool], part: Part, offset: u16, word: u16) -> Option<Aim>
     ensures { result ≡ unmoved_aim starts.now file.now part offset word }
@@ -163,7 +149,8 @@ fn unmoved_aim(file: &File, starts: &[bool], part: Part, offset: u16, word: u16)
     match part {
         Part::Text => {
             let line = line_of(starts, part, offset);
-            text_aim(text_target(file, line, offset, word))
+            let address = text_target(file, line, offset, word)?;
+            Some(Aim::Addressed(Segment::TextSeg, address))
         }
         Part::Data => None,
     }
@@ -186,21 +173,6 @@ fn aim_of(
     aim_by(reloc, reloc.target(word, address_in(file, part, offset)))
 }
 
-/// Appends a word, if it leads somewhere.
-fn put_lead(
-    found: &mut Vec<Lead>,
-    part: Part,
-    offset: u16,
-    aim: Option<Aim>,
-) -> Result<(), AllocError>
-    ensures { OnOk result (found.new.items ≡ found.old.items ++ lead_by part offset aim) }
-{
-    if let Some(aim) = aim {
-        found.push(Lead { part, offset, aim })?;
-    }
-    Ok(())
-}
-
 /// Appends the words of a part that lead somewhere.
 fn put_leads(
     found: &mut Vec<Lead>,
@@ -212,9 +184,10 @@ fn put_leads(
         (found.new.items ≡ found.old.items ++ leads_of starts.now file.now part) }
 {
     let mut offset = 0u16;
-    for (reloc, word) in relocs_of(file, part).iter().zip(part_words(file, part)) {
-        let aim = aim_of(file, starts, part, offset, *reloc, *word);
-        put_lead(found, part, offset, aim)?;
+    for (reloc, word) in file.relocs_of(part).iter().zip(file.words_of(part)) {
+        if let Some(aim) = aim_of(file, starts, part, offset, *reloc, *word) {
+            found.push(Lead { part, offset, aim })?;
+        }
         offset = offset.wrapping_add(2);
     }
     Ok(())

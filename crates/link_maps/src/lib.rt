@@ -47,6 +47,6 @@ pub use names::{is_any_definition, stays_undefined, telling};
 pub use outcome::{Outcome, largest_number, row_of};
 pub use places::Places;
 pub use records::{ObjectRecord, UseRecord, padded};
-pub use references::{Before, ReferringWord, put_line_of, words_at, words_to};
+pub use references::{ReferringWord, put_line_of, words_at, words_to};
 pub use spots::{Spot, label_before, spots_at, word_at};
 pub use uses::Use;

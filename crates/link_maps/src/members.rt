@@ -39,21 +39,6 @@ pub struct Objects {
     pub refused: Option<Refused>,
 }
 
-/// The object that a session refused, to which nothing is added yet.
-fn refused_with(
-    alloc: Global,
-    cause: AddFault,
-    label: String,
-    object: Object,
-) -> Result<Option<Refused>, AllocError>
-    ensures cause { IfOk result (λ refused. cause_of refused ≡ Some cause) }
-    ensures left { IfOk result (λ refused. left_of refused ≡ labelled label object ∷ []) }
-{
-    let mut left = Vec::new(alloc);
-    left.push(Left { label, object })?;
-    Ok(Some(Refused { cause, left }))
-}
-
 /// Adds an object to a session; if that refuses it, returns why, with the object. An error: out of memory.
 fn add(
     alloc: Global,
@@ -69,18 +54,16 @@ fn add(
     let Err(refused) = session.add(label, object) else {
         return Ok(None);
     };
-    match refused.cause {
-        AddFault::Memory(refused) => Err(AllocError::from(refused)),
-        cause => refused_with(alloc, cause, refused.label, refused.object),
+    let cause = refused.cause;
+    if let AddFault::Memory(refused) = cause {
+        return Err(AllocError::from(refused));
     }
-}
-
-/// Appends an object to those that are left.
-fn put_left(left: &mut Vec<Left>, label: String, object: Object) -> Result<(), AllocError>
-    ensures { OnOk result (left.new.items ≡ left.old.items ++ labelled label object ∷ []) }
-{
-    left.push(Left { label, object })?;
-    Ok(())
+    let mut left = Vec::new(alloc);
+    left.push(Left {
+        label: refused.label,
+        object: refused.object,
+    })?;
+    Ok(Some(Refused { cause, left }))
 }
 
 impl Objects {
@@ -107,7 +90,10 @@ impl Objects {
         ensures forced { self.new.session.forced ≡ self.old.session.forced }
     {
         match &mut self.refused {
-            Some(refused) => put_left(&mut refused.left, label, object),
+            Some(refused) => {
+                refused.left.push(Left { label, object })?;
+                Ok(())
+            }
             None => {
                 self.refused = add(alloc, &mut self.session, label, object)?;
                 Ok(())

@@ -2,12 +2,12 @@
 ghost use Rattle.std.specs.{Prelude.{◌≡◌, ◌++◌, map, IfOk, OnOk}, List.flat_map};
 ghost use Rattle.aout_core.specs.Names.{padded};
 ghost use Rattle.link_session.specs.Labelled.{number_or_none};
-ghost use Rattle.link_maps.specs.Records.{beyond_label, label_shown, object_record, object_records, places_in, records_from, use_kind, use_record, use_records, word_kind, word_record};
+ghost use Rattle.link_maps.specs.Records.{object_record, object_records, places_in, records_from, use_kind, use_record, use_records, word_kind, word_record};
 ghost use Rattle.link_maps.specs.Groups.{groups_of};
 
 use crate::members::Member;
 use crate::places::Places;
-use crate::references::{Before, ReferringWord};
+use crate::references::ReferringWord;
 use crate::uses::Use;
 use aout_core::{Name, Part};
 use std::alloc::{AllocError, Global};
@@ -137,37 +137,23 @@ fn word_kind(part: Part) -> u32
     }
 }
 
-fn label_shown(before: &Option<Before>) -> [u8; 8]
-    ensures { result ≡ label_shown before.now }
-{
-    match before {
-        Some(before) => padded(&before.name),
-        None => [0; 8],
-    }
-}
-
-fn beyond_label(before: &Option<Before>) -> u16
-    ensures { result ≡ beyond_label before.now }
-{
-    match before {
-        Some(before) => before.bytes,
-        None => 0,
-    }
-}
-
 /// A word that refers to a name, in an object whose segments begin there.
 fn word_record(at: &Places, object: usize, number: usize, word: &ReferringWord) -> UseRecord
     ensures { result ≡ word_record at.now object number word.now }
 {
+    let (label, beyond) = match &word.before {
+        Some(before) => (padded(&before.name), before.offset),
+        None => ([0; 8], 0),
+    };
     UseRecord {
         address: at.address(word.part, word.offset),
         object,
         name: number,
-        label: label_shown(&word.before),
+        label,
         kind: word_kind(word.part),
         offset: word.offset,
         line: word.line,
-        beyond: beyond_label(&word.before),
+        beyond,
         is_labelled: u16::from(word.before.is_some()),
     }
 }

@@ -1,29 +1,20 @@
 //! The words of an object that lead to a symbol, each with its line and the label before that.
-ghost use Rattle.std.specs.{Prelude.{◌≡◌, ◌++◌, ◌∷◌, [], IfOk, OnOk}, List.flat_map, List.Sorted.IsSortedBy};
+ghost use Rattle.std.specs.{Prelude.{◌≡◌, ◌++◌, ◌∷◌, [], filter, IfOk, OnOk}, List.flat_map, List.Sorted.IsSortedBy};
 ghost use Rattle.texts.specs.Texts.{Puts};
 ghost use Rattle.disassemblies.specs.Starts.{starts};
 ghost use Rattle.instructions.specs.declared.unix.Decoder.TheVariants.{Unix};
-ghost use Rattle.link_session.specs.Starts.{own};
 ghost use Rattle.link_maps.specs.Leads.{reference_if, references_to};
-ghost use Rattle.link_maps.specs.References.{address_in, before_line, line_of, part_words, reference_at, relocs_of, segment_of_part, text_of_line};
+ghost use Rattle.link_maps.specs.References.{address_in, before_line, is_function, line_of, reference_at, segment_of_part, text_of_line};
 
-use crate::labels::Labels;
+use crate::labels::{Labels, functions_in};
 use crate::leading::Leading;
 use crate::leads::{Lead, leads_in, linked_target};
-use aout_core::{File, Name, Part, Reloc, Segment, Symbol};
+use aout_core::{File, Part, Segment, Symbol};
 use disassemblies::{NamedFile, line_start, line_starts, put_line_text};
-use instructions::Decoder;
+use instructions::{Decoder, Reference};
 use std::alloc::{AllocError, Global};
 use std::marker::Model;
 use texts::Text;
-
-/// The label before a line.
-#[derive(Clone, Copy, Debug)]
-pub struct Before {
-    pub name: Name,
-    /// How many bytes after the label the line begins.
-    pub bytes: u16,
-}
 
 /// A word that leads to a symbol.
 #[derive(Clone, Copy, Debug)]
@@ -33,28 +24,9 @@ pub struct ReferringWord {
     pub offset: u16,
     /// The place at which the line begins that has the word: an instruction or a plain word of text. A word of data is a line.
     pub line: u16,
-    /// The nearest label of the object where the line begins or before it, in the same segment. In text that of a function comes first.
-    pub before: Option<Before>,
-}
-
-/// The relocation words of a part.
-pub(crate) fn relocs_of(file: &File, part: Part) -> &[Reloc]
-    ensures { result.now ≡ relocs_of file.now part }
-{
-    match part {
-        Part::Text => file.text_reloc(),
-        Part::Data => file.data_reloc(),
-    }
-}
-
-/// The words of a part.
-pub(crate) fn part_words(file: &File, part: Part) -> &[u16]
-    ensures { result.now ≡ part_words file.now part }
-{
-    match part {
-        Part::Text => file.text_words(),
-        Part::Data => file.data_words(),
-    }
+    /// The nearest label of the object where the line begins or before it, in the same segment, with the bytes between them. In text that
+    /// of a function comes first.
+    pub before: Option<Reference>,
 }
 
 pub(crate) fn segment_of(part: Part) -> Segment
@@ -66,21 +38,14 @@ pub(crate) fn segment_of(part: Part) -> Segment
     }
 }
 
-/// The address of the first word of a part in its object.
-fn start_of(file: &File, part: Part) -> u16
-    ensures { result ≡ own file.now (segment_of_part part) }
-{
-    match part {
-        Part::Text => 0,
-        Part::Data => file.header().text_size,
-    }
-}
-
 /// The address in its object of what is so many bytes after the first of a part.
 pub(crate) fn address_in(file: &File, part: Part, offset: u16) -> u16
     ensures { result ≡ address_in file.now part offset }
 {
-    offset.wrapping_add(start_of(file, part))
+    match part {
+        Part::Text => offset,
+        Part::Data => offset.wrapping_add(file.header().text_size),
+    }
 }
 
 /// The place at which the line begins that has a word, both in bytes.
@@ -131,13 +96,18 @@ impl<'a> Model for LinedFile<'a> {
 
     ghost view = { λ l. l.file.now };
 
-    ghost invariant = { λ l. (l.line_starts.items ≡ starts Unix l.file.now) × (l.labels.symbols.now ≡ l.file.now.symbols)
+    ghost invariant = { λ l. (l.line_starts.items ≡ starts Unix l.file.now) × (l.labels.names.symbols.now ≡ l.file.now.symbols)
         × (l.leading.all.items ≡ leads (starts Unix l.file.now) l.file.now) };
 }
 
 impl<'a> LinedFile<'a> {
-    /// An object, after its lines are found and its labels sorted. An error: out of memory.
-    pub(crate) fn new(alloc: Global, file: &'a File) -> Result<LinedFile<'a>, AllocError>
+    /// An object with its functions, after its lines are found and its labels sorted. An error: out of memory.
+    pub(crate) fn new(
+        alloc: Global,
+        file: &'a File,
+        functions: &'a [Symbol],
+    ) -> Result<LinedFile<'a>, AllocError>
+        requires { functions.now ≡ filter is_function file.now.symbols }
         ensures { IfOk result (λ l. l ≡ file.now) }
     {
         let starts = line_starts(alloc, Decoder::Unix, file)?;
@@ -145,13 +115,13 @@ impl<'a> LinedFile<'a> {
         Ok(LinedFile {
             file,
             line_starts: starts,
-            labels: Labels::new(alloc, file.symbols())?,
+            labels: Labels::new(alloc, file.symbols(), functions)?,
             leading,
         })
     }
 
     /// The label before what is so many bytes after the first of a part.
-    fn before(&self, part: Part, offset: u16) -> Option<Before>
+    fn before(&self, part: Part, offset: u16) -> Option<Reference>
         ensures { result ≡ before_line self.now part offset }
     {
         self.labels
@@ -235,10 +205,11 @@ pub fn words_to(
     file: &File,
     number: usize,
 ) -> Result<Vec<ReferringWord>, AllocError> {
-    match file.symbols().get(number) {
-        Some(symbol) => LinedFile::new(alloc, file)?.references_to(alloc, number, symbol),
-        None => Ok(Vec::new(alloc)),
-    }
+    let Some(symbol) = file.symbols().get(number) else {
+        return Ok(Vec::new(alloc));
+    };
+    let functions = functions_in(alloc, file.symbols())?;
+    LinedFile::new(alloc, file, &functions)?.references_to(alloc, number, symbol)
 }
 
 /// The words of a linked file that lead to an address of a segment, as far as its text shows: branches, and operands of modes 37, 67 and 77.
@@ -258,7 +229,8 @@ pub fn words_at(
         return Ok(found);
     }
     let starts = line_starts(alloc, Decoder::Unix, file)?;
-    let labels = Labels::new(alloc, file.symbols())?;
+    let functions = functions_in(alloc, file.symbols())?;
+    let labels = Labels::new(alloc, file.symbols(), &functions)?;
     let mut offset = 0u16;
     for word in file.text_words() {
         let line = line_of(&starts, Part::Text, offset);

@@ -3,16 +3,16 @@ ghost use Rattle.std.specs.Prelude.{◌≡◌, ◌++◌, slice_get, IfOk, OnOk};
 ghost use Rattle.disassemblies.specs.Starts.{starts};
 ghost use Rattle.instructions.specs.declared.unix.Decoder.TheVariants.{Unix};
 ghost use Rattle.link_maps.specs.References.{label_before, reference_at};
-ghost use Rattle.link_maps.specs.Spots.{bss_if, commons_at, offset_in, spots_at, spots_by, spots_from, spots_in, word_if};
+ghost use Rattle.link_maps.specs.Spots.{commons_at, offset_in, spots_at, spots_by, spots_from, spots_in};
 
-use crate::labels::Labels;
+use crate::labels::{Labels, functions_in};
 use crate::map::{LinkMap, bases_of};
 use crate::members::Member;
 use crate::places::Places;
-use crate::references::{Before, ReferringWord, address_in, line_of, segment_of};
+use crate::references::{ReferringWord, address_in, line_of, segment_of};
 use aout_core::{File, Header, Part, Segment, Symbol};
 use disassemblies::line_starts;
-use instructions::Decoder;
+use instructions::{Decoder, Reference};
 use link_out::Bases;
 use std::alloc::{AllocError, Global};
 
@@ -45,35 +45,6 @@ fn offset_in(start: u64, size: u16, address: u64) -> Option<u16>
     }
 }
 
-/// Appends a word of an object, if there is one.
-fn put_word(
-    spots: &mut Vec<Spot>,
-    object: usize,
-    part: Part,
-    offset: Option<u16>,
-) -> Result<(), AllocError>
-    ensures { OnOk result (spots.new.items ≡ spots.old.items ++ word_if object part offset) }
-{
-    if let Some(offset) = offset {
-        spots.push(Spot::Word {
-            object,
-            part,
-            offset,
-        })?;
-    }
-    Ok(())
-}
-
-/// Appends a byte of an object's bss, if there is one.
-fn put_bss(spots: &mut Vec<Spot>, object: usize, offset: Option<u16>) -> Result<(), AllocError>
-    ensures { OnOk result (spots.new.items ≡ spots.old.items ++ bss_if object offset) }
-{
-    if let Some(offset) = offset {
-        spots.push(Spot::Bss { object, offset })?;
-    }
-    Ok(())
-}
-
 /// Appends what an object has at an address.
 fn put_in(
     spots: &mut Vec<Spot>,
@@ -85,11 +56,24 @@ fn put_in(
     ensures { OnOk result
         (spots.new.items ≡ spots.old.items ++ spots_in address object header.now at.now) }
 {
-    let text = offset_in(at.text, header.text_size, address);
-    let in_data = offset_in(at.data, header.data_size, address);
-    put_word(spots, object, Part::Text, text)?;
-    put_word(spots, object, Part::Data, in_data)?;
-    put_bss(spots, object, offset_in(at.bss, header.bss_size, address))
+    if let Some(offset) = offset_in(at.text, header.text_size, address) {
+        spots.push(Spot::Word {
+            object,
+            part: Part::Text,
+            offset,
+        })?;
+    }
+    if let Some(offset) = offset_in(at.data, header.data_size, address) {
+        spots.push(Spot::Word {
+            object,
+            part: Part::Data,
+            offset,
+        })?;
+    }
+    if let Some(offset) = offset_in(at.bss, header.bss_size, address) {
+        spots.push(Spot::Bss { object, offset })?;
+    }
+    Ok(())
 }
 
 /// Appends what an object has at an address, if it has places.
@@ -159,10 +143,11 @@ pub fn label_before(
     symbols: &[Symbol],
     segment: Segment,
     address: u16,
-) -> Result<Option<Before>, AllocError>
+) -> Result<Option<Reference>, AllocError>
     ensures { IfOk result (λ label. label ≡ label_before symbols.now segment address) }
 {
-    let labels = Labels::new(alloc, symbols)?;
+    let functions = functions_in(alloc, symbols)?;
+    let labels = Labels::new(alloc, symbols, &functions)?;
     Ok(labels.before(segment, address))
 }
 

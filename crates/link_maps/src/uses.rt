@@ -5,6 +5,7 @@ ghost use Rattle.instructions.specs.declared.unix.Decoder.TheVariants.{Unix};
 ghost use Rattle.symtools.specs.NmLists.{in_order};
 ghost use Rattle.link_maps.specs.Uses.{forced_use, is_before, use_by, uses_in};
 
+use crate::labels::functions_in;
 use crate::references::{LinedFile, ReferringWord};
 use aout_core::{File, Name, Symbol};
 use std::alloc::{AllocError, Global};
@@ -92,7 +93,8 @@ pub(crate) fn put_uses(
 ) -> Result<(), AllocError>
     ensures { OnOk result (uses.new.items ≡ uses.old.items ++ uses_in object file.now) }
 {
-    let lined = LinedFile::new(alloc, file)?;
+    let functions = functions_in(alloc, file.symbols())?;
+    let lined = LinedFile::new(alloc, file, &functions)?;
     for (number, symbol) in file.symbols().iter().enumerate() {
         put_use(alloc, uses, object, &lined, number, symbol)?;
     }

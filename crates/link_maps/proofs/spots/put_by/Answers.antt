@@ -1,4 +1,4 @@
-use Rattle.std.proofs.{Common.{rules, ◌≡◌, ◌≤◌, length, refl}, lemmas.Option.slice_get_past}
+use Rattle.std.proofs.{Common.{rules, ◌≤◌, length, refl}, lemmas.Option.slice_get_past}
 use Rattle.link_maps.proofs.SpotLemmas.{none_at}
 use Rattle.link_maps.proofs.spots.put_by.Goals as goal
 
