@@ -1,14 +1,15 @@
 -- Files that are explained one after another, from what comes of those that are left.
-use Rattle.std.proofs.Common.{◌≡◌, ◌≢◌, ℕ, suc, ◌<◌, ◌+◌, true, false, Option, Some, None, List, [], ◌∷◌, length, map, drop, get_or, drop-cons}
-use Rattle.std.proofs.Common.{string_bytes, refl, sym, ap, ◌∙◌, subst, inl, inr, arith}
+use Rattle.std.proofs.Common.{◌≡◌, ◌≢◌, ℕ, ◌<◌, ◌+◌, true, false, Option, Some, None, List, [], ◌∷◌, length, map, drop, get_or}
+use Rattle.std.proofs.Common.{string_bytes, refl, sym, ap, ◌∙◌, subst, inl, inr}
+use Rattle.std.proofs.lemmas.List.{drop_more}
 use Rattle.std.specs.{Prelude.Result, Prelude.Ok, Prelude.Err, Prelude.String, declared.alloc.Global.Global}
-use Rattle.aout_core.specs.Refusals.{refused}
+use Rattle.aout_core.specs.{Decoding.decode, Refusals.refused}
 use Rattle.surroundings.specs.{Answer.Answer, Answers.Ends, Answers.Stops, Events.History, Programs.either, declared.answer.Fault.Fault}
 use Rattle.surroundings.specs.Sources.{EndsReading}
 use Rattle.surroundings.specs.declared.answer.Fault.TheVariants as faults
 use Rattle.explanations.specs.declared.file_kind.FileKind.{FileKind}
-use Rattle.v7_explain.specs.{Files.{IsRow, IsUnnamed}, Joined.{GivesOr, joined, nothing_said}, Walks.{Folders, Found, kind_in, path_found}}
-use Rattle.v7_explain.specs.Runs.{Explains, ExplainsFound, ExplainsNamed, IsExplaining, IsKind, IsSaid, ReadsFor}
+use Rattle.v7_explain.specs.{Files.{GivesOr, IsRow, IsSaid, IsUnnamed, joined, nothing_said}, Walks.{Folders, Found, kind_in, path_found}}
+use Rattle.v7_explain.specs.Runs.{Explains, ExplainsFound, ExplainsNamed, IsExplaining, IsKind, ReadsFor}
 use Rattle.v7_explain.specs.{declared.explaining.Mode.TheVariants.{Listing, Show, Check, Inventory}, declared.explaining.Mode.Mode}
 
 -- ---- one file
@@ -21,7 +22,7 @@ module _ (mode : Mode) (old new : History) (path : List ℕ) where
   -- it is read, and there is no memory for what is said of it
   pub explains_out : (bytes : List ℕ) (result : Result Answer Fault) → ReadsFor mode old new path bytes →
       result ≡ Err (faults.Memory refused) → Explains mode old new path result
-  explains_out bytes result reads memory = inl (bytes, reads, gives_out (IsSaid mode bytes) result memory)
+  explains_out bytes result reads memory = inl (bytes, reads, gives_out (IsSaid mode bytes (decode bytes)) result memory)
 
   -- it is not read, and there is no memory for its line
   pub explains_unread : (fault : Fault) → EndsReading old new path fault → Explains mode old new path (Err (faults.Memory refused))
@@ -42,7 +43,7 @@ kind_asked folders mode path kind is asked = subst (λ (m : Mode). IsKind folder
 
 -- nothing else does
 pub no_kind : (folders : Option Folders) (mode : Mode) (path : List ℕ) → mode ≢ Inventory → IsKind folders mode path None
-no_kind folders Listing path other = refl
+no_kind folders (Listing is_reported) path other = refl
 no_kind folders (Show view) path other = refl
 no_kind folders (Check e) path other = refl
 no_kind folders Inventory path other = absurd (other refl)
@@ -107,14 +108,14 @@ all_explained folders mode old new paths result h =
 
 -- what is left of a list
 pub one_left : {A : Type 0} → (all : List A) (i : ℕ) (x : A) → i < length all → x ≡ get_or all i x → drop i all ≡ x ∷ drop (i + 1) all
-one_left {A = A} all i x within at =
-    let next : suc i ≡ i + 1 = omega arith in
-    drop-cons all i x within ∙ ap (λ (y : A). y ∷ drop (suc i) all) (sym at) ∙ ap (λ (k : ℕ). x ∷ drop k all) next
+one_left {A = A} all i x within at = drop_more all i x within ∙ ap (λ (y : A). y ∷ drop (i + 1) all) (sym at)
 
 -- the paths that are left
-pub paths_left : (all : List (String Global)) (i : ℕ) (path : String Global) → i < length all → path ≡ get_or all i path →
-    map string_bytes (drop i all) ≡ string_bytes path ∷ map string_bytes (drop (i + 1) all)
-paths_left all i path within at = ap (λ (l : List (String Global)). map string_bytes l) (one_left all i path within at)
+pub paths_left : (all : List (String Global)) (i : ℕ) (item : String Global) (path : List ℕ) → i < length all → item ≡ get_or all i item →
+    path ≡ string_bytes item → map string_bytes (drop i all) ≡ path ∷ map string_bytes (drop (i + 1) all)
+paths_left all i item path within at is =
+    ap (λ (l : List (String Global)). map string_bytes l) (one_left all i item within at)
+    ∙ ap (λ (p : List ℕ). p ∷ map string_bytes (drop (i + 1) all)) (sym is)
 
 -- what comes of the files that are left comes of all
 abbrev pub GoesOn : Option Folders → Mode → History → History → Answer → List Found → List Found → Type 0
@@ -122,29 +123,24 @@ GoesOn folders mode old mid said left all =
     (new : History) → (result : Result Answer Fault) → IsExplaining folders mode mid new said left result →
     IsExplaining folders mode old new nothing_said all result
 
--- there is no answer to one
-pub explaining_ends : (folders : Option Folders) (mode : Mode) (old mid new : History) (said : Answer) (left later all : List Found) (found : Found)
-    (fault : Fault) →
-    GoesOn folders mode old mid said left all → left ≡ found ∷ later → ExplainsFound folders mode mid new found (Err fault) →
-    IsExplaining folders mode old new nothing_said all (Err fault)
-explaining_ends folders mode old mid new said left later all found fault inv e explains =
-    inv new (Err fault) (subst (λ l. IsExplaining folders mode mid new said l (Err fault)) (sym e)
-    (Err fault, new, explains, (refl, refl)))
+module _ (folders : Option Folders) (mode : Mode) (old mid new : History) (said : Answer) (left later all : List Found) (found : Found) where
+  -- there is no answer to one
+  pub explaining_ends : (fault : Fault) → GoesOn folders mode old mid said left all → left ≡ found ∷ later →
+      ExplainsFound folders mode mid new found (Err fault) → IsExplaining folders mode old new nothing_said all (Err fault)
+  explaining_ends fault inv e explains =
+      inv new (Err fault) (subst (λ l. IsExplaining folders mode mid new said l (Err fault)) (sym e)
+      (Err fault, new, explains, (refl, refl)))
 
--- one is explained, and there is no memory to add that
-pub explaining_stops : (folders : Option Folders) (mode : Mode) (old mid new : History) (said more : Answer)
-    (left later all : List Found) (found : Found) →
-    GoesOn folders mode old mid said left all → left ≡ found ∷ later → ExplainsFound folders mode mid new found (Ok more) →
-    IsExplaining folders mode old new nothing_said all (Err (faults.Memory refused))
-explaining_stops folders mode old mid new said more left later all found inv e explains =
-    inv new (Err (faults.Memory refused)) (subst (λ l. IsExplaining folders mode mid new said l (Err (faults.Memory refused))) (sym e)
-    (Ok more, new, explains, inl (refl, refl)))
+  -- one is explained, and there is no memory to add that
+  pub explaining_stops : (more : Answer) (result : Result Answer Fault) → GoesOn folders mode old mid said left all → left ≡ found ∷ later →
+      ExplainsFound folders mode mid new found (Ok more) → result ≡ Err (faults.Memory refused) →
+      IsExplaining folders mode old new nothing_said all result
+  explaining_stops more result inv e explains memory =
+      inv new result (subst (λ l. IsExplaining folders mode mid new said l result) (sym e) (Ok more, new, explains, inl (refl, memory)))
 
--- one is explained, and that is added
-pub explaining_more : (folders : Option Folders) (mode : Mode) (old mid next : History) (said more longer : Answer)
-    (left later all : List Found) (found : Found) →
-    GoesOn folders mode old mid said left all → left ≡ found ∷ later → ExplainsFound folders mode mid next found (Ok more) →
-    longer ≡ joined said more → GoesOn folders mode old next longer later all
-explaining_more folders mode old mid next said more longer left later all found inv e explains is new result h =
-    inv new result (subst (λ l. IsExplaining folders mode mid new said l result) (sym e)
-    (Ok more, next, explains, inr (subst (λ a. IsExplaining folders mode next new a later result) is h)))
+  -- one is explained, and that is added
+  pub explaining_more : (more longer : Answer) → GoesOn folders mode old mid said left all → left ≡ found ∷ later →
+      ExplainsFound folders mode mid new found (Ok more) → longer ≡ joined said more → GoesOn folders mode old new longer later all
+  explaining_more more longer inv e explains is last result h =
+      inv last result (subst (λ l. IsExplaining folders mode mid last said l result) (sym e)
+      (Ok more, new, explains, inr (subst (λ a. IsExplaining folders mode new last a later result) is h)))

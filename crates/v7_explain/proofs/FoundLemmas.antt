@@ -4,9 +4,9 @@ use Rattle.std.proofs.lemmas.Result.{IfOk-weaker}
 use Rattle.std.specs.{Prelude.if◌then◌else◌, List.list_any}
 use Rattle.aout_core.specs.{Contents.Contents, declared.object.ObjectFault.ObjectFault}
 use Rattle.surroundings.specs.{Answer.Answer, Answers.only_errors}
-use Rattle.suspicions.specs.{Suspicions.all_odd, declared.evidence.Evidence.Evidence}
+use Rattle.checks.specs.{Suspicions.all_odd, declared.evidence.Evidence.Evidence}
 use Rattle.v7_explain.specs.Files.{IsOdd, status_of}
-use Rattle.findings.specs.{Found.Found, Found.all_found, Wrong.is_damaged, Wrong.wrong_in, Wrong.wrong_words, declared.finding.Finding.Finding}
+use Rattle.checks.specs.{Found.Found, Found.all_found, Wrong.is_damaged, Wrong.wrong_in, Wrong.wrong_words, declared.finding.Finding.Finding}
 
 pub sure_found : (fs : List Finding) → list_any (λ f. f.is_sure) fs ≡ list_any (λ f. f.is_sure) (all_found fs)
 sure_found [] = refl

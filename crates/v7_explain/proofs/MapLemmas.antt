@@ -7,7 +7,7 @@ use Rattle.command_words.specs.Calls.{AsksForNone, IsAsked, IsWhole, dashes_in, 
 use Rattle.command_words.specs.declared.words.Call.TheVariants.{Ld, Nm, Session, Size, Strip}
 use Rattle.command_words.specs.{declared.fault.WordsFault.TheVariants.Usage, declared.words.Call.Call}
 use Rattle.link_maps.specs.{Links.{ShowsLink, link_shown, path_at, read_inputs}, Taking.{split, split_of, with_object}, Members.all_of}
-use Rattle.link_maps.specs.{Rows.linked_by, declared.map.LinkMap.LinkMap, declared.members.Objects.Objects}
+use Rattle.link_maps.specs.{Rows.{linked_by, linked_in}, declared.members.Objects.Objects}
 use Rattle.link_maps.specs.{declared.members.Refused.Refused, declared.outcome.Outcome.Outcome as Made}
 use Rattle.link_maps.proofs.{LinkLemmas.shows_link, TakingLemmas.none_split, TakingLemmas.split_more}
 use Rattle.link_out.specs.Inputs.{Cause, Refusal, at_path, linked, not_added, of_input}
@@ -18,7 +18,7 @@ use Rattle.surroundings.specs.declared.answer.Fault.TheVariants as faults
 use Rattle.tool_options.specs.Choices.{Choices}
 use Rattle.v7_explain.specs.Maps.{AreTaken, HaveObjects, IsMap, IsMapCall, IsMapping, IsTaking, MapsCall, link_words, nothing_taken}
 use Rattle.v7_explain.specs.Maps.{status_asked, status_linked}
-use Rattle.v7_explain.specs.internal.Takes.{IsMapAnswer, KeepsSplit, TakesAll, status_made, status_mapped}
+use Rattle.v7_explain.specs.internal.Takes.{IsMapAnswer, KeepsSplit, TakesAll, status_made}
 use Rattle.v7_explain.proofs.TakingLemmas.{taking_memory}
 
 -- ---- objects that a session takes, up to a limit
@@ -47,7 +47,7 @@ status_shown (Err fault) = refl
 -- as the code has it
 mapped_status : (link : Result Outcome Refusal) (refused : Option Refused) (made : Option Made) (path : List ℕ) →
     is_some made ≡ not (is_some refused) → IfSome refused (λ r. link ≡ Err (of_input path (not_added r.cause))) →
-    IfSome made (λ o. link ≡ link_shown o.linked) → status_mapped made ≡ status_linked link
+    IfSome made (λ o. link ≡ link_shown o.linked) → status_made (linked_in made) ≡ status_linked link
 mapped_status link None None path h is shown = absurd (cc)
 mapped_status link (Some r) None path h is shown = ap status_linked (sym is)
 mapped_status link left (Some o) path h is shown = status_shown o.linked ∙ ap status_linked (sym shown)
@@ -106,7 +106,7 @@ maps_all asked forced choices inputs n a taken (m, map, same) =
     let read : read_inputs inputs ≡ Ok (objects (all_of n)) = read_of inputs (all_of n) taken.objects in
     let shows : ShowsLink forced choices inputs n m.outcome =
     shows_link forced choices inputs n m.outcome read taken.forced_names taken.taken map.made map.outcome in
-    let status : status_mapped m.outcome ≡ status_linked (linked forced inputs choices) =
+    let status : status_made (linked_in m.outcome) ≡ status_linked (linked forced inputs choices) =
     mapped_status (linked forced inputs choices) n.refused m.outcome (path_at inputs (length n.session.entries)) map.made shows.refused
     shows.made in
     inr (

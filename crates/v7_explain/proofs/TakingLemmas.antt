@@ -1,14 +1,14 @@
 -- Objects that are taken one after another: which there are then, and what comes of the files that are left.
 use Rattle.std.proofs.{Common.{◌≡◌, ℕ, List, [], ◌∷◌, ◌++◌, refl, sym, ap, ◌∙◌, subst, inl, inr}, lemmas.Bool.false≢true}
 use Rattle.std.specs.Prelude.{IsOk, Result, Ok, Err, OnOk, is_err}
-use Rattle.aout_core.specs.{Contents.Contents, Decoding.decode, Refusals.refused, declared.refused.Refused.Refused}
+use Rattle.aout_core.specs.{Contents.Contents, Decoding.decode, Refusals.refused}
 use Rattle.link_out.specs.Inputs.{Cause, object_in}
 use Rattle.link_session.specs.Labelled.{Labelled}
 use Rattle.surroundings.specs.Sources.{EndsReading, ReadsAt}
 use Rattle.surroundings.specs.{Answer.Answer, Answers.Ends, Answers.Stops, Answers.only_errors, Events.History, declared.answer.Fault.Fault}
 use Rattle.surroundings.specs.declared.answer.Fault.TheVariants as faults
 use Rattle.v7_explain.specs.Maps.{HaveObjects, IsInput, IsTaking, Taken, nothing_taken, with_found}
-use Rattle.v7_explain.specs.{internal.Takes.{AddsOrSays, Holds, TakesAll, TakesNext, TakesOne}, Joined.{joined, nothing_said}}
+use Rattle.v7_explain.specs.{internal.Takes.{AddsOrSays, Holds, TakesAll, TakesNext, TakesOne}, Files.{joined, nothing_said}}
 
 -- ---- one after another
 
@@ -51,10 +51,6 @@ taking_memory old new taken (path ∷ paths) fault (found, between, takes, inr h
 
 -- ---- one file
 
--- memory that ran out
-out_of_memory : (r : Refused) (result : Result (Unit {0}) Fault) → result ≡ Err (faults.Memory r) → result ≡ Err (faults.Memory refused)
-out_of_memory r result is = is
-
 -- some answer
 an_answer : (status : ℕ) → Ends status (only_errors [] status)
 an_answer status = record { no_output = refl; has_status = refl }
@@ -65,7 +61,7 @@ pub takes_unread : (old new : History) (path : List ℕ) (objects : List Labelle
 takes_unread old new path objects (faults.Answered answer) result (none, (told, ends)) is =
     (Err answer, inr (none, (answer, ends, refl)), inl (is, refl))
 takes_unread old new path objects (faults.Memory r) result (none, stops) is =
-    (Err (only_errors [] 2), inr (none, (only_errors [] 2, an_answer 2, refl)), inr (out_of_memory r result is))
+    (Err (only_errors [] 2), inr (none, (only_errors [] 2, an_answer 2, refl)), inr is)
 
 -- what comes of some bytes
 input_by : (bytes : List ℕ) (found : Result Contents Cause) → (input : Result (List ℕ) Answer) × IsInput bytes found input
@@ -82,7 +78,7 @@ takes_none_by : (old new : History) (path bytes : List ℕ) (objects : List Labe
     (read : Result Contents Cause) → object_in (decode bytes) ≡ read → ReadsAt old new path bytes → Stops (is_err read) 1 fault →
     result ≡ Err fault → TakesOne old new path objects objects result
 takes_none_by old new path bytes objects (faults.Memory r) result read e reads stops is =
-    takes_out old new path bytes objects objects result reads (out_of_memory r result is)
+    takes_out old new path bytes objects objects result reads is
 takes_none_by old new path bytes objects (faults.Answered answer) result (Ok o) e reads stops is = absurd (false≢true stops.0)
 takes_none_by old new path bytes objects (faults.Answered answer) result (Err cause) e reads stops is = (
   Err answer,

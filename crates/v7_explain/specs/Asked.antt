@@ -12,13 +12,10 @@ abbrev pub has_some : {A : Type 0} → List A → Bool
 has_some [] = false
 has_some (x ∷ xs) = true
 
-abbrev pub is_digit : ℕ → Bool
-is_digit b = nat_le 48 b && nat_lt b 56
-
 -- the number of octal digits after those of a sum; no address has more than 33 bits
 abbrev pub octal_from : ℕ → List ℕ → Option ℕ
 octal_from sum [] = Some sum
-octal_from sum (b ∷ bs) = if is_digit b && nat_lt sum 0o10000000000 then octal_from (8 * sum + (b - 48)) bs else None
+octal_from sum (b ∷ bs) = if (nat_le 48 b && nat_lt b 56) && nat_lt sum 0o10000000000 then octal_from (8 * sum + (b - 48)) bs else None
 
 abbrev pub octal_number : List ℕ → Option ℕ
 octal_number [] = None

@@ -2,15 +2,15 @@
 --
 -- Options and paths may be in any order, but for -m, which is the first argument: those after it are of a map. With no option the files
 -- at these paths are listed.
-use Rattle.std.specs.Prelude.{ℕ, Bool, ◌&&◌, not, if◌then◌else◌, bytes_eq, codes, List, [], ◌∷◌, ◌++◌, Option, Some, None, Result, Ok, Err}
+use Rattle.std.specs.Prelude.{ℕ, Bool, false, ◌&&◌, not, if◌then◌else◌, bytes_eq, codes, List, [], ◌∷◌, ◌++◌, Option, Some, None, Result, Ok, Err}
 use Rattle.std.specs.Option.{option_or}
 use Rattle.aout_core.specs.{Words.letter_of}
 use Rattle.instructions.specs.declared.unix.Decoder.TheVariants.{Pdp11, Unix}
 use Rattle.surroundings.specs.{Arguments.{Given, excluded_in, given_in, has_letter, if_given, value_of}, declared.reasons.Reason.Reason}
 use Rattle.surroundings.specs.declared.reasons.Reason.TheVariants.{Needs, NoFile, NoValue, NotFirst, NotOneFile}
-use Rattle.suspicions.specs.declared.evidence.Evidence.TheVariants.{Flow, Promise}
+use Rattle.checks.specs.declared.evidence.Evidence.TheVariants.{Flow, Promise}
 use Rattle.v7_explain.specs.{declared.explaining.Mode.TheVariants.{Listing, Show, Check, Inventory}, declared.explaining.Mode.Mode}
-use Rattle.v7_explain.specs.{declared.views.View.View, declared.views.View.TheVariants.{Instructions, Rows}}
+use Rattle.v7_explain.specs.{declared.listing.View.TheVariants.{Instructions, Rows}}
 
 -- to explain files, or those in folders, to store the listing of a file, to ask a file for a name or an address, or the map that the arguments
 -- after -m ask for
@@ -24,58 +24,30 @@ pub data Call : Type 0 where
 abbrev pub has : Given → List ℕ → Bool
 has given letter = has_letter given.letters (letter_of letter)
 
--- there is a path
-abbrev pub explaining : Mode → List (List ℕ) → Result Call Reason
-explaining mode [] = Err NoFile
-explaining mode (path ∷ paths) = Ok (explain mode (path ∷ paths))
+-- how files are explained: with -t all of a text is instructions
+abbrev pub mode_in : Given → Mode
+mode_in given =
+    if has given (codes "c") && has given (codes "t") then Check Promise
+    else (if has given (codes "c") then Check Flow
+    else (if has given (codes "l") then Inventory
+    else (if has given (codes "d") then Show (Instructions Unix)
+    else (if has given (codes "p") then Show (Instructions Pdp11)
+    else (if has given (codes "s") then Show Rows else Listing false)))))
 
-abbrev pub walking : List (List ℕ) → Result Call Reason
-walking [] = Err NoFile
-walking (path ∷ paths) = Ok (walk (path ∷ paths))
-
--- of one file
-abbrev pub storing : List ℕ → List (List ℕ) → Result Call Reason
-storing to (path ∷ []) = Ok (store to path)
-storing to _ = Err (NotOneFile (letter_of (codes "o")))
-
--- how files are shown that are not listed
-abbrev pub view_in : Given → Option View
-view_in given =
-    if has given (codes "d") then Some (Instructions Unix)
-    else (if has given (codes "p") then Some (Instructions Pdp11) else (if has given (codes "s") then Some Rows else None))
-
--- with -o the listing of a file is stored at its value
-abbrev pub listing_at : Given → Option (List ℕ) → Result Call Reason
-listing_at given None = explaining Listing given.paths
-listing_at given (Some to) = storing to given.paths
-
-abbrev pub listing_as : Given → Option View → Result Call Reason
-listing_as given (Some view) = explaining (Show view) given.paths
-listing_as given None = listing_at given (value_of given (letter_of (codes "o")))
-
-abbrev pub listing_by : Given → Result Call Reason
-listing_by given = listing_as given (view_in given)
-
--- with -y one file is asked for its value
-abbrev pub asking : List ℕ → List (List ℕ) → Result Call Reason
-asking what (path ∷ []) = Ok (ask what path)
-asking what _ = Err (NotOneFile (letter_of (codes "y")))
-
-abbrev pub asking_or : Given → Option (List ℕ) → Result Call Reason
-asking_or given (Some what) = asking what given.paths
-asking_or given None = listing_by given
-
--- the options ask for this, if none excludes another: with -t all of a text is instructions, and -R goes into folders
-abbrev pub asked_by : Given → Result Call Reason
-asked_by given =
-    if has given (codes "c") then
-    (if has given (codes "t") then explaining (Check Promise) given.paths else explaining (Check Flow) given.paths)
-    else (if has given (codes "R") then walking given.paths
-    else (if has given (codes "l") then explaining Inventory given.paths else asking_or given (value_of given (letter_of (codes "y")))))
+-- the options ask for this, if none excludes another, with the values of -y and -o, and paths: -R goes into folders
+abbrev pub asked_by : Given → Option (List ℕ) → Option (List ℕ) → List (List ℕ) → Result Call Reason
+asked_by given (Some what) to (path ∷ []) = Ok (ask what path)
+asked_by given (Some what) to _ = Err (NotOneFile (letter_of (codes "y")))
+asked_by given None (Some to) (path ∷ []) = Ok (store to path)
+asked_by given None (Some to) _ = Err (NotOneFile (letter_of (codes "o")))
+asked_by given None None [] = Err NoFile
+asked_by given None None (path ∷ paths) =
+    Ok (if has given (codes "R") then walk (path ∷ paths) else explain (mode_in given) (path ∷ paths))
 
 abbrev pub call_unless : Option Reason → Given → Result Call Reason
 call_unless (Some reason) given = Err reason
-call_unless None given = asked_by given
+call_unless None given =
+    asked_by given (value_of given (letter_of (codes "y"))) (value_of given (letter_of (codes "o"))) given.paths
 
 -- only one may be given of the letters that ask for something, but for -d and -y
 abbrev pub call_of : Given → Result Call Reason

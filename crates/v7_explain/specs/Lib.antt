@@ -1,9 +1,7 @@
 pub mod Asked
 pub mod Files
-pub mod Joined
 pub mod Maps
 pub mod Calls
-pub mod Questions
 pub mod Runs
 pub mod Walks
 pub mod internal

@@ -10,7 +10,7 @@ use Rattle.link_maps.specs.{Links.ShowsLink, Maps.IsMapOf, Members.all_of, Takin
 use Rattle.link_maps.specs.{declared.map.LinkMap.LinkMap, declared.members.Objects.Objects}
 use Rattle.link_out.specs.{Inputs.{Cause, Refusal, linked, object_in}, function.Link.Outcome, function.Reports.status_of}
 use Rattle.link_session.specs.Labelled.{Labelled}
-use Rattle.v7_explain.specs.{Asked.has_absent, Joined.{joined, nothing_said}}
+use Rattle.v7_explain.specs.{Asked.has_absent, Files.{joined, nothing_said}}
 use Rattle.surroundings.specs.{Answer.Answer, Answers.Ends, Answers.EndsOr, Events.History, Programs.either}
 use Rattle.surroundings.specs.{Sources.ReadsAt, Sources.ReadsNone, declared.answer.Fault.Fault}
 use Rattle.surroundings.specs.declared.answer.Fault.TheVariants as faults

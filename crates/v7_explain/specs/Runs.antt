@@ -2,26 +2,19 @@
 --
 -- Each file is read whole and explained before the next one is opened. The answer has what is shown of each, in order, and the largest
 -- status. If memory runs out, that is the answer, and nothing was stored.
-use Rattle.std.specs.Prelude.{◌≡◌, ◌⊎◌, ℕ, true, false, eqb, List, [], ◌∷◌, map, Option, Some, None, Result, Ok, Err}
-use Rattle.aout_core.specs.Refusals.{refused}
+use Rattle.std.specs.Prelude.{◌≡◌, ◌⊎◌, ℕ, true, eqb, List, [], ◌∷◌, map, Option, Some, None, Result, Ok, Err}
+use Rattle.aout_core.specs.{Decoding.decode, Refusals.refused}
 use Rattle.explanations.specs.declared.file_kind.FileKind.{FileKind}
 use Rattle.surroundings.specs.{Answers.{AnswersOr, EndsOr, IsPerformed, only_errors}, Events.{History, Surroundings, written}}
-use Rattle.surroundings.specs.Programs.{AnswersGiven, CallsOr, Reads, Step, Stores, Then, either}
+use Rattle.surroundings.specs.Programs.{AnswersGiven, CallsOr, Quietly, Reads, Step, Stores, Then, either}
 use Rattle.surroundings.specs.{Sources.{ReadsAt, ReadsFront, ReadsNone}, Answer.Answer, Nodes.ChecksOutput, declared.answer.Fault.Fault}
 use Rattle.surroundings.specs.declared.answer.Fault.TheVariants as faults
-use Rattle.v7_explain.specs.{Calls.{Call, ask, asked_in, explain, map_link, mapping, store, walk}, Questions.AnswersAt}
-use Rattle.v7_explain.specs.{Files.{IsChecked, IsListed, IsRow, IsUnnamed, IsViewed}, Joined.{GivesOr, joined, nothing_said}}
-use Rattle.v7_explain.specs.declared.explaining.Mode.TheVariants.{Listing, Show, Check, Inventory}
-use Rattle.v7_explain.specs.{Walks.{AreWalked, Folders, Found, kind_in, path_found}, Maps.IsMapCall, declared.explaining.Mode.Mode}
+use Rattle.v7_explain.specs.{Calls.{Call, ask, asked_in, explain, map_link, mapping, store, walk}, Maps.IsMapCall}
+use Rattle.v7_explain.specs.Files.{AnswersAt, GivesOr, IsRow, IsSaid, IsUnnamed, joined, nothing_said}
+use Rattle.v7_explain.specs.declared.explaining.Mode.TheVariants.{Listing, Inventory}
+use Rattle.v7_explain.specs.{Walks.{AreWalked, Folders, Found, kind_in, path_found}, declared.explaining.Mode.Mode}
 
 -- ---- files one after another
-
--- what is said of a file with these bytes
-abbrev pub IsSaid : Mode → List ℕ → Answer → Type 0
-IsSaid Listing bytes a = IsListed false bytes a
-IsSaid (Show view) bytes a = IsViewed bytes a
-IsSaid (Check e) bytes a = IsChecked e bytes a
-IsSaid Inventory bytes a = IsRow a
 
 -- an inventory reads the front of a file: one byte more than the largest core file has, 1,024 bytes and 131,070 blocks of 64
 abbrev pub ReadsFor : Mode → History → History → List ℕ → List ℕ → Type 0
@@ -31,7 +24,7 @@ ReadsFor _ old new path bytes = ReadsAt old new path bytes
 -- the file at a path is read and explained, or it is not read, and the status is 2
 abbrev pub Explains : Mode → History → History → List ℕ → Result Answer Fault → Type 0
 Explains mode old new path result =
-    ((bytes : List ℕ) × ReadsFor mode old new path bytes × GivesOr (IsSaid mode bytes) result)
+    ((bytes : List ℕ) × ReadsFor mode old new path bytes × GivesOr (IsSaid mode bytes (decode bytes)) result)
     ⊎ (ReadsNone old new path × EndsOr 2 result)
 
 -- an inventory does not read what has a kind of its own, as a device
@@ -78,22 +71,19 @@ IsWalk folders old new paths result =
 abbrev pub rest_of : Answer → Answer
 rest_of said = only_errors said.errors said.status
 
--- bytes are listed, and what is wrong is reported; nothing is asked of the system
-abbrev pub Lists : List ℕ → Step Answer
-Lists bytes old new result = (new ≡ old) × GivesOr (IsListed true bytes) result
-
 -- the listing is stored if there is nothing to report
 abbrev pub IsStoring : List ℕ → Answer → Step Answer
 IsStoring to said old new result =
     either (eqb said.status 0) (Stores (written to said.output) (rest_of said) old new result)
     ((new ≡ old) × (result ≡ Ok (rest_of said)))
 
--- the output is refused before anything is opened, or else the file is read, and its listing stored once there is memory for it
+-- the output is refused before anything is opened, or else the file is read, and its listing, with reports, stored once there is memory
+-- for it
 abbrev pub StoresListing : List ℕ → List ℕ → Step Answer
 StoresListing to path =
     Then (ChecksOutput path to) (λ _.
     Then (Reads path) (λ bytes.
-    Then (Lists bytes) (IsStoring to)))
+    Then (Quietly (GivesOr (IsSaid (Listing true) bytes (decode bytes)))) (IsStoring to)))
 
 -- ---- the program
 

@@ -64,10 +64,6 @@ abbrev pub walked : ℕ → Folders → List ℕ → List Found
 walked zero at path = path_found path ∷ []
 walked (suc levels) at path = walked_at (walked levels at) path (folder_in (at path))
 
--- 2,048 levels: a path of more is longer than those that Linux opens
-abbrev pub all_walked : Folders → List (List ℕ) → List Found
-all_walked at paths = flat_map (walked 2048 at) paths
-
--- these are the files of a walk, if it is known what folders have
+-- these are the files of a walk, if it is known what folders have. A path of more than 2,048 levels is longer than those that Linux opens
 abbrev pub AreWalked : Option Folders → List (List ℕ) → List Found → Type 0
-AreWalked known paths found = (at : Folders) → known ≡ Some at → found ≡ all_walked at paths
+AreWalked known paths found = (at : Folders) → known ≡ Some at → found ≡ flat_map (walked 2048 at) paths

@@ -1,13 +1,12 @@
 //! What the arguments ask for.
 ghost use Rattle.std.specs.Prelude.{◌≡◌, map, option_map, string_bytes};
-ghost use Rattle.v7_explain.specs.Calls.{after_map, asked_by, asking, call_of, explaining, listing_by, storing, view_in, walking};
-ghost use Rattle.v7_explain.specs.internal.Asked.{result_in};
+ghost use Rattle.v7_explain.specs.{Calls.{after_map, asked_by, call_of, mode_in}, internal.Asked.result_in};
 
 use crate::explaining::Mode;
-use crate::views::View;
+use crate::listing::View;
+use checks::Evidence;
 use instructions::Decoder;
 use surroundings::{Given, Reason};
-use suspicions::Evidence;
 
 /// What the arguments ask for, but for a map.
 #[derive(Clone, Copy)]
@@ -22,96 +21,45 @@ pub(crate) enum Call<'a> {
     Ask(&'a str, bool, &'a str),
 }
 
-/// To explain the files at these paths, if there is one.
-fn explaining(mode: Mode, paths: &[String]) -> Result<Call<'_>, Reason>
-    ensures { result_in result ≡ explaining mode (map string_bytes paths.now) }
+/// How the files are explained.
+fn mode_in(given: &Given) -> Mode
+    ensures { result ≡ mode_in given.now }
 {
-    if paths.is_empty() {
-        return Err(Reason::NoFile);
-    }
-    Ok(Call::Explain(mode, paths))
-}
-
-/// The inventory of the files in folders, if there is a path.
-fn walking(paths: &[String]) -> Result<Call<'_>, Reason>
-    ensures { result_in result ≡ walking (map string_bytes paths.now) }
-{
-    if paths.is_empty() {
-        return Err(Reason::NoFile);
-    }
-    Ok(Call::Walk(paths))
-}
-
-/// To store the listing of the file at this path, if it is the only one.
-fn storing<'a>(to: &'a str, paths: &'a [String]) -> Result<Call<'a>, Reason>
-    ensures { result_in result ≡ storing to.now (map string_bytes paths.now) }
-{
-    match paths {
-        [path] => Ok(Call::Store(to, path.as_str())),
-        _ => Err(Reason::NotOneFile(b'o')),
+    if given.has(b'c') && given.has(b't') {
+        Mode::Check(Evidence::Promise)
+    } else if given.has(b'c') {
+        Mode::Check(Evidence::Flow)
+    } else if given.has(b'l') {
+        Mode::Inventory
+    } else if given.has(b'd') {
+        Mode::Show(View::Instructions(Decoder::Unix))
+    } else if given.has(b'p') {
+        Mode::Show(View::Instructions(Decoder::Pdp11))
+    } else if given.has(b's') {
+        Mode::Show(View::Rows)
+    } else {
+        Mode::Listing(false)
     }
 }
 
-/// How files are shown that are not listed.
-fn view_in(given: &Given) -> Option<View>
-    ensures { result ≡ view_in given.now }
+/// What options ask for of which none excludes another: with the values of `-y` and `-o`, and the paths.
+fn asked_by<'a>(
+    given: &Given,
+    what: Option<&'a str>,
+    to: Option<&'a str>,
+    paths: &'a [String],
+) -> Result<Call<'a>, Reason>
+    ensures { result_in result ≡ asked_by given.now (option_map (λ v. v.now) what.entry)
+        (option_map (λ v. v.now) to.entry) (map string_bytes paths.now) }
 {
-    if given.has(b'd') {
-        return Some(View::Instructions(Decoder::Unix));
-    }
-    if given.has(b'p') {
-        return Some(View::Instructions(Decoder::Pdp11));
-    }
-    if given.has(b's') {
-        return Some(View::Rows);
-    }
-    None
-}
-
-/// The files as listings, of which one is stored with `-o`; or shown in another way.
-fn listing_by(given: &Given) -> Result<Call<'_>, Reason>
-    ensures { result_in result ≡ listing_by given.now }
-{
-    if let Some(view) = view_in(given) {
-        return explaining(Mode::Show(view), given.paths());
-    }
-    match given.value_of(b'o') {
-        Some(to) => storing(to, given.paths()),
-        None => explaining(Mode::Listing, given.paths()),
-    }
-}
-
-/// To ask the file at this path, if it is the only one.
-fn asking<'a>(what: &'a str, shows_function: bool, paths: &'a [String]) -> Result<Call<'a>, Reason>
-    ensures { result_in result ≡ asking what.now (map string_bytes paths.now) }
-{
-    match paths {
-        [path] => Ok(Call::Ask(what, shows_function, path.as_str())),
-        _ => Err(Reason::NotOneFile(b'y')),
-    }
-}
-
-/// What options ask for of which none excludes another.
-fn asked_by(given: &Given) -> Result<Call<'_>, Reason>
-    ensures { result_in result ≡ asked_by given.now }
-{
-    let paths = given.paths();
-    if given.has(b'c') {
-        return if given.has(b't') {
-            explaining(Mode::Check(Evidence::Promise), paths)
-        } else {
-            explaining(Mode::Check(Evidence::Flow), paths)
-        };
-    }
-    if given.has(b'R') {
-        return walking(paths);
-    }
-    if given.has(b'l') {
-        return explaining(Mode::Inventory, paths);
-    }
-    match given.value_of(b'y') {
-        Some(what) => asking(what, given.has(b'd'), paths),
-        None => listing_by(given),
+    match (what, to, paths) {
+        (Some(what), _, [path]) => Ok(Call::Ask(what, given.has(b'd'), path.as_str())),
+        (Some(_), _, _) => Err(Reason::NotOneFile(b'y')),
+        (None, Some(to), [path]) => Ok(Call::Store(to, path.as_str())),
+        (None, Some(_), _) => Err(Reason::NotOneFile(b'o')),
+        (None, None, []) => Err(Reason::NoFile),
+        (None, None, _) if given.has(b'R') => Ok(Call::Walk(paths)),
+        (None, None, _) => Ok(Call::Explain(mode_in(given), paths)),
     }
 }
 
@@ -133,7 +81,12 @@ pub(crate) fn call_of(given: &Given) -> Result<Call<'_>, Reason>
         .or(given.excluded_in(b"clopsy"))
     {
         Some(reason) => Err(reason),
-        None => asked_by(given),
+        None => asked_by(
+            given,
+            given.value_of(b'y'),
+            given.value_of(b'o'),
+            given.paths(),
+        ),
     }
 }
 

@@ -1,5 +1,5 @@
 //! What a map is asked for: names, objects and addresses, and what the link does not have. Only tested: its text.
-ghost use Rattle.std.specs.{Prelude.{◌≡◌, if◌then◌else◌, false, true, map, option_map, IfOk, OnOk, string_bytes}, List.list_any};
+ghost use Rattle.std.specs.{Prelude.{◌≡◌, if◌then◌else◌, true, map, option_map, IfOk, OnOk, string_bytes}, List.list_any};
 ghost use Rattle.v7_explain.specs.Asked.{has_absent, has_path, has_use, is_absent, is_in_any, is_name, is_named, octal_number};
 ghost use Rattle.v7_explain.specs.{Calls.mapping_after, internal.Asked.{asks_of_map, mapping_with}};
 
@@ -116,18 +116,6 @@ impl Model for Asked {
 }
 
 impl Asked {
-    /// Nothing.
-    fn nothing(alloc: Global) -> Asked
-        ensures { result ≡ false }
-    {
-        Asked {
-            names: Vec::new(alloc),
-            paths: Vec::new(alloc),
-            spots: Vec::new(alloc),
-            absent: Vec::new(alloc),
-        }
-    }
-
     /// Adds what an argument asks of a map: a name, else the path of an object, else an address in octal digits.
     #[tactic(auto, using(crate::proofs::AskedLemmas::has_more))]
     fn put(
@@ -171,7 +159,12 @@ impl Asked {
     ) -> Result<Asked, AllocError>
         ensures { IfOk result (λ a. a ≡ has_absent link.now all.now (map string_bytes arguments.now)) }
     {
-        let mut asked = Asked::nothing(alloc);
+        let mut asked = Asked {
+            names: Vec::new(alloc),
+            paths: Vec::new(alloc),
+            spots: Vec::new(alloc),
+            absent: Vec::new(alloc),
+        };
         for argument in arguments {
             asked.put(alloc, link, all, argument.as_str())?;
         }

@@ -1,23 +1,28 @@
 //! Why files are not objects, and what is odd in objects. Only tested: what is said of them.
 ghost use Rattle.std.specs.{Prelude.{◌≡◌, None, IfOk}, List.list_any};
 ghost use Rattle.aout_core.specs.WellFormed.{first_object_fault};
-ghost use Rattle.findings.specs.Found.{all_found};
-ghost use Rattle.v7_explain.specs.Files.{IsCheck, IsChecked, IsNoObject, has_sure, status_of};
+ghost use Rattle.checks.specs.Found.{all_found};
+ghost use Rattle.v7_explain.specs.Files.{IsCheck, IsNoObject, status_of};
 
 use crate::explaining::nothing_said;
 use crate::source::{
     GNU_NOTE, Source, by_cause, likeness_of, put_front, put_odd_lines, put_reports, put_text_line,
 };
-use aout_core::{File, ReadFault, decode_file, object_fault};
+use aout_core::{File, ReadFault, object_fault};
+use checks::{
+    Evidence, Finding, KindText, all_odd_of, is_damaged, is_of_gnu, wrong_bytes, wrong_words,
+};
 use disassemblies::Sweep;
-use findings::{Finding, KindText, is_damaged, is_of_gnu, wrong_bytes, wrong_words};
 use std::alloc::{AllocError, Global};
 use surroundings::{Answer, error_answer};
-use suspicions::{Evidence, all_odd_of};
 use texts::Text;
 
 /// Why bytes that are not a file are not an object.
-fn check_refused(alloc: Global, source: Source<'_>, fault: ReadFault) -> Result<Answer, AllocError>
+pub(crate) fn check_refused(
+    alloc: Global,
+    source: Source<'_>,
+    fault: ReadFault,
+) -> Result<Answer, AllocError>
     ensures { IfOk result (λ answer. IsNoObject answer) }
 {
     let wrong = wrong_bytes(alloc, source.bytes, fault)?;
@@ -40,7 +45,7 @@ fn is_any_sure(found: &[Finding]) -> bool
 
 /// Whether one of these findings is sure.
 fn has_sure(found: &[Finding]) -> bool
-    ensures { result ≡ has_sure (all_found found.now) }
+    ensures { result ≡ list_any (λ finding. finding.is_sure) (all_found found.now) }
 {
     is_any_sure(found)
 }
@@ -78,7 +83,7 @@ fn check_object(
 }
 
 /// Why a file is not an object, if it is not; or what is odd in it.
-fn check_file(
+pub(crate) fn check_file(
     alloc: Global,
     evidence: Evidence,
     source: Source<'_>,
@@ -105,18 +110,4 @@ fn check_file(
         lines.put("\n");
     }
     error_answer(alloc, lines, 1)
-}
-
-/// Why the bytes of a file are not an object, if they are not; or what is odd in the object.
-pub(crate) fn check(
-    alloc: Global,
-    evidence: Evidence,
-    source: Source<'_>,
-) -> Result<Answer, AllocError>
-    ensures { IfOk result (λ answer. IsChecked evidence source.entry.bytes.now answer) }
-{
-    match decode_file(alloc, source.bytes)? {
-        Ok(file) => check_file(alloc, evidence, source, &file),
-        Err(fault) => check_refused(alloc, source, fault),
-    }
 }

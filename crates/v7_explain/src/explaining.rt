@@ -1,26 +1,27 @@
 //! Files that are explained one after another: each is read whole and explained before the next one is opened.
 ghost use Rattle.std.specs.Prelude.{◌≡◌, OnOk, IfErr, IfOk, map, string_bytes};
+ghost use Rattle.aout_core.specs.Decoding.{decode};
 ghost use Rattle.surroundings.specs.Sources.{EndsReading};
-ghost use Rattle.v7_explain.specs.{Joined.{joined, nothing_said}, Walks.path_found};
-ghost use Rattle.v7_explain.specs.Runs.{Explains, ExplainsFound, ExplainsNamed, IsExplaining, IsKind, IsSaid, IsWalk, ReadsFor};
+ghost use Rattle.v7_explain.specs.{Files.{IsSaid, joined, nothing_said}, Walks.path_found};
+ghost use Rattle.v7_explain.specs.Runs.{Explains, ExplainsFound, ExplainsNamed, IsExplaining, IsKind, IsWalk, ReadsFor};
 
-use crate::checking::check;
+use crate::checking::{check_file, check_refused};
 use crate::folders::{Explainable, Folders, walk_all};
-use crate::inventory::{take_inventory, take_kind, take_unnamed};
-use crate::listing::list;
+use crate::inventory::{take_inventory, take_row, take_unnamed};
+use crate::listing::{View, list_file, show_file};
 use crate::program::NAME;
-use crate::source::Source;
-use crate::views::{View, show};
-use explanations::FileKind;
+use crate::source::{Source, refuse};
+use aout_core::decode_file;
+use checks::Evidence;
+use explanations::{FileKind, plain_row};
 use std::alloc::{AllocError, Global};
 use surroundings::{Answer, Fault, Office, read_front, read_whole};
-use suspicions::Evidence;
 
 /// What is said of each file.
 #[derive(Clone, Copy, PartialEq, Eq)]
 pub(crate) enum Mode {
-    /// A listing.
-    Listing,
+    /// A listing, and with this what is wrong too, for standard error.
+    Listing(bool),
     /// Its instructions, or its words in rows.
     Show(View),
     /// Why it is not an object, or what is odd in it.
@@ -51,14 +52,18 @@ pub(crate) fn join(said: &mut Answer, more: &Answer) -> Result<(), AllocError>
 }
 
 /// What is said of the bytes of a file.
-fn explain(alloc: Global, mode: Mode, source: Source<'_>) -> Result<Answer, AllocError>
-    ensures { IfOk result (λ a. IsSaid mode source.entry.bytes.now a) }
+pub(crate) fn explain(alloc: Global, mode: Mode, source: Source<'_>) -> Result<Answer, AllocError>
+    ensures { IfOk result (λ a.
+        IsSaid mode source.entry.bytes.now (decode source.entry.bytes.now) a) }
 {
-    match mode {
-        Mode::Listing => list(alloc, source, false),
-        Mode::Show(view) => show(alloc, source, view),
-        Mode::Check(evidence) => check(alloc, evidence, source),
-        Mode::Inventory => take_inventory(alloc, source),
+    match (mode, decode_file(alloc, source.bytes)?) {
+        (Mode::Listing(is_told), Ok(file)) => list_file(alloc, source, is_told, &file),
+        (Mode::Listing(is_told), Err(fault)) => refuse(alloc, None, source, is_told, fault),
+        (Mode::Show(view), Ok(file)) => show_file(alloc, source, view, &file),
+        (Mode::Show(view), Err(fault)) => refuse(alloc, Some(view), source, false, fault),
+        (Mode::Check(evidence), Ok(file)) => check_file(alloc, evidence, source, &file),
+        (Mode::Check(_), Err(fault)) => check_refused(alloc, source, fault),
+        (Mode::Inventory, read) => take_inventory(alloc, source, &read),
     }
 }
 
@@ -129,7 +134,7 @@ fn explain_named<O: Office, F: Folders>(
         (O.history office.old) (O.history office.new) path.now result }
 {
     match kind_for(folders, mode, path) {
-        Some(kind) => Ok(take_kind(alloc, path, kind)?),
+        Some(kind) => Ok(take_row(alloc, path, &plain_row(kind))?),
         None => explain_at(alloc, office, mode, path),
     }
 }

@@ -1,19 +1,62 @@
-//! Files as listings, in the form that `read_listing` of `listings` reads. Only tested: what their notes say.
-ghost use Rattle.std.specs.Prelude.{◌≡◌, Ok, IfOk};
+//! Files as listings, in the form that `read_listing` of `listings` reads, as instructions, or as words in rows. Only tested: what notes say,
+//! and what is shown but for a listing.
+ghost use Rattle.std.specs.Prelude.{IfOk};
 ghost use Rattle.aout_core.specs.WellFormed.{first_object_fault};
-ghost use Rattle.listings.specs.{Reading.read, declared.draft.Addresses.TheVariants.Compared};
-ghost use Rattle.v7_explain.specs.Files.{IsListed, IsListing};
+ghost use Rattle.v7_explain.specs.Files.{IsListing, IsView};
 
-use crate::source::{
-    GNU_NOTE, Source, by_cause, explain_refused, front_notes, put_odd, reported, status_in,
-};
-use aout_core::{File, decode_file, object_fault};
-use disassemblies::Sweep;
-use explanations::write_explained;
-use findings::{Finding, Notes, is_of_gnu, put_findings, put_header, wrong_in};
+use crate::source::{GNU_NOTE, Source, by_cause, front_notes, put_odd, reported, status_in};
+use aout_core::{File, object_fault};
+use checks::{Evidence, Finding, Notes, all_odd_of, is_of_gnu, put_findings, put_header, wrong_in};
+use disassemblies::{Sweep, put_disassembly};
+use explanations::{put_dump, put_lines, write_explained};
+use instructions::Decoder;
 use std::alloc::{AllocError, Global};
 use surroundings::Answer;
-use suspicions::{Evidence, all_odd_of};
+use texts::Text;
+
+/// How the contents of a file are shown.
+#[derive(Clone, Copy, PartialEq, Eq)]
+pub(crate) enum View {
+    /// The text as instructions, as this decoder finds them.
+    Instructions(Decoder),
+    /// Text and data in rows of words.
+    Rows,
+}
+
+/// Appends the contents of a file.
+pub(crate) fn put_body(text: &mut Text, view: View, file: &File) {
+    match view {
+        View::Instructions(decoder) => put_disassembly(text, decoder, file),
+        View::Rows => put_dump(text, file),
+    }
+}
+
+/// The contents of a file, with notes before it and findings after it, and its status.
+pub(crate) fn show_file(
+    alloc: Global,
+    source: Source<'_>,
+    view: View,
+    file: &File,
+) -> Result<Answer, AllocError>
+    ensures { IfOk result (λ answer. IsView file.now answer) }
+{
+    let refused = object_fault(file);
+    let wrong = wrong_in(alloc, file, refused)?;
+    let notes = front_notes(alloc, source, file.header(), refused);
+    let mut findings = Notes::new(alloc);
+    put_findings(&mut findings, "wrong", &wrong);
+    notes.whole()?;
+    findings.whole()?;
+    let mut text = Text::new(alloc);
+    put_lines(&mut text, &notes);
+    put_body(&mut text, view, file);
+    put_lines(&mut text, &findings);
+    Ok(Answer {
+        output: text.finish()?,
+        errors: Vec::new(alloc),
+        status: status_in(refused),
+    })
+}
 
 /// What is found in a file, as notes after it.
 fn list_findings(
@@ -29,26 +72,13 @@ fn list_findings(
     if is_of_gnu(alloc, bytes, false)? {
         findings.say(GNU_NOTE);
     }
-    Ok(findings)
-}
-
-/// The listing of a file, with notes before it and findings after it.
-fn listing_with(
-    alloc: Global,
-    sweep: &Sweep<'_>,
-    notes: &Notes,
-    findings: &Notes,
-) -> Result<Vec<u8>, AllocError>
-    ensures { IfOk result (λ text. read Compared text.items ≡ Ok sweep.now) }
-{
-    notes.whole()?;
     findings.whole()?;
-    write_explained(alloc, sweep, notes, findings)
+    Ok(findings)
 }
 
 /// The listing of a file, with its status.
 #[tactic(auto, using(crate::proofs::FoundLemmas::untold))]
-fn list_file(
+pub(crate) fn list_file(
     alloc: Global,
     source: Source<'_>,
     is_reported: bool,
@@ -63,23 +93,10 @@ fn list_file(
     put_header(&mut notes, file.header());
     let sweep = Sweep::new(alloc, file)?;
     let findings = list_findings(alloc, source.bytes, &sweep, &wrong)?;
+    notes.whole()?;
     Ok(Answer {
-        output: listing_with(alloc, &sweep, &notes, &findings)?,
+        output: write_explained(alloc, &sweep, &notes, &findings)?,
         errors: reported(alloc, is_reported, source.path, &wrong)?,
         status: status_in(refused),
     })
-}
-
-/// The listing of the bytes of a file; what is wrong with them goes to standard error too, if it is reported.
-pub(crate) fn list(
-    alloc: Global,
-    source: Source<'_>,
-    is_reported: bool,
-) -> Result<Answer, AllocError>
-    ensures { IfOk result (λ answer. IsListed is_reported source.entry.bytes.now answer) }
-{
-    match decode_file(alloc, source.bytes)? {
-        Ok(file) => list_file(alloc, source, is_reported, &file),
-        Err(fault) => explain_refused(alloc, None, source, is_reported, fault),
-    }
 }

@@ -22,7 +22,6 @@ mod program;
 mod question;
 mod source;
 mod storing;
-mod views;
 
 use disk_folders::DiskFolders;
 use help::USAGE;

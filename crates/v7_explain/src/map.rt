@@ -1,9 +1,10 @@
 //! The map of a link, made or refused.
 ghost use Rattle.std.specs.Prelude.{◌≡◌, ◌⊎◌, IfOk, Err, map, string_bytes};
 ghost use Rattle.aout_core.specs.Refusals.{refused};
-ghost use Rattle.surroundings.specs.{Answers.Ends, declared.answer.Fault.TheVariants.Memory};
+ghost use Rattle.link_maps.specs.Rows.{linked_in};
+ghost use Rattle.surroundings.specs.declared.answer.Fault.TheVariants.{Memory};
 ghost use Rattle.v7_explain.specs.{Maps.{IsMapCall, IsMapping, MapsCall, link_words, status_with}, Runs.MapsAsked};
-ghost use Rattle.v7_explain.specs.internal.Takes.{IsMapAnswer, status_mapped};
+ghost use Rattle.v7_explain.specs.internal.Takes.{IsMapAnswer, status_made};
 
 use crate::asked::{Asked, take_asked};
 use crate::help::USAGE;
@@ -19,7 +20,7 @@ use surroundings::{Answer, Fault, Office, Reason, refused_answer};
 
 /// The status of a map: 0 for a link with nothing to report; 1 for one that is refused too.
 fn status_of(map: &LinkMap) -> u8
-    ensures { result ≡ status_mapped map.now.outcome }
+    ensures { result ≡ status_made (linked_in map.now.outcome) }
 {
     match map.linked() {
         Some(linked) => linked.report.status(),
@@ -90,13 +91,6 @@ fn link_words(alloc: Global, words: &[String]) -> Result<Vec<String>, AllocError
     Ok(all)
 }
 
-/// The answer to arguments after `-m` that are not those of `ld`.
-fn not_of_ld(alloc: Global) -> Result<Answer, AllocError>
-    ensures { IfOk result (λ a. Ends 2 a) }
-{
-    refused_answer(alloc, NAME, USAGE, Reason::NotOfLd(b'm'))
-}
-
 /// The map of the link that a call asks for, if it is one of `ld`.
 fn map_call<O: Office>(
     alloc: Global,
@@ -114,7 +108,7 @@ fn map_call<O: Office>(
             files,
             ..
         } => map_link(alloc, office, asked, forced, options, files),
-        _ => Ok(not_of_ld(alloc)?),
+        _ => Ok(refused_answer(alloc, NAME, USAGE, Reason::NotOfLd(b'm'))?),
     }
 }
 
@@ -131,7 +125,7 @@ fn map_words<O: Office>(
 {
     match parse(alloc, link_words(alloc, words)?) {
         Ok(call) => map_call(alloc, office, asked, &call),
-        Err(WordsFault::Usage) => Ok(not_of_ld(alloc)?),
+        Err(WordsFault::Usage) => { Ok(refused_answer(alloc, NAME, USAGE, Reason::NotOfLd(b'm'))?) }
         Err(WordsFault::Memory(refused)) => Err(Fault::Memory(refused)),
     }
 }

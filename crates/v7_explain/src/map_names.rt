@@ -3,9 +3,10 @@ use crate::asked::{Asked, octal_number};
 use crate::mapped::Mapped;
 use aout_core::{Header, Name, Part, Segment, Symbol};
 use disassemblies::NamedFile;
+use instructions::Reference;
 use link_maps::{
-    Before, Places, ReferringWord, Use, is_any_definition, is_at, put_line_of, stays_undefined,
-    telling, word_at, words_to,
+    Places, ReferringWord, Use, is_any_definition, is_at, put_line_of, stays_undefined, telling,
+    word_at, words_to,
 };
 use std::alloc::AllocError;
 use std::collections::BTreeMap;
@@ -67,12 +68,12 @@ fn has_name(mapped: &Mapped<'_>, section: Section, name: &Name, uses: &[Use]) ->
 }
 
 /// Adds an address with its segment, and the label before it, if there is one.
-pub(crate) fn put_place(text: &mut Text, segment: &str, address: u64, before: &Option<Before>) {
+pub(crate) fn put_place(text: &mut Text, segment: &str, address: u64, before: &Option<Reference>) {
     text.say(format_args!("{segment} {address:06o}"));
     if let Some(before) = before {
         text.say(format_args!("  {}", Printable(before.name.as_bytes())));
-        if before.bytes > 0 {
-            text.say(format_args!("+{:o}", before.bytes));
+        if before.offset > 0 {
+            text.say(format_args!("+{:o}", before.offset));
         }
     }
 }
@@ -132,13 +133,12 @@ fn put_sources(text: &mut Text, mapped: &Mapped<'_>, uses: &[Use]) {
     let mut is_again = false;
     for used in uses.iter().filter(|used| used.is_definition()) {
         let label = if is_again { "again in" } else { "defined in" };
-        let path = mapped.path(used.object).unwrap_or("");
+        let path = mapped.path(used.object);
         text.say(format_args!("    {label:<12}{path}\n"));
         is_again = true;
     }
     for used in uses.iter().filter(|used| used.is_common()) {
-        let path = mapped.path(used.object).unwrap_or("");
-        let size = used.symbol.value;
+        let (path, size) = (mapped.path(used.object), used.symbol.value);
         text.say(format_args!("    common in   {path} ({size})\n"));
     }
 }
@@ -174,18 +174,13 @@ fn put_references(
 
 /// Adds the objects that use a name, each with the words that lead to it.
 fn put_mentions(text: &mut Text, mapped: &Mapped<'_>, shown: &mut Shown, uses: &[Use]) {
-    for used in uses {
-        if !is_mention(used) {
-            continue;
-        }
-        match used.object {
-            Some(object) => {
-                let path = mapped.path(used.object).unwrap_or("");
-                let count = used.references.len();
-                text.say(format_args!("    used in     {path} ({count})\n"));
-                put_references(text, mapped, shown, object, used);
-            }
-            None => text.put("    used in     -u\n"),
+    for used in uses.iter().filter(|used| is_mention(used)) {
+        if let Some(object) = used.object {
+            let (path, count) = (mapped.path(used.object), used.references.len());
+            text.say(format_args!("    used in     {path} ({count})\n"));
+            put_references(text, mapped, shown, object, used);
+        } else {
+            text.put("    used in     -u\n");
         }
     }
 }
@@ -202,31 +197,32 @@ pub(crate) fn put_line(text: &mut Text, row: Option<Symbol>, symbol: &Symbol) {
     text.say(format_args!("{}\n", Printable(symbol.name.as_bytes())));
 }
 
-/// Adds a part of the map, if it has a name: its title, and the names in their order, each with its line, who has it and who needs it. Whether
-/// it has one.
-pub(crate) fn put(text: &mut Text, mapped: &Mapped<'_>, section: Section, title: &str) -> bool {
+/// Adds a part of the map, if it has a name: its title, and the names in their order, each with its line, who has it and who needs it. Returns
+/// the title, or nothing if it is there.
+pub(crate) fn put<'a>(
+    text: &mut Text,
+    mapped: &Mapped<'_>,
+    section: Section,
+    title: &'a str,
+) -> &'a str {
     let mut shown = Shown::new(text.allocator());
-    let mut is_titled = false;
+    let mut title = title;
     for uses in &mapped.groups {
-        let Some(symbol) = telling(uses) else {
-            continue;
-        };
-        if !has_name(mapped, section, &symbol.name, uses) {
-            continue;
-        }
-        if !is_titled {
+        if let Some(symbol) = telling(uses)
+            && has_name(mapped, section, &symbol.name, uses)
+        {
             text.put(title);
-        }
-        is_titled = true;
-        put_line(text, mapped.row(&symbol.name), &symbol);
-        if !matches!(section, Section::Defined(_)) {
-            put_sources(text, mapped, uses);
-        }
-        if !matches!(section, Section::Needed(_)) {
-            put_mentions(text, mapped, &mut shown, uses);
+            title = "";
+            put_line(text, mapped.row(&symbol.name), &symbol);
+            if !matches!(section, Section::Defined(_)) {
+                put_sources(text, mapped, uses);
+            }
+            if !matches!(section, Section::Needed(_)) {
+                put_mentions(text, mapped, &mut shown, uses);
+            }
         }
     }
-    is_titled
+    title
 }
 
 /// A local of an object with its address in the link.
@@ -242,67 +238,46 @@ fn moved(symbol: &Symbol, header: &Header, places: &Places) -> Symbol {
         .wrapping_add(u64::from(symbol.value))
         .wrapping_sub(own);
     Symbol {
-        name: symbol.name,
-        type_bits: symbol.type_bits,
         value: (address % 65536) as u16,
+        ..*symbol
     }
 }
 
-/// Adds the local with a number of an object that is at a path: its address in the link, and the words that lead to it.
-fn put_static(
-    text: &mut Text,
-    path: &str,
-    named: &NamedFile<'_>,
-    places: &Places,
-    number: usize,
-    symbol: &Symbol,
-) -> Result<(), AllocError> {
-    let file = named.file();
-    let words = words_to(text.allocator(), file, number)?;
-    put_line(text, Some(moved(symbol, file.header(), places)), symbol);
-    text.say(format_args!("    defined in  {path}\n"));
-    if !words.is_empty() {
-        text.say(format_args!("    used in     {path} ({})\n", words.len()));
-    }
-    put_words(text, named, places, &words);
-    Ok(())
-}
-
-/// Adds the locals that are asked for, if there is one.
+/// Adds the locals that are asked for, if there is one: the address in the link, and the words that lead to it.
 pub(crate) fn put_statics(text: &mut Text, mapped: &Mapped<'_>) -> Result<(), AllocError> {
     let asked = mapped.asked;
     let mut is_titled = false;
     for (object, (named, places)) in mapped.files.iter().zip(&mapped.map.places).enumerate() {
-        for (number, symbol) in named.file().symbols().iter().enumerate() {
-            if !symbol.is_external() && asked.names.contains(&symbol.name) {
-                if !is_titled {
-                    text.put("\nStatics\n");
-                }
-                is_titled = true;
-                let path = mapped.path(Some(object)).unwrap_or("");
-                put_static(text, path, named, places, number, symbol)?;
+        let (file, path) = (named.file(), mapped.path(Some(object)));
+        for (number, symbol) in file.symbols().iter().enumerate() {
+            if symbol.is_external() || !asked.names.contains(&symbol.name) {
+                continue;
             }
+            if !is_titled {
+                text.put("\nStatics\n");
+            }
+            is_titled = true;
+            put_line(text, Some(moved(symbol, file.header(), places)), symbol);
+            text.say(format_args!("    defined in  {path}\n"));
+            let words = words_to(text.allocator(), file, number)?;
+            if !words.is_empty() {
+                text.say(format_args!("    used in     {path} ({})\n", words.len()));
+            }
+            put_words(text, named, places, &words);
         }
     }
     Ok(())
 }
 
-/// Adds the arguments that the link does not have, of addresses or of others, under a title unless it is there.
-pub(crate) fn put_absent(
-    text: &mut Text,
-    asked: &Asked,
-    is_address: bool,
-    title: &str,
-    is_there: bool,
-) {
-    let mut is_titled = is_there;
+/// Adds the arguments that the link does not have, of addresses or of others, under a title, which is empty if it is there.
+pub(crate) fn put_absent(text: &mut Text, asked: &Asked, is_address: bool, title: &str) {
+    let mut title = title;
     for argument in &asked.absent {
         if octal_number(argument.as_bytes()).is_some() == is_address {
-            if !is_titled {
-                text.put(title);
-            }
-            is_titled = true;
-            text.say(format_args!("  {}: not mentioned\n", Printable(argument.as_bytes())));
+            let shown = Printable(argument.as_bytes());
+            text.put(title);
+            text.say(format_args!("  {shown}: not mentioned\n"));
+            title = "";
         }
     }
 }

@@ -28,10 +28,8 @@ pub(crate) fn put_oddities(text: &mut Text, mapped: &Mapped<'_>) -> Result<(), A
             let other = &underscored(name);
             put_calls(&mut odd, mapped, name, uses);
             if name.as_bytes().len() == 8 && any_differ(uses) {
-                odd.say(format_args!(
-                    "  {}: perhaps two names, cut to eight bytes\n",
-                    Printable(name.as_bytes())
-                ));
+                let name = Printable(name.as_bytes());
+                odd.say(format_args!("  {name}: perhaps two names, cut to eight bytes\n"));
             }
             for (one, two) in [(name, other), (other, name)] {
                 if missing.contains(one) && there.contains(two) {
@@ -59,18 +57,14 @@ fn underscored(name: &Name) -> Name {
 
 /// Adds the calls of a name that the link has in data or bss, or as a common, but for those in an object that defines it.
 fn put_calls(text: &mut Text, mapped: &Mapped<'_>, name: &Name, uses: &[Use]) {
-    let is_stored = match telling(uses) {
-        Some(symbol) => match symbol.segment() {
-            Segment::DataSeg | Segment::BssSeg => true,
-            Segment::Undefined => symbol.value != 0,
-            _ => false,
-        },
-        None => false,
-    };
-    if !is_stored {
-        return;
-    }
-    for used in uses.iter().filter(|used| !used.is_definition()) {
+    let is_stored = telling(uses).is_some_and(|symbol| match symbol.segment() {
+        Segment::DataSeg | Segment::BssSeg => true,
+        segment => segment == Segment::Undefined && symbol.value != 0,
+    });
+    for used in uses
+        .iter()
+        .filter(|used| is_stored && !used.is_definition())
+    {
         let number = used.object.unwrap_or(usize::MAX);
         let (Some(file), Some(places)) = (mapped.files.get(number), mapped.map.places.get(number))
         else {
@@ -78,12 +72,9 @@ fn put_calls(text: &mut Text, mapped: &Mapped<'_>, name: &Name, uses: &[Use]) {
         };
         for word in &used.references {
             if is_call(file.file().text_words(), word) {
-                text.say(format_args!(
-                    "  {}: data, and called at text {:06o} in {}\n",
-                    Printable(name.as_bytes()),
-                    places.address(Part::Text, word.offset),
-                    mapped.path(used.object).unwrap_or("")
-                ));
+                let (name, path) = (Printable(name.as_bytes()), mapped.path(used.object));
+                let at = places.address(Part::Text, word.offset);
+                text.say(format_args!("  {name}: data, and called at text {at:06o} in {path}\n"));
             }
         }
     }
@@ -94,29 +85,19 @@ fn is_call(words: &[u16], word: &ReferringWord) -> bool {
     if !matches!(word.part, Part::Text) || word.offset <= word.line {
         return false;
     }
-    let Some(first) = words.get(usize::from(word.line / 2)) else {
-        return false;
-    };
-    match Instruction::from_first_word(*first) {
-        Some(instruction) => {
-            instruction.row.operation.jumps() && (*first % 0o100 == 0o37 || *first % 0o100 == 0o67)
-        }
-        None => false,
-    }
+    let first = words.get(usize::from(word.line / 2)).copied().unwrap_or(0);
+    Instruction::from_first_word(first).is_some_and(|instruction| {
+        instruction.row.operation.jumps() && (first % 0o100 == 0o37 || first % 0o100 == 0o67)
+    })
 }
 
 /// Whether two of the uses of a name may be of two names: symbols of one object, two definitions, or commons of different sizes.
 fn any_differ(uses: &[Use]) -> bool {
-    let mut rest = uses;
-    while let [one, after @ ..] = rest {
-        if after.iter().any(|other| {
+    uses.iter().enumerate().any(|(number, one)| {
+        uses.iter().take(number).any(|other| {
             (one.object.is_some() && one.object == other.object)
                 || (one.is_definition() && other.is_definition())
                 || (one.is_common() && other.is_common() && one.symbol.value != other.symbol.value)
-        }) {
-            return true;
-        }
-        rest = after;
-    }
-    false
+        })
+    })
 }

@@ -20,36 +20,31 @@ pub(crate) fn put_head(text: &mut Text, mapped: &Mapped<'_>) {
     let s = if count == 1 { "" } else { "s" };
     text.say(format_args!("Link of {count} object{s}: "));
     if let Some(refused) = &mapped.objects.refused {
-        let path = match refused.left.first() {
-            Some(first) => first.label.as_str(),
-            None => "",
-        };
+        let path = refused
+            .left
+            .first()
+            .map_or("", |first| first.label.as_str());
         let why = refused.cause.text();
-        text.say(format_args!(
-            "refused, {why} at\n  {path}\n  (addresses below count from 0 in each segment)\n"
-        ));
-    } else if let Some(outcome) = &mapped.map.outcome {
-        match &outcome.linked {
-            Err(fault) => text.say(format_args!("refused, {}\n", fault.text())),
-            Ok(linked) => {
-                let header = linked.file.header();
-                let what = if linked.report.status() == 0 {
-                    "nothing"
-                } else {
-                    "something"
-                };
-                text.say(format_args!("made, with {what} to report\n"));
-                text.say(format_args!(
-                    "  magic 0{:o}, entry point {:06o}\n",
-                    header.magic, header.entry_point
-                ));
-                if let Some(name) = &linked.report.entry_bad {
-                    text.say(format_args!(
-                        "  entry point not in text: {}\n",
-                        Printable(name.as_bytes())
-                    ));
-                }
-            }
+        text.say(format_args!("refused, {why} at\n  {path}\n"));
+        text.put("  (addresses below count from 0 in each segment)\n");
+    } else if let Some(Err(fault)) = mapped.map.outcome.as_ref().map(|outcome| &outcome.linked) {
+        text.say(format_args!("refused, {}\n", fault.text()));
+    } else if let Some(linked) = mapped.map.linked() {
+        let Header {
+            magic,
+            entry_point,
+            ..
+        } = *linked.file.header();
+        let what = if linked.report.status() == 0 {
+            "nothing"
+        } else {
+            "something"
+        };
+        text.say(format_args!("made, with {what} to report\n"));
+        text.say(format_args!("  magic 0{magic:o}, entry point {entry_point:06o}\n"));
+        if let Some(name) = &linked.report.entry_bad {
+            let name = Printable(name.as_bytes());
+            text.say(format_args!("  entry point not in text: {name}\n"));
         }
     }
 }
@@ -82,32 +77,21 @@ pub(crate) fn put_limits(
     Ok(())
 }
 
-/// The bytes of all segments of an object.
-fn bytes_of(member: &Member) -> u32 {
-    let Header {
-        text_size,
-        data_size,
-        bss_size,
-        ..
-    } = member.header;
-    u32::from(text_size) + u32::from(data_size) + u32::from(bss_size)
-}
-
 /// Adds the largest objects, the largest first; those of one size keep their order.
 fn put_largest(text: &mut Text, members: &[Member]) -> Result<(), AllocError> {
     let mut sized = Vec::new(text.allocator());
     for member in members {
-        sized.push((bytes_of(member), member))?;
+        let header = &member.header;
+        let bytes = u32::from(header.text_size) + u32::from(header.data_size);
+        sized.push((bytes + u32::from(header.bss_size), member))?;
     }
     sized.sort_by(|one, other| other.0.cmp(&one.0))?;
     sized.truncate(LARGEST);
     text.put("\nLargest objects\n     text    data     bss     all  symbols\n");
     for (bytes, member) in &sized {
         let header = &member.header;
-        text.say(format_args!(
-            "  {:>7}{:>8}{:>8}",
-            header.text_size, header.data_size, header.bss_size
-        ));
+        let (words, data, bss) = (header.text_size, header.data_size, header.bss_size);
+        text.say(format_args!("  {words:>7}{data:>8}{bss:>8}"));
         text.say(format_args!("{:>8}{:>9}  {}\n", *bytes, member.symbols, member.label));
     }
     Ok(())
@@ -137,12 +121,12 @@ fn put_member(text: &mut Text, member: &Member, at: &Places) {
     text.say(format_args!("  {:06o}{:>7}", at.text, header.text_size));
     text.say(format_args!("  {:06o}{:>7}", at.data, header.data_size));
     text.say(format_args!("  {:06o}{:>7}", at.bss, header.bss_size));
-    let gap = if PATH < member.label.len() {
+    text.put(if PATH < member.label.len() {
         "\n    "
     } else {
         "  "
-    };
-    text.say(format_args!("{gap}{}\n", member.label));
+    });
+    text.say(format_args!("{}\n", member.label));
 }
 
 /// Adds the objects.
@@ -155,8 +139,7 @@ pub(crate) fn put_members(text: &mut Text, map: &LinkMap) {
 
 /// Adds the objects that have a path: where each lies, what it defines, and what it needs.
 pub(crate) fn put_objects(text: &mut Text, mapped: &Mapped<'_>, path: &str) {
-    let members = mapped.map.members.as_slice();
-    for (number, member) in members.iter().enumerate() {
+    for (number, member) in mapped.map.members.iter().enumerate() {
         if member.label.as_str() == path {
             text.put(MEMBERS);
             if let Some(at) = mapped.map.places.get(number) {

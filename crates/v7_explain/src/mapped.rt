@@ -50,11 +50,11 @@ impl<'a> Mapped<'a> {
         self.map.row(&self.objects.session, name)
     }
 
-    /// The path of an object; nothing for a forced name.
-    pub(crate) fn path(&self, object: Option<usize>) -> Option<&'a str> {
-        match self.map.members.get(object?) {
-            Some(member) => Some(member.label.as_str()),
-            None => None,
+    /// The path of an object; empty for a forced name.
+    pub(crate) fn path(&self, object: Option<usize>) -> &'a str {
+        match self.map.members.get(object.unwrap_or(usize::MAX)) {
+            Some(member) => member.label.as_str(),
+            None => "",
         }
     }
 
@@ -80,13 +80,13 @@ impl<'a> Mapped<'a> {
             map_names::put(&mut text, self, Section::All, "\nExternals\n");
         } else {
             let asked = self.asked;
-            put_spots(&mut text, self, asked)?;
+            put_spots(&mut text, self)?;
             for path in &asked.paths {
                 put_objects(&mut text, self, path.as_str());
             }
             put_statics(&mut text, self)?;
-            let is_titled = map_names::put(&mut text, self, Section::Asked, "\nExternals\n");
-            put_absent(&mut text, asked, false, "\nExternals\n", is_titled);
+            let title = map_names::put(&mut text, self, Section::Asked, "\nExternals\n");
+            put_absent(&mut text, asked, false, title);
         }
         text.finish()
     }

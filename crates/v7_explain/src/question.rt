@@ -1,13 +1,14 @@
 //! What a file has under a name or at an address. Only tested: the text. Proved: whether what is asked is absent.
 ghost use Rattle.std.specs.Prelude.{◌≡◌, IfOk};
-ghost use Rattle.v7_explain.specs.Questions.{AnswersAt, IsAnswered, IsAnswer, has_address, is_within, answer_status};
+ghost use Rattle.aout_core.specs.Decoding.{decode};
+ghost use Rattle.v7_explain.specs.Files.{AnswersAt, IsAnswered, IsAnswer, has_address, is_within, answer_status};
 
 use crate::asked::{is_named, octal_number};
 use crate::explaining::MOST_BYTES;
 use crate::map_names::{put_line, put_word, put_words};
 use crate::map_spots::put_byte;
 use crate::program::NAME;
-use crate::source::{Source, explain_refused};
+use crate::source::{Source, refuse};
 use aout_core::{File, Header, Name, Part, Segment, decode_file};
 use disassemblies::{NamedFile, put_disassembly};
 use instructions::Decoder;
@@ -51,29 +52,19 @@ fn answer_status(file: &File, what: &str) -> u8
 
 /// Adds what a file has at an address, in each segment that has it.
 fn put_address(text: &mut Text, named: &NamedFile<'_>, address: u64) -> Result<(), AllocError> {
-    let file = named.file();
-    let header = file.header();
+    let header = named.file().header();
+    let symbols = named.file().symbols();
     let value = (address % 65536) as u16;
+    let start = header.data_start() as u64;
+    let end = start + u64::from(header.data_size);
     if is_within(0, header.text_size, address) {
         put_word(text, named, Part::Text, value, address)?;
     }
-    let start = header.data_start() as u64;
     if is_within(start, header.data_size, address) {
-        put_byte(
-            text,
-            file.symbols(),
-            Segment::DataSeg,
-            "data",
-            address,
-            value,
-        )?;
+        put_byte(text, symbols, "data", address, value)?;
     }
-    if is_within(
-        start + u64::from(header.data_size),
-        header.bss_size,
-        address,
-    ) {
-        put_byte(text, file.symbols(), Segment::BssSeg, "bss", address, value)?;
+    if is_within(end, header.bss_size, address) {
+        put_byte(text, symbols, "bss", address, value)?;
     }
     Ok(())
 }
@@ -114,7 +105,7 @@ fn function_of(alloc: Global, file: &File, what: &str) -> Result<Option<(u16, u1
         (None, Some(address)) if is_within(0, size, address) => {
             let value = (address % 65536) as u16;
             match label_before(alloc, file.symbols(), Segment::TextSeg, value)? {
-                Some(before) => value.saturating_sub(before.bytes),
+                Some(before) => value.saturating_sub(before.offset),
                 None => 0,
             }
         }
@@ -144,25 +135,18 @@ fn put_function(text: &mut Text, file: &File, start: u16, end: u16) -> Result<()
     let mut whole = Text::new(alloc);
     put_disassembly(&mut whole, Decoder::Unix, file);
     let whole = whole.finish()?;
-    let mut labels = Text::new(alloc);
-    let mut is_inside = false;
+    let mut lines = Text::new(alloc);
     for line in whole.split(|byte| *byte == b'\n') {
-        match address_of(line) {
-            Some(address) => {
-                is_inside = u64::from(start) <= address && address < u64::from(end);
-                let before = labels.finish()?;
-                labels = Text::new(alloc);
-                if is_inside {
-                    text.put_bytes(&before);
-                    text.put_bytes(line);
-                    text.put("\n");
-                }
+        if !line.is_empty() {
+            lines.put_bytes(line);
+            lines.put("\n");
+        }
+        if let Some(address) = address_of(line) {
+            let labelled = lines.finish()?;
+            lines = Text::new(alloc);
+            if u64::from(start) <= address && address < u64::from(end) {
+                text.put_bytes(&labelled);
             }
-            None if !line.is_empty() => {
-                labels.put_bytes(line);
-                labels.put("\n");
-            }
-            None => {}
         }
     }
     Ok(())
@@ -175,25 +159,23 @@ fn put_answer(
     what: &str,
     shows_function: bool,
 ) -> Result<(), AllocError> {
-    if shows_function {
-        if let Some((start, end)) = function_of(text.allocator(), file, what)? {
-            return put_function(text, file, start, end);
-        }
+    let alloc = text.allocator();
+    if shows_function && let Some((start, end)) = function_of(alloc, file, what)? {
+        return put_function(text, file, start, end);
     }
-    let named = NamedFile::new(text.allocator(), file)?;
+    let named = NamedFile::new(alloc, file)?;
     let name = Name::from_bytes(what.as_bytes());
+    let address = octal_number(what.as_bytes());
     if is_named(file.symbols(), &name) {
         return put_named(text, &named, &name);
     }
-    match octal_number(what.as_bytes()) {
-        Some(address) if has_address(file.header(), Some(address)) => {
-            put_address(text, &named, address)
-        }
-        _ => {
-            text.say(format_args!("{}: not in the file\n", Printable(what.as_bytes())));
-            Ok(())
-        }
+    if let Some(address) = address
+        && has_address(file.header(), Some(address))
+    {
+        return put_address(text, &named, address);
     }
+    text.say(format_args!("{}: not in the file\n", Printable(what.as_bytes())));
+    Ok(())
 }
 
 /// What a file has of what is asked.
@@ -221,11 +203,11 @@ fn answer_bytes(
     shows_function: bool,
     source: Source<'_>,
 ) -> Result<Answer, AllocError>
-    ensures { IfOk result (λ answer. IsAnswered what.now source.entry.bytes.now answer) }
+    ensures { IfOk result (λ answer. IsAnswered what.now (decode source.entry.bytes.now) answer) }
 {
     match decode_file(alloc, source.bytes)? {
         Ok(file) => answer_of(alloc, what, shows_function, &file),
-        Err(fault) => explain_refused(alloc, None, source, false, fault),
+        Err(fault) => refuse(alloc, None, source, false, fault),
     }
 }
 

@@ -2,15 +2,15 @@
 ghost use Rattle.std.specs.Prelude.{◌≡◌, ◌<◌, [], false, IfOk};
 ghost use Rattle.v7_explain.specs.Files.{IsRefused, status_in};
 
+use crate::listing::{View, put_body};
 use crate::program::NAME;
-use crate::views::{View, put_body};
 use aout_core::{Header, ObjectFault, ReadFault};
-use disassemblies::Sweep;
-use explanations::{put_lines, write_remains};
-use findings::{
+use checks::{
     Finding, FindingKind, KindText, Notes, decode_there, header_of, is_damaged, is_of_gnu,
     likeness, put_finding_text, put_findings, put_header, put_missing, relocs_there, wrong_bytes,
 };
+use disassemblies::Sweep;
+use explanations::{put_lines, write_remains};
 use std::alloc::{AllocError, Global};
 use std::fmt::Display;
 use surroundings::Answer;
@@ -87,14 +87,10 @@ fn finding_for(
     cause: usize,
     first: Finding,
 ) -> Result<Finding, AllocError> {
-    let label = match cause % 4 {
-        1 => "text",
-        2 => "data",
-        _ => "bss",
-    };
+    let label = ["bss", "text", "data", "bss"][cause % 4];
+    let said = first.text.as_slice();
     let mut text = Text::new(alloc);
     text.say(format_args!("{count} words of kind {label} lie outside, the first"));
-    let said = first.text.as_slice();
     text.put_bytes(said.strip_prefix(b"the word".as_slice()).unwrap_or(said));
     let text = text.finish()?;
     Ok(Finding { text, ..first })
@@ -127,11 +123,8 @@ pub(crate) fn by_cause(
 
 /// The findings that are shown one by one, and how many more there are.
 fn shown(found: &[Finding]) -> (&[Finding], usize) {
-    let count = found.len();
-    (
-        &found[..MOST_ODD.min(count)],
-        count.saturating_sub(MOST_ODD),
-    )
+    let count = MOST_ODD.min(found.len());
+    (&found[..count], found.len() - count)
 }
 
 /// Puts what is odd as lines for standard error.
@@ -139,8 +132,7 @@ pub(crate) fn put_odd_lines(lines: &mut Text, path: &str, odd: &[Finding]) {
     let (first, more) = shown(odd);
     put_reports(lines, path, first);
     if more > 0 {
-        put_front(lines, path);
-        lines.say(format_args!("and {more} more that are odd\n"));
+        put_text_line(lines, path, format_args!("and {more} more that are odd"));
     }
 }
 
@@ -171,10 +163,12 @@ pub(crate) fn put_odd(notes: &mut Notes, odd: &[Finding]) {
     }
 }
 
-/// Adds a note with the path and the size.
-fn put_title(notes: &mut Notes, source: Source<'_>) {
+/// A note with the path and the size.
+fn title(alloc: Global, source: Source<'_>) -> Notes {
     let (path, size) = (source.path, source.bytes.len());
+    let mut notes = Notes::new(alloc);
     notes.say(format_args!("{path}: 0{size:o} ({size}) bytes"));
+    notes
 }
 
 /// The notes with which a file begins: the path with the size, and what the file is unless it is damaged.
@@ -184,8 +178,7 @@ pub(crate) fn front_notes(
     header: &Header,
     refused: Option<ObjectFault>,
 ) -> Notes {
-    let mut notes = Notes::new(alloc);
-    put_title(&mut notes, source);
+    let mut notes = title(alloc, source);
     if !is_damaged(refused) {
         notes.say(KindText {
             header,
@@ -203,9 +196,10 @@ fn refused_notes(
     wrong: &[Finding],
 ) -> Result<Notes, AllocError> {
     let known = likeness_of(source.bytes, fault);
-    let mut notes = Notes::new(alloc);
-    put_title(&mut notes, source);
-    if let (None, Some(header)) = (known, header_of(source.bytes)) {
+    let mut notes = title(alloc, source);
+    if known.is_none()
+        && let Some(header) = header_of(source.bytes)
+    {
         put_header(&mut notes, &header);
     }
     put_findings(&mut notes, "wrong", wrong);
@@ -215,6 +209,7 @@ fn refused_notes(
     if is_of_gnu(alloc, source.bytes, true)? {
         notes.say(GNU_NOTE);
     }
+    notes.whole()?;
     Ok(notes)
 }
 
@@ -233,13 +228,12 @@ fn put_remains(
     let Ok(file) = decode_there(alloc, bytes)? else {
         return Ok(());
     };
-    match view {
-        Some(view) => put_body(text, view, &file),
-        None => {
-            let sweep = Sweep::new(alloc, &file)?;
-            let relocs = relocs_there(&header, bytes.len());
-            text.put_bytes(&write_remains(alloc, &sweep, relocs)?);
-        }
+    if let Some(view) = view {
+        put_body(text, view, &file);
+    } else {
+        let sweep = Sweep::new(alloc, &file)?;
+        let relocs = relocs_there(&header, bytes.len());
+        text.put_bytes(&write_remains(alloc, &sweep, relocs)?);
     }
     put_missing(text, &header, bytes.len());
     text.put("\n");
@@ -247,7 +241,7 @@ fn put_remains(
 }
 
 /// Explains bytes that are not a file, and shows what is there of one: in a view, or as a listing.
-pub(crate) fn explain_refused(
+pub(crate) fn refuse(
     alloc: Global,
     view: Option<View>,
     source: Source<'_>,
@@ -257,10 +251,8 @@ pub(crate) fn explain_refused(
     ensures { IfOk result (λ answer. IsRefused is_reported answer) }
 {
     let wrong = wrong_bytes(alloc, source.bytes, fault)?;
-    let notes = refused_notes(alloc, source, fault, &wrong)?;
-    notes.whole()?;
     let mut text = Text::new(alloc);
-    put_lines(&mut text, &notes);
+    put_lines(&mut text, &refused_notes(alloc, source, fault, &wrong)?);
     put_remains(&mut text, view, fault, source.bytes)?;
     Ok(Answer {
         output: text.finish()?,

@@ -1,8 +1,7 @@
 //! The listing of a file, stored in place of being written to standard output.
 ghost use Rattle.v7_explain.specs.Runs.{IsStoring, StoresListing};
 
-use crate::explaining::MOST_BYTES;
-use crate::listing::list;
+use crate::explaining::{MOST_BYTES, Mode, explain};
 use crate::program::NAME;
 use crate::source::Source;
 use std::alloc::Global;
@@ -44,6 +43,6 @@ pub(crate) fn store_listing<O: Office>(
         path,
         bytes: &bytes,
     };
-    let said = list(alloc, source, true)?;
+    let said = explain(alloc, Mode::Listing(true), source)?;
     store(alloc, office, to, said)
 }

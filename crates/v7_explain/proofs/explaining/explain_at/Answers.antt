@@ -3,16 +3,11 @@ use Rattle.v7_explain.proofs.ExplainingLemmas.{explains_none, explains_out, expl
 use Rattle.v7_explain.proofs.explaining.explain_at.Goals as goal
 
 pub returns-in_err-explain-in-Ok : goal.returns-in_err-explain-in-Ok
-returns-in_err-explain-in-Ok g c =
-    explains_out c.args.mode (g.O.Office.history c.args.office.now) (g.O.Office.history c.bytes_for.new.office) c.args.path.now
-    c.in-Ok.bytes.items _ c.in-Ok.ensures.ok (search rules)
+returns-in_err-explain-in-Ok g c = explains_out _ _ _ _ c.in-Ok.bytes.items _ c.in-Ok.ensures.ok (search rules)
 
 pub returns-in-Err-Memory : goal.returns-in-Err-Memory
-returns-in-Err-Memory g c =
-    explains_unread c.args.mode (g.O.Office.history c.args.office.now) (g.O.Office.history c.bytes_for.new.office) c.args.path.now
-    _ c.in-Err-Memory.ensures.err
+returns-in-Err-Memory g c = explains_unread c.args.mode _ _ _ _ c.in-Err-Memory.ensures.err
 
 pub returns-in-Err-Answered : goal.returns-in-Err-Answered
 returns-in-Err-Answered g c =
-    explains_none c.args.mode (g.O.Office.history c.args.office.now) (g.O.Office.history c.bytes_for.new.office) c.args.path.now
-    _ c.in-Err-Answered.answer _ c.in-Err-Answered.field-0-is c.in-Err-Answered.ensures.err (search rules)
+    explains_none c.args.mode _ _ _ _ c.in-Err-Answered.answer _ c.in-Err-Answered.field-0-is c.in-Err-Answered.ensures.err (search rules)

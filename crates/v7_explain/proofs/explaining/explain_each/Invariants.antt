@@ -1,6 +1,6 @@
 use Rattle.std.proofs.Common.{Result, drop, map}
 use Rattle.surroundings.specs.{Answer.Answer, Events.History, declared.answer.Fault.Fault}
-use Rattle.v7_explain.specs.{Joined.nothing_said, Runs.IsExplaining}
+use Rattle.v7_explain.specs.{Files.nothing_said, Runs.IsExplaining}
 use Rattle.v7_explain.proofs.explaining.explain_each.Given as goal
 
 -- what comes of the files that are left comes of all

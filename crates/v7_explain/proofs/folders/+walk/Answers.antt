@@ -1,7 +1,7 @@
-use Rattle.std.proofs.Common.{rules, ◌≡◌, ◌++◌, ◌+◌, ◌-◌, Bool, List, ℕ, drop, map, string_bytes, ap, sym, subst, ◌∙◌, OnOk}
+use Rattle.std.proofs.Common.{rules, ◌≡◌, ◌++◌, ◌+◌, ◌-◌, Bool, List, ℕ, drop, map, string_bytes, ap, refl, sym, subst, ◌∙◌, OnOk}
 use Rattle.std.proofs.lemmas.List.{append-nil, drop_all}
 use Rattle.std.specs.{List.flat_map, Prelude.String, declared.alloc.Global.Global}
-use Rattle.v7_explain.specs.Walks.{Folder, Found, itself_unless, path_in, unnamed_in, walked}
+use Rattle.v7_explain.specs.Walks.{Folder, itself_unless, path_in, unnamed_in, walked}
 use Rattle.v7_explain.proofs.{ExplainingLemmas.paths_left, WalkLemmas.found_more, WalkLemmas.walks_alone, WalkLemmas.walks_through}
 use Rattle.v7_explain.proofs.folders.+walk.Goals as goal
 
@@ -23,7 +23,7 @@ loop-name-preserved g t c = λ at is.
     found_more below (c.add_unless.new.found.items ++ flat_map below (map string_bytes all))
     c.loop-name.found.items c.walk.new.found.items
     (map string_bytes (drop i all)) (map string_bytes (drop (i + 1) all)) (string_bytes name)
-    (c.loop-name.invariant at is) (paths_left all i name c.loop-name-test.true c.name-item.is) more
+    (c.loop-name.invariant at is) (paths_left all i name _ c.loop-name-test.true c.name-item.is refl) more
 
 pub returns : goal.returns
 returns g t c =

@@ -1,6 +1,6 @@
 use Rattle.std.proofs.Common.{rules, ◌∙◌, ap}
 use Rattle.aout_core.specs.WellFormed.{first_object_fault}
-use Rattle.findings.specs.Wrong.{wrong_in}
+use Rattle.checks.specs.Wrong.{wrong_in}
 use Rattle.v7_explain.proofs.FoundLemmas.{untold}
 use Rattle.v7_explain.proofs.listing.list_file.Goals as goal
 

@@ -18,8 +18,8 @@ returns-in-Ld g c =
     (subst (λ files. ((new ≡ old) × (c.map_link.result ≡ Err (Memory refused)))
     ⊎ IsMapping (map string_bytes c.args.asked.now) forced options (map string_bytes files) old new c.map_link.result) same c.map_link.ensures)
 
-pub returns-in_ok-not_of_ld-in_default : goal.returns-in_ok-not_of_ld-in_default
-returns-in_ok-not_of_ld-in_default g c =
+pub returns-in_ok-refused_answer-in_default : goal.returns-in_ok-refused_answer-in_default
+returns-in_ok-refused_answer-in_default g c =
     let old = g.O.Office.history c.args.office.now in
     inr (maps_other (map string_bytes c.args.asked.now) c.args.call.now old old _ c.in_default.not-Ld refl
-    c.in_ok-not_of_ld-in_default.ensures)
+    c.in_ok-refused_answer-in_default.ensures)

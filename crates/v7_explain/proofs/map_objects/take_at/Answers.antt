@@ -18,35 +18,24 @@ returns-clause-taken g c =
     let same : c.deref.result.now ≡ bytes = search rules in
     let named : string_bytes c.in_ok-label.label ≡ c.args.path.now = search rules in
     let grown : all_of after ≡ all_of before ++ x ∷ [] = all_more before after x c.in_ok-take.ensures.taken in
-    takes_object (g.O.Office.history c.args.office.now)
-    (g.O.Office.history c.read_whole.new.office) c.args.path.now bytes object (all_of before) (all_of after)
-    c.in_ok-bytes.ensures.ok (subst (λ b. object_in (decode b) ≡ Ok object) same c.in_ok-object.ensures.ok)
+    takes_object _ _ _ bytes object (all_of before) (all_of after) c.in_ok-bytes.ensures.ok (subst (λ b. object_in (decode b) ≡ Ok object) same c.in_ok-object.ensures.ok)
     (grown ∙ ap (λ path. all_of before ++ record { label = path; object = object } ∷ []) named)
 
 pub returns-clause-split : goal.returns-clause-split
-returns-clause-split g c =
-    λ _ h.
+returns-clause-split g c = λ _ h.
     keeps_split c.args.objects.now c.take.new.self (labelled c.in_ok-label.label c.in_ok-object.object) c.in_ok-take.ensures.taken
     c.take.ensures.forced h
 
 pub returns-in_err-bytes-clause-taken : goal.returns-in_err-bytes-clause-taken
-returns-in_err-bytes-clause-taken g c =
-    takes_unread (g.O.Office.history c.args.office.now) (g.O.Office.history c.read_whole.new.office) c.args.path.now
-    (all_of c.args.objects.now) _ _ c.in_err-bytes.ensures.err (search rules)
+returns-in_err-bytes-clause-taken g c = takes_unread _ _ _ _ _ _ c.in_err-bytes.ensures.err (search rules)
 
 pub returns-in_err-object-clause-taken : goal.returns-in_err-object-clause-taken
 returns-in_err-object-clause-taken g c =
-    let bytes = c.in_ok-bytes.bytes.items in
-    let same : c.deref.result.now ≡ bytes = search rules in
-    takes_none (g.O.Office.history c.args.office.now) (g.O.Office.history c.read_whole.new.office) c.args.path.now bytes
-    c.deref.result.now (all_of c.args.objects.now) _ _ same c.in_ok-bytes.ensures.ok c.in_err-object.ensures.err (search rules)
+    takes_none _ _ _ c.in_ok-bytes.bytes.items c.deref.result.now _ _ _ (search rules) c.in_ok-bytes.ensures.ok c.in_err-object.ensures.err
+    (search rules)
 
 pub returns-in_err-label-clause-taken : goal.returns-in_err-label-clause-taken
-returns-in_err-label-clause-taken g c =
-    takes_out (g.O.Office.history c.args.office.now) (g.O.Office.history c.read_whole.new.office) c.args.path.now
-    c.in_ok-bytes.bytes.items (all_of c.args.objects.now) (all_of c.args.objects.now) _ c.in_ok-bytes.ensures.ok (search rules)
+returns-in_err-label-clause-taken g c = takes_out _ _ _ _ _ _ _ c.in_ok-bytes.ensures.ok (search rules)
 
 pub returns-in_err-take-clause-taken : goal.returns-in_err-take-clause-taken
-returns-in_err-take-clause-taken g c =
-    takes_out (g.O.Office.history c.args.office.now) (g.O.Office.history c.read_whole.new.office) c.args.path.now
-    c.in_ok-bytes.bytes.items (all_of c.args.objects.now) (all_of c.take.new.self) _ c.in_ok-bytes.ensures.ok (search rules)
+returns-in_err-take-clause-taken g c = takes_out _ _ _ _ _ _ _ c.in_ok-bytes.ensures.ok (search rules)

@@ -1,16 +1,16 @@
 use Rattle.std.proofs.Common.{rules, ◌≡◌, refl, subst, inl, inr}
 use Rattle.std.specs.Prelude.{true}
-use Rattle.aout_core.specs.Refusals.{refused}
+use Rattle.aout_core.specs.{Decoding.decode, Refusals.refused}
 use Rattle.surroundings.specs.declared.answer.Fault.TheVariants.{Memory}
-use Rattle.v7_explain.specs.Files.{IsListed}
+use Rattle.v7_explain.specs.{Files.IsSaid, declared.explaining.Mode.TheVariants.Listing}
 use Rattle.v7_explain.proofs.storing.store_listing.Goals as goal
 
 pub returns : goal.returns
 returns g c =
     let between = g.O.Office.history c.read_whole.new.office in
     let same : c.deref.result.now ≡ c.in_ok-bytes.bytes.items = search rules in
-    let said : IsListed true c.in_ok-bytes.bytes.items c.in_ok-said.said =
-    subst (λ bytes. IsListed true bytes c.in_ok-said.said) same c.in_ok-said.ensures in
+    let said : IsSaid (Listing true) c.in_ok-bytes.bytes.items (decode c.in_ok-bytes.bytes.items) c.in_ok-said.said =
+    subst (λ bytes. IsSaid (Listing true) bytes (decode bytes) c.in_ok-said.said) same c.in_ok-said.ensures in
     inr (
       tt,
       g.O.Office.history c.check_output.new.office,
