@@ -130,16 +130,19 @@ function showNotes(state) {
     setText(byId("note"), sentence(state).join(" "));
 }
 
-// brings a row onto the stage, if it is not wholly there: so rows stay where they are, if they can
-function bring(row) {
-    const rooms = [".stage", ".names", ".known", ".side"].map((name) => row?.closest(name)).filter((one) => one && getComputedStyle(one).overflowY === "auto");
-    const [box, room] = [row?.getBoundingClientRect(), rooms[0]?.getBoundingClientRect()];
-    if (!box || !room || (box.top >= room.top && box.bottom <= room.bottom)) return;
-    row.scrollIntoView({ block: box.height > room.height ? "start" : "center" });
+// brings a row onto the stage, if it is not wholly there: so rows stay where they are, if they can. Others come too, if all fit
+function bring(row, others = []) {
+    const room = [".stage", ".names", ".known", ".side"].map((name) => row?.closest(name)).find((one) => one && getComputedStyle(one).overflowY === "auto");
+    if (!room) return;
+    const [box, frame] = [row.getBoundingClientRect(), room.getBoundingClientRect()];
+    if (box.top < frame.top || box.bottom > frame.bottom) row.scrollIntoView({ block: box.height > frame.height ? "start" : "center" });
+    const boxes = [row, ...others].map((one) => one.getBoundingClientRect());
+    const [top, bottom] = [Math.min(...boxes.map((one) => one.top)), Math.max(...boxes.map((one) => one.bottom))];
+    if (bottom - top <= frame.height) room.scrollTop += Math.min(0, top - frame.top) + Math.max(0, bottom - frame.bottom);
 }
 
 // shows the image, and what is chosen in it; rows are kept as long as all that has to be shown is there. Then it brings a row
-// onto the stage, and draws last, when nothing moves any more
+// onto the stage, with the ends of the arrows of a choice, and draws last, when nothing moves any more
 function showChosen(isAnew, lead = () => null) {
     const state = stateNow();
     const changed = changesOf(view);
@@ -149,7 +152,7 @@ function showChosen(isAnew, lead = () => null) {
     const selected = document.querySelectorAll(`[aria-selected=true], [data-key="${CSS.escape(chosen)}"]`);
     for (const row of selected) row.setAttribute("aria-selected", String(row.dataset.key === chosen));
     setActive();
-    bring(lead());
+    bring(lead(), chosen ? drawn.arrows.flatMap(({ rows, key }) => [key, ...rows]) : []);
     draw();
 }
 

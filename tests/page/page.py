@@ -2,10 +2,10 @@
 objects (tests/page/page_states.py), and what it says with a model (page_model.py). Then it looks at the layout in many sizes
 (page_layout.py), takes the tour and the lessons by keys alone (page_use.py), and measures the stage (page_stage.py) with the sixteen
 compiled objects of tests/page/data and with the examples: model, layout and stage in Firefox too, if it is installed. The
-pictures of docs/pictures are compared with the page. Faults are planted (page_planted.py), and have to be found. No other script starts a browser.
+pictures of docs/pictures are compared with the page. No other script starts a browser.
 
 usage: python3 -m tests.page.page [-j JOBS] [-s SEED] [PART..]     all parts or these, so many side by side; the seed puts the sixteen objects into an order
-       the parts: firefox, layout, stage, planted, states, model, use; and pictures, which writes docs/pictures anew
+       the parts: firefox, layout, stage, states, model, use; and pictures, which writes docs/pictures anew
 tier: all, 1500 seconds; words: -j 4; programs: v7 v7-lesson v7-explain; for: crates/v7_lesson page examples/lessons.txt docs/pictures; needs: chromium chromedriver selenium firefox-esr
 """
 import argparse
@@ -22,7 +22,6 @@ from tests.lib.programs import ran
 from tests.page import page_model, page_use
 from tests.page.page_browser import Chromium, Firefox, firefox
 from tests.page.page_layout import FIREFOX_SIZES, PICTURES, SIZES as LAYOUT_SIZES, compare_pictures, look_at_states, look_everywhere, look_on_paper, look_with_instructions, make_pictures
-from tests.page.page_planted import plant_all
 from tests.page.page_stage import SIZES, response, stage, steps
 from tests.page.page_states import compare_states
 from tests.page.page_tools import CLASS, FIVE, IN_C, SIXTEEN, TABLES, Tools, faults, lessons_of, planted, report, same
@@ -140,7 +139,7 @@ def pictures(_, page, given):
 
 # the parts, the longest first; all but the first are in Chromium
 PARTS = {
-    "firefox": in_firefox, "layout": layouts, "stage": stages, "planted": lambda tools, page, given: plant_all(tools, page, given.pages), "states": states,
+    "firefox": in_firefox, "layout": layouts, "stage": stages, "states": states,
     "model": lambda tools, page, given: checked(tools, page, given.pages, page_model.CHECKS), "use": lambda tools, page, given: checked(tools, page, given.pages, page_use.CHECKS)}
 
 

@@ -16,7 +16,7 @@ import asm  # of examples
 from tests.lib.compare import notices
 from tests.lib.files import TOP, read, read_bytes, write
 from tests.lib.objects import unpack
-from tests.lib.programs import ran
+from tests.lib.programs import FAULTS, ran
 from tests.page.page_lessons import bad_questions, lesson_answers, questions_of_all_kinds, remarks, states_in
 from tests.page.page_tools import (CLASS, FIVE, IN_C, LAYOUTS, PARTS, SEGMENTS, SIXTEEN, TABLES, WORD, Tools, addend_said, known_as, lessons_of, object_of, planted, report,
                                    same, size_said, words_of)
@@ -267,7 +267,7 @@ def branches_in(file, instructions, references):
 def refusals(tools, files):
     """Bad files, and a page that is too large: the fault's own text, no page, status 2."""
     cut = write(f"{tools.room}/cut.o", read_bytes(files[0])[:-5])
-    for path, text in ((cut, "truncated"), (os.path.join(tools.room, "nothing.o"), "cannot open"), (tools.lesson, "bad magic number")):
+    for path, text in ((cut, "truncated"), (os.path.join(tools.room, "nothing.o"), FAULTS["open"]), (tools.lesson, "bad magic number")):
         same(f"{path}", ran(tools.lesson, "-p", tools.page, files[0], path).texts("utf-8"), (2, "", f"v7-lesson: {path}: {text}\n"))
     for words in ([], ["-p"], ["-p", tools.page], ["-p", tools.page, "-q", files[0]], ["-n", files[0]], ["-n", "0", files[0]], ["-n", "3", files[0]],
                   ["-x", files[0]]):
@@ -292,6 +292,14 @@ def full(tools, files):
     refused = [(state["list"], state["object"], state["refused"]) for state in data["states"] if "refused" in state]
     same("refused", refused, [([0], [1], "text full"), ([1], [0], "text full")])
     return path
+
+
+def listing_beside(tools, files):
+    """A listing beside an object, whose comments have the object's numbers, is not read."""
+    given = [write(f"{tools.room}/listed.o", read_bytes(files[0]))]
+    alone = read(tools.page_of(given))
+    write(f"{tools.room}/listed.lst", read(f"{files[0][:-2]}.lst"))
+    same("a page with a listing beside its object is another one", read(tools.page_of(given)) != alone, False)
 
 
 def counts(tools, files):
@@ -343,7 +351,7 @@ def check_data(tools):
     """All that needs no browser."""
     long_names(tools)
     scripts(tools.page)
-    for check in (refusals, largest_page, full, bad_questions, questions_of_all_kinds, counts):
+    for check in (refusals, largest_page, full, listing_beside, bad_questions, questions_of_all_kinds, counts):
         check(tools, CLASS)
     for files in (IN_C, TABLES):
         same_objects(os.path.dirname(files[0]))

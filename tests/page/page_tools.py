@@ -37,15 +37,6 @@ def same(what, shown, wanted):
         faults.append(f"{what}\n  the page: {shown}\n  wanted:   {wanted}")
 
 
-def faults_of(measure, *words):
-    """The faults that a measure finds, which count as none."""
-    kept = len(faults)
-    measure(*words)
-    found = faults[kept:]
-    del faults[kept:]
-    return found
-
-
 def planted():
     """Compares what differs."""
     same("planted", "", "planted")

@@ -362,9 +362,9 @@ return { rows: rows.length, roles: rows.filter((row) => row.getAttribute("role")
 """
 
 
-def old_browser(_, page, __, more=""):
+def old_browser(_, page, __):
     """The oldest browsers, by taking away what they lack: words have roles and labels, and can be chosen."""
-    kept, path = page.before_loading(OLD + more), page.url.removeprefix("file://")
+    kept, path = page.before_loading(OLD), page.url.removeprefix("file://")
     page.load(path)
     page.open("#objects=1,2")
     page.type("3", "w")
