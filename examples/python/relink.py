@@ -1,6 +1,7 @@
 """Links the objects of a folder, in the order of their names, whenever one of them changes: python3 relink.py OUT FOLDER.
 
 The session keeps what is linked. After a change it withdraws the objects from the first that changed on, and adds them again."""
+import contextlib
 import os
 import sys
 import time
@@ -9,9 +10,14 @@ import v7
 
 
 def seen(folder):
-    """The objects of a folder, each with what changes when it is written."""
-    paths = sorted(os.path.join(folder, name) for name in os.listdir(folder) if name.endswith(".o"))
-    return [(path, os.stat(path).st_mtime_ns, os.stat(path).st_size) for path in paths]
+    """The objects of a folder, each with what changes when it is written. One that goes away meanwhile is not among them."""
+    found = []
+    for name in sorted(name for name in os.listdir(folder) if name.endswith(".o")):
+        path = os.path.join(folder, name)
+        with contextlib.suppress(FileNotFoundError):
+            status = os.stat(path)
+            found.append((path, status.st_mtime_ns, status.st_size))
+    return found
 
 
 def same_so_far(old, new):

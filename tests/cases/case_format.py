@@ -2,6 +2,8 @@
 import re
 from dataclasses import dataclass, field
 
+from tests.lib.programs import FAULTS
+
 PROGRAMS = (b"v7", b"v7-explain", b"v7-from-gnu", b"v7-lesson", b"v7-object")
 
 
@@ -58,6 +60,7 @@ class Case:
 
 # --- texts and words
 
+FAULT = re.compile(r"\\\{(\w+)\}")
 TIMES = re.compile(r"\\\*([0-9]+)\(([^)]*)\)")
 ESCAPE = re.compile(r"\\([0-3][0-7][0-7])?")
 WORD = re.compile(r"(?:'([^']*)'|([^ ']+))(?: +|$)")
@@ -69,7 +72,8 @@ def numbered(text, number):
 
 
 def spread(text):
-    """The text with each repetition written out."""
+    """The text with the words of each fault, and then each repetition, written out."""
+    text = FAULT.sub(lambda found: FAULTS.get(found[1], found[0]), text)
     return TIMES.sub(lambda found: "".join(numbered(found[2], number) for number in range(int(found[1]))), text)
 
 

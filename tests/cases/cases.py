@@ -10,7 +10,7 @@ The programs are in build/, or in the folder V7_BUILD. A command has 60 seconds,
 
 tier: text, 1 seconds; words: -s; for: tests/cases/data examples
 tier: test, 20 seconds; programs: v7 v7-explain v7-object v7-from-gnu v7-lesson library_uses; words: -b; for: tests/cases docs/CASES.md
-tier: check, 120 seconds; programs: v7 v7-explain v7-object v7-from-gnu v7-lesson library_uses; for: tests/cases docs/CASES.md
+tier: check, 120 seconds; programs: v7 v7-explain v7-object v7-from-gnu v7-lesson library_uses; for: tests/cases docs/CASES.md tests/lib/faults
 tier: check, 20 seconds; programs: v7 v7-explain v7-object v7-from-gnu v7-lesson library_uses; words: -b; for: tests/cases docs/CASES.md
 """
 import collections

@@ -5,9 +5,11 @@ import subprocess
 import sys
 from typing import NamedTuple
 
-from tests import TOP
+from tests.lib.files import TOP, read
 
 BUILD = os.environ.get("V7_BUILD") or os.path.join(TOP, "build")
+# the words of the faults that every program has, by the names by which cases cite them
+FAULTS = dict(line.split(" ", 1) for line in read(f"{TOP}/tests/lib/faults").splitlines())
 
 
 class Ran(NamedTuple):

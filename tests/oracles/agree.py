@@ -29,7 +29,7 @@ from dataclasses import dataclass
 from tests.lib.compare import Differs, notices, same
 from tests.lib.files import TOP, read_bytes, room, write
 from tests.lib.objects import pack
-from tests.lib.programs import program, ran
+from tests.lib.programs import FAULTS, program, ran
 from tests.lib.programs import v7 as library
 from tests.oracles import model
 
@@ -42,14 +42,14 @@ NUMBERS = (0, 1, 2, 5, 0o20000, 0o77776, 0o100000, 0o177776, 0o177777)
 
 COUNTS = {'link': 2000, 'session': 500, 'damaged': 500}
 # What has to occur at least once in a whole run
-LOADS = ['cannot open', 'read error', 'short header', 'bad magic number', 'odd size', 'truncated']
+LOADS = [FAULTS['open'], FAULTS['read'], 'short header', 'bad magic number', 'odd size', 'truncated']
 OBJECTS = ['not an object', 'no relocation', 'bad relocation at word N', 'bad symbol number at word N']
 LIMITS = ['text full', 'data full', 'bss full', 'does not fit', 'too many symbols', 'symbol number too large']
 REPORTS = ['Multiply defined', 'Entry point not in text', 'Undefined:']
 ANSWERS = ['added', 'withdrew', 'linked 0', 'linked 1', 'bad command', 'nothing to withdraw',
-           'cannot create', 'write error', 'line too long', 'usage']
+           FAULTS['create'], FAULTS['write'], 'line too long', 'usage']
 EXPECTED = {
-    'link': [*REPORTS, *LOADS, *OBJECTS, *LIMITS, 'usage', 'cannot create', 'write error'],
+    'link': [*REPORTS, *LOADS, *OBJECTS, *LIMITS, 'usage', FAULTS['create'], FAULTS['write']],
     'session': [*ANSWERS, *REPORTS, *LOADS, *OBJECTS, *LIMITS],
     'damaged': [*LOADS[2:], *OBJECTS],
 }

@@ -391,7 +391,7 @@ class File:
         return any(reloc & 0o16 > 0o10 or reloc & 0o16 == 0o10 and reloc >> 4 not in undefined for reloc in relocs)
 
     def said(self, address, word, relocation):
-        """What a listing says of a word that begins no instruction, by its relocation word."""
+        """What a listing says of a word of data by its relocation word."""
         number, kind = (word + (address + 2 if relocation & 1 else 0)) & 0o177777, relocation >> 1 & 7
         if kind > 4:
             return "no kind of relocation"
@@ -424,11 +424,8 @@ class File:
             lines += self.labels(2 * place, length)
             for number in range(place, place + length):
                 relocation, word = self.relocation and self.relocation[number], self.words[number]
-                said = text + (self.remarks(place) if relocation is None else "") if number == place else ""
-                if number != place and relocation is not None:
-                    said = self.said(2 * number, word, relocation)
-                # the digits of a word that begins no instruction
-                said = re.sub("^[0-7]{6}(?: |$)", "", said)
+                # without the digits of a word that begins no instruction
+                said = re.sub("^[0-7]{6}(?: |$)", "", text + self.remarks(place)) if number == place else ""
                 lines.append(self.row(2 * number, word, relocation, said))
             place += length
         lines += self.labels(2 * place, 0) + ["data"]

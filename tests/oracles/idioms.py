@@ -2,7 +2,7 @@
 tests/oracles/right are made already, by GNU's assembler and by hand: objects.txt there says what is right about each. `v7 ld` takes each,
 and has nothing to report. `v7-explain -c` says nothing of it for sure.
 
-tier: check, 5 seconds; programs: v7 v7-object v7-explain; for: tests/oracles/data examples/asm.py crates/suspicions crates/findings
+tier: check, 5 seconds; programs: v7 v7-object v7-explain; for: tests/oracles/data examples/asm.py crates/checks
 """
 import glob
 import os

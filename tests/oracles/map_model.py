@@ -61,14 +61,14 @@ def line_starts(text):
 
 
 def label_before(symbols, segment, address):
-    """The nearest label up to an address, and the bytes beyond it; in text that of a function before others."""
-    best, best_is_function = None, False
-    for symbol in symbols:
-        if symbol.segment != segment or symbol.value > address:
-            continue
-        is_function = segment == model.TEXT and bool(symbol.type & model.EXTERNAL or symbol.name.startswith(b"_"))
-        if best is None or (is_function, symbol.value) > (best_is_function, best.value):
-            best, best_is_function = symbol, is_function
+    """The nearest label up to an address, and the bytes beyond it; in text that of a function before others. Of several at one address it
+    is an external, or else the first."""
+
+    def rank(symbol):
+        is_external = bool(symbol.type & model.EXTERNAL)
+        return segment == model.TEXT and (is_external or symbol.name.startswith(b"_")), symbol.value, is_external
+
+    best = max((it for it in symbols if it.segment == segment and it.value <= address), key=rank, default=None)
     return (text(best.name), address - best.value) if best else (None, 0)
 
 

@@ -1,6 +1,6 @@
 """Plants mistakes of assemblers in right objects, and compares what v7-explain says of them with tests/oracles/suspicions.py.
 
-tier: check, 120 seconds; programs: v7-explain; for: crates/suspicions crates/findings
+tier: check, 120 seconds; programs: v7-explain; for: crates/checks
 
 The right objects are those of examples/ and of the page, and 300 that are made here. `-c` may say nothing sure of any of them, and no line
 at all of one that a compiler wrote, with `-t` too; idioms.py has more of them.

@@ -16,6 +16,8 @@ import sys
 from contextlib import contextmanager
 from dataclasses import dataclass, replace
 
+from tests.lib.programs import FAULTS
+
 # The types of symbols. Those of a segment, and ABSOLUTE, also name what a word refers to.
 UNDEFINED, ABSOLUTE, TEXT, DATA, BSS = range(5)
 REGISTER, FILE_NAME, EXTERNAL = 0o24, 0o37, 0o40
@@ -286,9 +288,9 @@ def refusing(text):
 def load(path, read):
     """What the function reads from the bytes at the path."""
     try:
-        with refusing('cannot open'):
+        with refusing(FAULTS['open']):
             os.close(os.open(path, os.O_RDONLY))
-        with refusing('read error'), open(path, 'rb') as file:
+        with refusing(FAULTS['read']), open(path, 'rb') as file:
             contents = file.read()
         return read(contents)
     except Refused as refusal:
@@ -300,8 +302,8 @@ def add_object(merged, path):
     load(path, lambda contents: merged.append(read_object(contents)))
 
 
-def store(path, file, write_error='write error'):
-    with refusing(f'{path}: cannot create'):
+def store(path, file, write_error=FAULTS['write']):
+    with refusing(f"{path}: {FAULTS['create']}"):
         output = open(path, 'wb', buffering=0)
     with refusing(write_error), output:
         output.write(write_file(file))
@@ -358,7 +360,7 @@ def ld(given, lines, _script):
     if not arguments.paths:
         raise Refused('usage')
     for path in arguments.paths:        # all are opened before the first is read
-        with refusing(f'{path}: cannot open'):
+        with refusing(f"{path}: {FAULTS['open']}"):
             os.close(os.open(path, os.O_RDONLY))
     merged = Merged([], arguments.forced)
     for path in arguments.paths:
@@ -454,7 +456,7 @@ class Session:
 
     def link(self, path):
         link = Link(self.states[-1], self.arguments)
-        store(path, link.file, f'{path}: write error')
+        store(path, link.file, f"{path}: {FAULTS['write']}")
         status = 1 if link.report else 0
         self.status |= status
         return link.report + [f'linked {path} {status}'.encode()]

@@ -2,7 +2,7 @@
 v7-explain(1). What is odd of instructions is left to mistakes.py; here `-c` has to say of it what the listing says. A session of v7
 has to add what is called an object, and to answer what is noted of another file.
 
-tier: check, 100 seconds; programs: v7-explain v7 v7-object; for: crates/findings crates/suspicions crates/explanations crates/v7_explain docs/FORMAT.md man/v7-explain.1
+tier: check, 100 seconds; programs: v7-explain v7 v7-object; for: crates/checks crates/explanations crates/v7_explain docs/FORMAT.md man/v7-explain.1
 
 The files are made, the same in each run: objects whose numbers are at the edges of their ranges and beside them, and one file cut
 at each byte. There are objects with 15 to 18 bad relocation words, files with other magic numbers, flags and sizes, files of other forms,
@@ -93,10 +93,10 @@ class File:
 
 def labelled(file, address):
     """An address of text, with the nearest symbol of text at it or before it."""
-    labels = [(value, name) for name, _, kind, value in file.symbols() if kind & 0o37 == 2 and value <= address]
+    labels = [(value, kind & 0o40, name) for name, _, kind, value in file.symbols() if kind & 0o37 == 2 and value <= address]
     if not labels:
         return f"{address:06o}"
-    value, name = max(labels, key=lambda label: label[0])
+    value, _, name = max(labels, key=lambda label: label[:2])
     return f"{address:06o} ({shown(name)}{f'+{address - value:o}' if value < address else ''})"
 
 

@@ -32,6 +32,7 @@ WANTED = [
     ("v7 ld -o pri", ["print.lst", "print.o", "print.s"]),
     ("v7 ld -e ma", []),
     ("v7 session ma", []),
+    ("v7 session -", "--help -X -d -e -i -n -r -s -u -x".split()),
     ("v7 nm squ", ["squares.gnu", "squares.s"]),
     ("v7 size -x to", ["total"]),
     ("v7-explain -o main", ["main.lst"]),

@@ -2,13 +2,14 @@
 
 tier: check, 2 seconds; programs: v7; for: examples
 
-The session is examples/session.txt, whose answers have to be those of examples/answers.txt; the program has to be examples/ab.out.
+The session is examples/session.txt, whose answers have to be those of examples/README.md; the program has to be examples/ab.out.
 """
 import os
 import subprocess
 import sys
+import textwrap
 
-from tests.lib.files import read_bytes, room
+from tests.lib.files import read, read_bytes, room
 from tests.lib.programs import program
 
 
@@ -33,8 +34,8 @@ def shell(*words):
 def main():
     with room("examples"):
         os.mkdir("../build")
-        if session().encode() != read_bytes("answers.txt"):
-            sys.exit("the answers are not those of examples/answers.txt")
+        if textwrap.indent(session(), "    ") not in read("README.md"):
+            sys.exit("the answers are not those of examples/README.md")
         status = shell("ld", "-s", "-o", "program", "a.o", "b.o") or shell("size", "program")
         linked = read_bytes("program")
         if status or linked != read_bytes("ab.out"):

@@ -11,7 +11,7 @@ import sys
 
 from tests.lib.compare import notices, same
 from tests.lib.files import room, write
-from tests.lib.programs import program, ran
+from tests.lib.programs import FAULTS, program, ran
 
 DEEP = 2100
 COLUMNS = "      -      -      -      -      -  -                  "
@@ -53,7 +53,7 @@ def every_kind():
         print("not tried without root: a device in a folder")
     # in the order of what is shown: a backslash comes before an r
     found += [("not UTF-8", "\\377"), ("not UTF-8", "r\\351.o")]
-    errors = ["v7-explain: kinds/%s: cannot open" % path for kind, path in found if kind == "not UTF-8"]
+    errors = [f"v7-explain: kinds/{path}: {FAULTS['open']}" for kind, path in found if kind == "not UTF-8"]
     same("every kind", rows("-l", "-R", "kinds"), (2, [(kind, "kinds/" + path) for kind, path in found], errors))
     os.chdir("kinds")
     same("every kind, here", rows("-l", "-R", ".")[:2], (2, [(kind, "./" + path) for kind, path in found]))
@@ -64,7 +64,7 @@ def every_kind():
     same("named", rows("-l", *[path for _, path in special], "kinds/z"), (0, [*special, ("text", "kinds/z")], []))
     for option in ([], ["-c"], ["-d"], ["-s"], ["-m"], ["-o", "out"]):
         for _, path in special:
-            same(f"{option} {path}", rows(*option, path), (2, [], ["v7-explain: %s: cannot open" % path]))
+            same(f"{option} {path}", rows(*option, path), (2, [], [f"v7-explain: {path}: {FAULTS['open']}"]))
     # a link is followed
     given = subprocess.run([EXPLAIN, "-l", "/dev/stdin"], stdout=subprocess.PIPE, input=b"a text of a pipe", timeout=60, check=True)
     same("a pipe", given.stdout.decode(), "%-12s%s%s\n" % ("text", COLUMNS, "/dev/stdin"))
@@ -84,13 +84,13 @@ def main():
     os.symlink("nowhere", b"some/lost")
     same("links", inventory("some"), (0, found, []))
     os.symlink("some", b"to")
-    same("a link", inventory("to", "to/"), (2, [path.replace("some", "to") for path in found], ["v7-explain: to: read error"]))
+    same("a link", inventory("to", "to/"), (2, [path.replace("some", "to") for path in found], ["v7-explain: to: " + FAULTS["read"]]))
     same("a link to a file", inventory("some/link"), (0, ["some/link"], []))
 
     every_kind()
     if os.getuid() != 0:
         os.chmod("some/b", 0)
-        same("no permission", inventory("some"), (2, [path for path in found if path != "some/b/c"], ["v7-explain: some/b: cannot open"]))
+        same("no permission", inventory("some"), (2, [path for path in found if path != "some/b/c"], ["v7-explain: some/b: " + FAULTS["open"]]))
         os.chmod("some/b", 0o700)
 
     top = os.open(".", os.O_RDONLY)

@@ -5,7 +5,7 @@ tools and libv7 give is that of tests/oracles/model.py, instructions are those o
 tests/oracles/notes.py; of rows, maps and lessons the words and the names are counted.
 
 usage: python3 -m tests.programs.largest [ROW ..]      all rows of the table, or these: 'v7-explain -m, objects'
-tier: check, 120 seconds; programs: v7 v7-explain v7-object v7-from-gnu v7-lesson libv7.so; for: crates/suspicions crates/link_maps crates/library_calls
+tier: check, 120 seconds; programs: v7 v7-explain v7-object v7-from-gnu v7-lesson libv7.so; for: crates/checks crates/link_maps crates/library_calls
 """
 import dataclasses
 import multiprocessing

@@ -26,13 +26,11 @@ from tests.cases.case_files import sample
 from tests.cases.cases import snapshot
 from tests.lib.compare import Differs, notices, same
 from tests.lib.files import TOP, read_bytes, write
-from tests.lib.programs import program
+from tests.lib.programs import FAULTS, program
 from tests.lib.watching import Watch
 
 SECONDS = 60
-NO_MEMORY = b"no memory\n"
-# the line of the fault, of a program that says where it was
-FAULTS = {"v7-lesson": r"v7-lesson: (.+: )?no memory\n"}
+NO_MEMORY = FAULTS["memory"].encode() + b"\n"
 
 
 @dataclass
@@ -157,7 +155,9 @@ class Command:
     def place(self, ran):
         """Judges a run in which a request was refused: how far it went."""
         same("status", ran.status, 2)
-        if not re.fullmatch(FAULTS.get(self.call.words[0], rf"{self.call.words[0]}: no memory\n"), os.fsdecode(ran.error)):
+        name = self.call.words[0]
+        # the lesson says where it was
+        if not re.fullmatch(f"{name}: {'(.+: )?' * (name == 'v7-lesson')}{FAULTS['memory']}\n", os.fsdecode(ran.error)):
             raise Differs(f"standard error: {ran.error!r}")
         if not self.whole.output.startswith(ran.output) or len(ran.output) not in self.beginnings:
             raise Differs(f"standard output has a part of an answer: {ran.output[-80:]!r}")

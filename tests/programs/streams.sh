@@ -52,6 +52,11 @@ same() {
     cmp "$1" "$2" >differs 2>&1 || fail "$(cat differs)"
 }
 
+# the words of a fault
+fault_words() {
+    sed -n "s/^$1 //p" "$top/tests/lib/faults"
+}
+
 # both report a difference that is planted
 status=0
 echo planted >fault
@@ -68,7 +73,7 @@ tried 'strip' 0 '' "$v7" strip stripped
 
 # more files than may be open: no output is made
 (ulimit -n 64 && exec "$v7" ld -o out main.o $(yes twice.o | head -n 99)) >answers 2>fault; status=$?
-expect 'too many files' 2 'v7: twice.o: cannot open'
+expect 'too many files' 2 "v7: twice.o: $(fault_words open)"
 [ ! -e out ] || fail 'too many files: an output is there'
 
 # the folder that is to hold standard input can't be opened: two streams are open, and no more may be
@@ -76,7 +81,7 @@ if [ "$(head -c 2 "$v7")" = '#!' ]; then
     echo 'skipped: no folder to hold a stream, as a script starts the programs of make quick'
 else
     (ulimit -n 1 && exec "$v7" nm main.o) <&- >answers 2>fault; status=$?
-    expect 'no folder to hold a stream' 2 'v7: /: cannot open'
+    expect 'no folder to hold a stream' 2 "v7: /: $(fault_words open)"
     same answers /dev/null
     # the stack that TRUST names is enough
     stack=$(sed -n 's/.* \([0-9]*\) kB of stack.*/\1/p' "$top/docs/TRUST.md")
@@ -89,26 +94,26 @@ fi
 # a device that is full
 if [ -c /dev/full ]; then
     for tool in nm size; do
-        tried "$tool, device full" 2 'v7: write error' "$v7" $tool main.o >/dev/full
+        tried "$tool, device full" 2 "v7: $(fault_words write)" "$v7" $tool main.o >/dev/full
     done
-    printf 'add main.o\nlink out\n' | tried 'session, device full' 2 'v7: write error' "$v7" session >/dev/full
+    printf 'add main.o\nlink out\n' | tried 'session, device full' 2 "v7: $(fault_words write)" "$v7" session >/dev/full
     [ ! -e out ] || fail 'session, device full: it went on'
     printf 'link /dev/full\nwithdraw\n' | tried 'session, a link to a full device' 1 '' "$v7" session >answers
-    printf '/dev/full: write error\nnothing to withdraw\n' | same - answers
+    printf '/dev/full: %s\nnothing to withdraw\n' "$(fault_words write)" | same - answers
 fi
 
 # standard output closed
-tried 'ld with a report, output closed' 2 'v7: write error' "$v7" ld -o out main.o count.o >&-
+tried 'ld with a report, output closed' 2 "v7: $(fault_words write)" "$v7" ld -o out main.o count.o >&-
 same out reported
 tried 'ld without one, output closed' 0 '' "$v7" ld -o out main.o twice.o count.o >&-
 same out whole
 tried 'strip, output closed' 0 '' "$v7" strip out >&-
 same out stripped
 for tool in nm size; do
-    tried "$tool, output closed" 2 'v7: write error' "$v7" $tool main.o >&-
+    tried "$tool, output closed" 2 "v7: $(fault_words write)" "$v7" $tool main.o >&-
 done
 rm out
-printf 'add main.o\nlink out\n' | tried 'session, output closed' 2 'v7: write error' "$v7" session >&-
+printf 'add main.o\nlink out\n' | tried 'session, output closed' 2 "v7: $(fault_words write)" "$v7" session >&-
 [ ! -e out ] || fail 'session, output closed: it went on'
 
 # standard input closed
@@ -123,14 +128,14 @@ PATH=$build:$PATH
 tried 'v7-explain' 0 '' v7-explain main.o >listing
 tried 'v7-from-gnu' 0 '' v7-from-gnu squares.gnu converted
 for letter in '' -d -l -s -m '-y _main'; do
-    tried "v7-explain $letter, output closed" 2 'v7-explain: write error' v7-explain $letter main.o >&-
+    tried "v7-explain $letter, output closed" 2 "v7-explain: $(fault_words write)" v7-explain $letter main.o >&-
 done
 tried 'v7-explain -c, output closed' 1 'v7-explain: reported: a program; relocation removed, so ld cannot link it again' v7-explain -c reported >&-
-tried 'v7-lesson, output closed' 2 'v7-lesson: write error' v7-lesson main.o >&-
+tried 'v7-lesson, output closed' 2 "v7-lesson: $(fault_words write)" v7-lesson main.o >&-
 if [ -c /dev/full ]; then
-    tried 'v7-explain, device full' 2 'v7-explain: write error' v7-explain main.o >/dev/full
-    tried 'v7-explain -o, device full' 2 'v7-explain: /dev/full: write error' v7-explain -o /dev/full main.o >answers
-    tried 'v7-lesson, device full' 2 'v7-lesson: write error' v7-lesson main.o >/dev/full
+    tried 'v7-explain, device full' 2 "v7-explain: $(fault_words write)" v7-explain main.o >/dev/full
+    tried 'v7-explain -o, device full' 2 "v7-explain: /dev/full: $(fault_words write)" v7-explain -o /dev/full main.o >answers
+    tried 'v7-lesson, device full' 2 "v7-lesson: $(fault_words write)" v7-lesson main.o >/dev/full
 fi
 
 # an output that is the input is refused, whatever its path is: the input stays as it was
@@ -199,7 +204,7 @@ if (ulimit -v 200000 && exec v7-explain main.o) >answers 2>fault; then
         tried "$words" 2 "v7-lesson: ${file##* }: file too long" limited $words >answers
     done
     for words in v7-explain 'v7-explain -c' 'v7-explain -o out' 'v7-explain -m'; do
-        tried "$words zero" 2 'v7-explain: zero: cannot open' limited $words zero >answers
+        tried "$words zero" 2 "v7-explain: zero: $(fault_words open)" limited $words zero >answers
         tried "$words large" 2 'v7-explain: large: file too long' limited $words large >answers
         tr '\0' x <zero | tried "$words, a pipe" 2 'v7-explain: /dev/stdin: file too long' limited $words /dev/stdin >answers
     done
@@ -229,17 +234,17 @@ same out reported
 # a descriptor by a path the system has to have /dev/fd
 [ -d /dev/fd ] || { [ ! -e failed ]; exit; }
 rm out
-tried 'descriptor 0' 2 'v7: /dev/fd/0: read error' "$v7" ld -o out main.o /dev/fd/0 <&- >answers
-tried 'descriptor 1' 2 'v7: /dev/fd/1: read error' "$v7" ld -o out main.o /dev/fd/1 >&-
+tried 'descriptor 0' 2 "v7: /dev/fd/0: $(fault_words read)" "$v7" ld -o out main.o /dev/fd/0 <&- >answers
+tried 'descriptor 1' 2 "v7: /dev/fd/1: $(fault_words read)" "$v7" ld -o out main.o /dev/fd/1 >&-
 "$v7" ld -o out main.o /dev/fd/2 >answers 2>&-; ended 'descriptor 2' 2
 for descriptor in 0 1 2; do
     "$v7" ld -o out main.o /dev/fd/$descriptor <&- >&- 2>&-; ended "descriptor $descriptor, all closed" 2
 done
 # the other programs hold them too
-tried 'v7-explain, descriptor 0' 2 'v7-explain: /dev/fd/0: read error' v7-explain main.o /dev/fd/0 <&- >answers
-tried 'v7-explain, descriptor 1' 2 'v7-explain: /dev/fd/1: read error' v7-explain -o out /dev/fd/1 >&-
-tried 'v7-object, descriptor 0' 2 'v7-object: /dev/fd/0: read error' v7-object /dev/fd/0 out <&- >answers
-tried 'v7-from-gnu, descriptor 1' 2 'v7-from-gnu: /dev/fd/1: read error' v7-from-gnu /dev/fd/1 out >&-
+tried 'v7-explain, descriptor 0' 2 "v7-explain: /dev/fd/0: $(fault_words read)" v7-explain main.o /dev/fd/0 <&- >answers
+tried 'v7-explain, descriptor 1' 2 "v7-explain: /dev/fd/1: $(fault_words read)" v7-explain -o out /dev/fd/1 >&-
+tried 'v7-object, descriptor 0' 2 "v7-object: /dev/fd/0: $(fault_words read)" v7-object /dev/fd/0 out <&- >answers
+tried 'v7-from-gnu, descriptor 1' 2 "v7-from-gnu: /dev/fd/1: $(fault_words read)" v7-from-gnu /dev/fd/1 out >&-
 for descriptor in 0 1 2; do
     v7-explain /dev/fd/$descriptor <&- >&- 2>&-; ended "v7-explain, descriptor $descriptor, all closed" 2
     v7-object /dev/fd/$descriptor out <&- >&- 2>&-; ended "v7-object, descriptor $descriptor, all closed" 2

@@ -16,7 +16,7 @@ import subprocess
 
 from tests.lib.compare import notices, same
 from tests.lib.files import TOP, read, room, write
-from tests.lib.programs import program, ran
+from tests.lib.programs import FAULTS, program, ran
 
 TOOLS = ["ld", "nm", "session", "size", "strip"]
 SECONDS = 10
@@ -104,11 +104,11 @@ SESSION = [
     (" help ", COMMANDS),
     ("list", "main.o\n"),
     ("add twice.o", "added twice.o\n"),
-    ("add " + "x" * 600, "x" * 600 + ": cannot open\n"),
+    ("add " + "x" * 600, "x" * 600 + f": {FAULTS['open']}\n"),
     (" list ", "main.o\ntwice.o\n"),
     ("link program", "linked program 0\n"),
     ("withdraw", "withdrew twice.o\n"),
-    ("add added", "added: cannot open\n"),
+    ("add added", f"added: {FAULTS['open']}\n"),
     # an answer as long as that of an addition
     ("add \udcffabcd", "bad command\n"),
     ("list", "main.o\n"),
@@ -334,9 +334,9 @@ def check_hints():
     """A file that is not an a.out file, and one that is not an object; but not a file that cannot be opened, read or linked."""
     hints = [(["size", "README.md"], "v7: README.md: bad magic number\n", "v7-explain README.md says what this file is\n"),
              (["ld", "-o", "out", "ab.out"], "v7: ab.out: no relocation\n", "v7-explain ab.out says what this file is\n"),
-             (["nm", "missing.o"], "v7: missing.o: cannot open\n", ""),
-             (["nm", "/tmp"], "v7: /tmp: read error\n", ""),
-             (["ld", "-o", "no/out", "k.o", "l.o"], "v7: no/out: cannot create\n", "")]
+             (["nm", "missing.o"], f"v7: missing.o: {FAULTS['open']}\n", ""),
+             (["nm", "/tmp"], f"v7: /tmp: {FAULTS['read']}\n", ""),
+             (["ld", "-o", "no/out", "k.o", "l.o"], f"v7: no/out: {FAULTS['create']}\n", "")]
     for words, line, hint in hints:
         same(f"{words}", at_terminal(words), (line + hint, "", 2))
         same(f"{words}: through pipes", through_pipes(words), (line, "", 2))
