@@ -42,14 +42,14 @@ HEAD = re.compile(r"^(?:# )?tier: (\w+), (\d+) seconds((?:; \w+: [^;\n]+)*)$", r
 # what tests need beside Python and make, as commands or modules of Python, and Debian's packages that have it
 PACKAGES = {
     "git": "git", "cc": "gcc libc6-dev", "c++": "g++", "pkg-config": "pkg-config", "valgrind": "valgrind", "mypy": "mypy",
-    "venv": "python3-venv", "rustc": "rustc", "cargo": "cargo", "groff": "groff", "man": "man-db", "mandoc": "mandoc", "codespell": "codespell", "zsh": "zsh",
+    "venv": "python3-venv", "rustc": "rustc", "cargo": "cargo", "groff": "groff", "man": "man-db", "mandoc": "mandoc", "codespell": "codespell", "aspell": "aspell aspell-en", "zsh": "zsh",
     "chromium": "chromium",
     "chromedriver": "chromium-driver", "selenium": "python3-selenium", "firefox-esr": "firefox-esr", "debootstrap": "debootstrap",
     "lintian": "lintian", "faketime": "faketime", "cmark-gfm": "cmark-gfm", "pdp11": "simh",
 }
 # for a whole run of one crate, on a machine with other work too
 SECONDS = "1800"
-SIDE_BY_SIDE = 4
+PROCESSORS = min(4, len(os.sched_getaffinity(0)))
 # the cases are played in so many groups
 GROUPS = 4
 # what has passed, of `make check` and `make check-all`, and with which commit
@@ -138,18 +138,29 @@ def tools_there(tests):
         sys.exit("all tools have to be there, as V7_CI is set")
 
 
+def side_by_side(tests):
+    """How many tests run at once: one after another if one is of the tier `all`, and takes all processors."""
+    return 1 if any(it.tier == "all" for it in tests) else PROCESSORS
+
+
+def minutes(tests):
+    """About how long tests take on an idle machine."""
+    seconds = [it.seconds for it in tests]
+    return max(*seconds, sum(seconds) / side_by_side(tests)) / 60
+
+
 def run_listed(tests):
-    """Runs tests with the programs that are there, one after another."""
+    """Runs tests with the programs that are there."""
     tools_there(tests)
-    print(f"{len(tests)} tests, about {sum(it.seconds for it in tests) / 60:.1f} minutes on an idle machine", flush=True)
+    print(f"{len(tests)} tests, about {minutes(tests):.1f} minutes on an idle machine", flush=True)
     for name in sorted({it for test in tests for it in test.words("programs") if not it.endswith(".so")}):
         program(name)
     check_itself()
-    return run_jobs({it.title(): it.command() for it in tests})
+    return run_jobs({it.title(): it.command() for it in tests}, side_by_side(tests))
 
 
-def run_jobs(commands):
-    with ThreadPoolExecutor(1) as pool:
+def run_jobs(commands, count=1):
+    with ThreadPoolExecutor(count) as pool:
         return Tally({pool.submit(passes, *words): name for name, words in commands.items()}).take_all()
 
 
@@ -245,7 +256,7 @@ def run_unproved(tests):
     play = [sys.executable, "-m", "tests.cases.cases"]
     folder = os.path.join(TOP, "build", "test")
     os.makedirs(folder, exist_ok=True)
-    with ThreadPoolExecutor(min(SIDE_BY_SIDE, len(os.sched_getaffinity(0)))) as pool:
+    with ThreadPoolExecutor(PROCESSORS) as pool:
         # what is cheap comes first, and nothing that waits before what it waits for
         first = {pool.submit(passes, *it.command()): it.title() for it in tests if not it.words("programs")}
         programs = {pool.submit(compile_program, TOP, name, folder): f"the program {name}" for name in CRATES}
@@ -293,7 +304,7 @@ def tell(what, tests, before="V7_BUILD=build/quick "):
     if tests:
         others = {it.name for it in listed() if it not in tests}
         names = " ".join(dict.fromkeys(shlex.quote(it.title()) if it.name in others else it.name for it in tests))
-        print(f"{what}, {sum(it.seconds for it in tests) / 60:.1f} minutes:\n  {before}python3 -m tests {names}")
+        print(f"{what}, {minutes(tests):.1f} minutes:\n  {before}python3 -m tests {names}")
 
 
 def changed_since(commit):

@@ -245,9 +245,6 @@ fi
 # the crates of Rust, in a copy, without any other crate
 if has cargo; then
     cp -r "$top/packaging/rust" crates
-    for manifest in crates/Cargo.toml crates/v7-sys/Cargo.toml; do
-        grep -q "^version = \"$version\"" $manifest || fail "$manifest has another version"
-    done
     grep -q "^v7-sys = .*version = \"=$version\"" crates/Cargo.toml || fail "the crate v7 wants another v7-sys"
     LIBV7_DIR=$room/installed/lib cargo build -q --offline --release --examples --manifest-path crates/Cargo.toml || exit 1
     links "Rust by the crate v7" crates/target/release/examples/link

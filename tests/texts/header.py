@@ -87,7 +87,7 @@ def compare(header, texts):
         kinds = [kind for kind, _ in found]  # a parameter that is the only one of its type may have another name
         faults += different(name, known, [(kind, word if kinds.count(kind) > 1 else "") for kind, word in found])
     same("what differs", faults, [])
-    kinds = re.findall(r"^    (\w+) = (\d+),", read(f"{TOP}/crates/findings/src/finding.rt"), re.M)
+    kinds = re.findall(r"^    (\w+) = (\d+),", read(f"{TOP}/crates/checks/src/finding.rt"), re.M)
     same("kinds of remarks", {name[10:].replace("_", "").lower(): number for name, number in enums_of(header)["v7_remark_kind"].items()},
          {name.lower(): int(number) for name, number in kinds})
 

@@ -34,7 +34,7 @@ READS_WORDS = "`Performs`"
 WORDS = ("crates/command_words/specs/", ["Calls", "LinkWords", "Tools"]), ("crates/tool_options/specs/", ["Flags", "ForcedNames"])
 WORDS_LINES = re.compile(r"\d+ of its lines say how arguments are read")
 # the files that a reader begins with, and the pages that say how many lines they have
-FIRST = ["aout_core/specs/Contents", "link_session/specs/Mentions", "link_laws/specs/relation/LinkedFrom"]
+FIRST = ["aout_core/specs/Contents", "link_session/specs/Mentions", "laws/specs/relation/LinkedFrom"]
 FIRST_LINES = re.compile(r"files of `specs/`, \d+ lines")
 # folders of what loops and private functions do
 INTERNAL = ["internal"]
@@ -42,8 +42,8 @@ INTERNAL = ["internal"]
 # laws that compare them with the definitions' tables, and the help of a program, of which no definition says what it says
 IDS = [("command_words", "words"), ("command_words", "link_words"), ("instructions", "table"), ("instructions", "call_table"),
        ("v7_object", "help"), ("v7_from_gnu", "help")]
-# crates whose definitions nobody has to trust: examples, tests and the lesson
-OTHERS = ["v7", "conformance", "v7_lesson", "library_uses", "device_tests"]
+# crates whose definitions nobody has to trust: tests, the lesson, and what a reader at a terminal sees
+OTHERS = ["v7", "v7_lesson", "library_uses", "device_tests"]
 LIBRARIES = [crate for crate in crates_in(".") if crate not in OTHERS]
 IMPORT = re.compile(r"^ *(?:pub )?(?:ghost )?use Rattle\.(\w+)\.(specs|proofs)(?:\.([\w.]+?))?(?:\.\{([^}]*)\}|(?: as (\w+))?);?$")
 # in a list of names those of one module: `Contents.{Fits, bss_end}`
