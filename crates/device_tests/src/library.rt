@@ -72,7 +72,7 @@ fn instructions_shown(rt: HostRuntime) {
 const C_O_LIST: &[u8] = b"text
 L1:
 000000  004767     0  jsr pc,_f
-000002  177774    11  _f, from the pc
+000002  177774    11
 data
 bss 0
 symbols
