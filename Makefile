@@ -10,8 +10,8 @@
 #: make which CHANGED=PATH    which tests and crates a change concerns; or SINCE=COMMIT                    Python       seconds
 #: make check-text            texts, names, limits and quotes, compared with the code                      Python       1 minute
 #: make test                  cases and tests with programs that are not proved                            kit          5 minutes
-#: make gate                  proves everything, and tries the wrong bodies of must-fail/                  kit          60 minutes
-#: make check                 all that CI runs: the gate, and tests of the proved programs                 tools/needs  90 minutes
+#: make gate                  proves everything, and tries the wrong bodies of must-fail/                  kit          35 minutes
+#: make check                 all that CI runs: the gate, and tests of the proved programs                 tools/needs  70 minutes
 #: make check-all             this, all wrong bodies, planted bugs, the page and the release               tools/needs  4.5 hours
 #: make check-wrong-bodies    has the prover refuse those of changed crates, or of NAMES=CRATE              kit          to 2 hours
 #: make planted               plants BUGS=NAME, or all, and sees that tests find them                      kit          25 minutes
