@@ -90,6 +90,9 @@ add main.o
 say PDP-11, r0 and "15" are no numbers; {text 2 = 177774} {after text 2 = 4} {before text 2 = 0} {reloc text 2 = 51} {reloc text 0 = 0} {size text = 12} {_count = 2} {plain _count = 12} {-n data = 20000} are.
 add twice.o
 say It was {was text 6 = 177770}, and is {at text 6 = 6} {text 6 = 2} {_twice = 12} {-n text 2 = 17774}.
+ask changes Which?
+word text 6
+withdraw
 """
 # the numbers of its texts, in their order, but for sizes and relocation words: these are texts
 NUMBERS = [0o177774, 4, 0, 0o12, 0o20000, 0o177770, 6, 2, 0o12, 0o17774]
