@@ -1,6 +1,6 @@
 //! What an inventory says of a file: what it is, its sizes, its symbols, and what is wrong or odd in it.
 
-use crate::file_kind::{FileKind, file_kind, kind_of_form};
+use crate::file_kind::{FileKind, file_kind};
 use aout_core::{File, Header, ReadFault, Symbol};
 use checks::{Evidence, Finding, all_odd_of, header_of, is_of_gnu, other_form};
 use disassemblies::Sweep;
@@ -41,7 +41,6 @@ pub struct InventoryRow {
     pub condition: Condition,
 }
 
-/// The sizes in a header.
 fn sizes_in(header: &Header) -> SegmentSizes {
     SegmentSizes {
         text: header.text_size,
@@ -52,12 +51,12 @@ fn sizes_in(header: &Header) -> SegmentSizes {
 
 /// How many symbols there are, and how many are undefined and no common.
 fn counts_of(symbols: &[Symbol]) -> SymbolCounts {
+    let wanted = symbols
+        .iter()
+        .filter(|symbol| symbol.is_undefined() && symbol.value == 0);
     SymbolCounts {
         all: symbols.len(),
-        undefined: symbols
-            .iter()
-            .filter(|symbol| symbol.is_undefined() && symbol.value == 0)
-            .count(),
+        undefined: wanted.count(),
     }
 }
 
@@ -76,13 +75,21 @@ fn condition_of(wrong: &[Finding], count: usize) -> Condition {
     }
 }
 
+/// The row of what has only a kind.
+pub fn plain_row(kind: FileKind) -> InventoryRow {
+    InventoryRow {
+        kind,
+        sizes: None,
+        symbols: None,
+        condition: Condition::NotExamined,
+    }
+}
+
 /// The row of an object in the form of GNU's assembler.
 fn gnu_row(header: Option<Header>) -> InventoryRow {
     InventoryRow {
-        kind: FileKind::GnuObject,
         sizes: header.map(|header| sizes_in(&header)),
-        symbols: None,
-        condition: Condition::NotExamined,
+        ..plain_row(FileKind::GnuObject)
     }
 }
 
@@ -105,36 +112,6 @@ pub fn file_row(
     })
 }
 
-/// The row of bytes that begin as a file, of which this is wrong.
-fn damaged_row(header: Option<Header>, wrong: &[Finding]) -> InventoryRow {
-    let condition = condition_of(wrong, 0);
-    let (kind, sizes) = match header {
-        Some(header) => (file_kind(&header), Some(sizes_in(&header))),
-        None => (FileKind::Other, None),
-    };
-    InventoryRow {
-        kind,
-        sizes,
-        symbols: None,
-        condition,
-    }
-}
-
-/// The row of what has only a kind.
-pub fn plain_row(kind: FileKind) -> InventoryRow {
-    InventoryRow {
-        kind,
-        sizes: None,
-        symbols: None,
-        condition: Condition::NotExamined,
-    }
-}
-
-/// The row of bytes that are not of the Seventh Edition.
-fn other_row(bytes: &[u8]) -> InventoryRow {
-    plain_row(kind_of_form(other_form(bytes)))
-}
-
 /// The row of bytes that do not make a file for this reason, of which this is wrong. An error: out of memory.
 pub fn refused_row(
     alloc: Global,
@@ -146,8 +123,14 @@ pub fn refused_row(
     if is_of_gnu(alloc, bytes, true)? {
         return Ok(gnu_row(header));
     }
-    match fault {
-        ReadFault::BadMagic | ReadFault::ShortHeader => Ok(other_row(bytes)),
-        _ => Ok(damaged_row(header, wrong)),
+    match (fault, header) {
+        (ReadFault::BadMagic | ReadFault::ShortHeader, _) | (_, None) => {
+            Ok(plain_row(FileKind::OfForm(other_form(bytes))))
+        }
+        (_, Some(header)) => Ok(InventoryRow {
+            sizes: Some(sizes_in(&header)),
+            condition: condition_of(wrong, 0),
+            ..plain_row(file_kind(&header))
+        }),
     }
 }

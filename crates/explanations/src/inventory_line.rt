@@ -2,7 +2,7 @@
 
 use crate::file_kind::kind_text;
 use crate::inventory::{Condition, InventoryRow};
-use crate::remarks::put_printed;
+use listings::put_printed;
 use texts::Text;
 
 /// Appends a column of a number, or of a hyphen.

@@ -24,8 +24,8 @@
 //! - `file_row`, `refused_row`, `plain_row`: what an inventory says of a file, of bytes that do not make one, and of what is not read
 //! - `put_row`: appends the line for it
 //!
-//! docs/OBJECTS.md has the form of a listing, and v7-explain(1) what is said in it. Proved: what a listing remarks. Only tested: dumps and
-//! inventories.
+//! docs/OBJECTS.md has the form of a listing, and v7-explain(1) what is said in it. Proved: a listing reads back
+//! as its file. Only tested: what it remarks, dumps and inventories.
 #![tactic(auto)]
 
 mod dump;
@@ -43,5 +43,4 @@ pub use inventory::{
     Condition, InventoryRow, SegmentSizes, SymbolCounts, file_row, plain_row, refused_row,
 };
 pub use inventory_line::put_row;
-pub use listing::{write_explained, write_remains};
-pub use remarks::put_lines;
+pub use listing::{put_lines, write_explained, write_remains};

@@ -1,15 +1,18 @@
 //! Files as listings, in the form that `read_listing` of `listings` reads.
 ghost use Rattle.std.specs.Prelude.{◌≡◌, Ok, IfOk};
-ghost use Rattle.listings.specs.{Listing.listing, Reading.read, declared.draft.Addresses.TheVariants.Compared};
-ghost use Rattle.instructions.specs.declared.unix.Decoder.TheVariants.{Unix};
-ghost use Rattle.disassemblies.specs.Starts.{starts};
-ghost use Rattle.explanations.specs.Said.{explained};
+ghost use Rattle.listings.specs.{Reading.read, declared.draft.Addresses.TheVariants.Compared};
 
 use crate::remarks::Explained;
 use checks::Notes;
 use disassemblies::Sweep;
-use listings::{write_cut_listing, write_listing};
+use listings::{put_notes, write_cut_listing, write_listing};
 use std::alloc::{AllocError, Global};
+use texts::Text;
+
+/// Appends notes, a line each, as a listing has them.
+pub fn put_lines(text: &mut Text, notes: &Notes) {
+    put_notes(text, notes.lines());
+}
 
 /// The listing of a file with explanations, and with notes before it and findings after it. Reading the listing gives the file. (own
 /// choice)
@@ -21,10 +24,7 @@ pub fn write_explained(
     notes: &Notes,
     findings: &Notes,
 ) -> Result<Vec<u8>, AllocError>
-    ensures lists { IfOk result (λ v. v.items
-        ≡ listing (explained (starts Unix sweep.now) sweep.now notes.now findings.now)
-        sweep.now) }
-    ensures again { IfOk result (λ v. read Compared v.items ≡ Ok sweep.now) }
+    ensures { IfOk result (λ v. read Compared v.items ≡ Ok sweep.now) }
 {
     let remarks = Explained {
         sweep,

@@ -43,38 +43,36 @@ fn put_folded(text: &mut Text, at: u32, times: u32) {
     put_again(text, times);
 }
 
-/// The symbols of a segment.
-#[derive(Clone, Copy)]
-pub(crate) struct Named<'a> {
-    pub(crate) file: &'a NamedFile<'a>,
-    pub(crate) segment: Segment,
+/// Appends the labels of so many words from an address of a segment on.
+pub(crate) fn put_labels_at(
+    text: &mut Text,
+    file: &NamedFile<'_>,
+    segment: Segment,
+    at: u32,
+    count: u16,
+) {
+    put_labels(text, file, segment, (at % 65536) as u16, count);
 }
 
-/// Appends the labels of so many words from an address on.
-pub(crate) fn put_labels_at(text: &mut Text, named: &Named<'_>, at: u32, count: u16) {
-    put_labels(text, named.file, named.segment, (at % 65536) as u16, count);
-}
-
-/// The labels of a row, which are to be appended to a text. If memory runs out, the text is cut.
-fn row_labels(text: &mut Text, named: &Named<'_>, at: u32, count: usize) -> Vec<u8> {
-    let mut labels = Text::new(text.allocator());
-    put_labels_at(&mut labels, named, at, (count % 65536) as u16);
-    match labels.finish() {
-        Ok(labels) => labels,
-        Err(error) => {
-            text.cut(error);
-            Vec::new(text.allocator())
-        }
-    }
-}
-
-/// Appends the words from an address on, in rows. Rows without labels that are the same as the row before them are counted in a remark.
-pub(crate) fn put_rows(text: &mut Text, named: &Named<'_>, start: u32, words: &[u16]) {
+/// Appends the words of a segment from an address on, in rows. Rows without labels that are the same as the row before them are counted
+/// in a remark.
+pub(crate) fn put_rows(
+    text: &mut Text,
+    file: &NamedFile<'_>,
+    segment: Segment,
+    start: u32,
+    words: &[u16],
+) {
     let mut at = start;
     let mut last: &[u16] = &[];
     let mut times = 0u32;
     for row in words.chunks(ROW) {
-        let labels = row_labels(text, named, at, row.len());
+        let mut labels = Text::new(text.allocator());
+        put_labels_at(&mut labels, file, segment, at, (row.len() % 65536) as u16);
+        let labels = match labels.finish() {
+            Ok(labels) => labels,
+            Err(error) => return text.cut(error),
+        };
         if labels.is_empty() && row == last {
             times = times.saturating_add(1);
         } else {

@@ -1,18 +1,10 @@
 //! What a relocation word says, in words.
-ghost use Rattle.std.specs.Prelude.{◌++◌, ◌∷◌, slice_get, codes, decimal};
-ghost use Rattle.aout_core.specs.WellFormed.{symbol_number};
-ghost use Rattle.texts.specs.{Names.printable_name, Texts.Puts};
-ghost use Rattle.explanations.specs.Said.{external_said, word_said};
-
 use aout_core::{Kind, Name, Reloc};
 use disassemblies::{NamedFile, put_pointed_text};
 use texts::Text;
 
 /// Appends that no word may refer to a symbol, which has this number.
-fn put_unwanted(text: &mut Text, number: u16, name: &Name)
-    ensures { Puts text.old text.new
-        (codes "not wanted: symbol " ++ (decimal number ++ 32 ∷ printable_name name.now)) }
-{
+fn put_unwanted(text: &mut Text, number: u16, name: &Name) {
     text.put("not wanted: symbol ");
     text.put_decimal(u64::from(number));
     text.put_byte(b' ');
@@ -20,10 +12,7 @@ fn put_unwanted(text: &mut Text, number: u16, name: &Name)
 }
 
 /// Appends what a number refers to by the symbol of its relocation word, or why it may not.
-fn put_external(text: &mut Text, file: &NamedFile<'_>, reloc: Reloc, number: u16)
-    ensures { Puts text.old text.new (external_said file.now reloc number
-        (slice_get file.now.symbols (symbol_number reloc))) }
-{
+fn put_external(text: &mut Text, file: &NamedFile<'_>, reloc: Reloc, number: u16) {
     match file.file().symbols().get(usize::from(reloc.number())) {
         Some(symbol) if symbol.is_undefined() => put_pointed_text(text, file, reloc, number),
         Some(symbol) => put_unwanted(text, reloc.number(), &symbol.name),
@@ -35,9 +24,13 @@ fn put_external(text: &mut Text, file: &NamedFile<'_>, reloc: Reloc, number: u16
 }
 
 /// Appends what a relocation word says of a word at an address.
-pub(crate) fn put_word_text(text: &mut Text, file: &NamedFile<'_>, at: u16, word: u16, reloc: Reloc)
-    ensures { Puts text.old text.new (word_said file.now at word reloc) }
-{
+pub(crate) fn put_word_text(
+    text: &mut Text,
+    file: &NamedFile<'_>,
+    at: u16,
+    word: u16,
+    reloc: Reloc,
+) {
     let number = reloc.target(word, at);
     match reloc.kind() {
         None => text.put("no kind of relocation"),

@@ -3,7 +3,7 @@ use Rattle.std.proofs.Common.{◌≡◌, ℕ, zero, suc, replicate, ◌≤◌, L
 use Rattle.std.proofs.{lemmas.Bool.ne_eqb, lemmas.List.append-nil}
 use Rattle.std.specs.List.{AllByRecursion}
 use Rattle.listings.specs.Columns.{skip, column, after_column, from_third, from_fourth, row_of}
-use Rattle.listings.specs.{Laws.IsLine, Listing.gap, Listing.remarked, Reading.is_digits, Reading.is_numbered}
+use Rattle.listings.specs.{Listing.{IsLine, gap, remarked}, Reading.is_digits, Reading.is_numbered}
 use Rattle.listings.proofs.OctalLemmas.{AreDigits, IsNumber}
 use Rattle.texts.specs.Lines.{lines_in, text_of}
 

@@ -4,5 +4,6 @@ pub mod NameLemmas
 pub mod RowLemmas
 pub mod ListingLemmas
 pub mod WriteLemmas
+pub mod SaidLemmas
 pub mod ReadLemmas
 pub mod DraftLemmas

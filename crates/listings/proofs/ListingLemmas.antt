@@ -1,24 +1,23 @@
 -- The listing of a file says that file.
 use Rattle.std.proofs.Common.{◌≡◌, ℕ, ◌+◌, ◌*◌, ◌%◌, ◌<◌, Bool, true, false, cond, eqb, eqb-true, List, [], ◌∷◌, ◌++◌, length, refl, sym}
 use Rattle.std.proofs.{Common.{◌∙◌, ap, subst, arith, rules, append_assoc, ne_eqb, le-ltb}, lemmas.List.append-nil}
-use Rattle.std.specs.{Prelude.{codes, map, ◌-◌, if◌then◌else◌, IsTrue, drop, Option, Some, None, Result, Ok, Err}, List.AllByRecursion}
+use Rattle.std.specs.{Prelude.{codes, slice_get, ◌-◌, if◌then◌else◌, IsTrue, drop, Option, Some, None, Result, Ok, Err}, List.AllByRecursion}
 use Rattle.aout_core.specs.{Contents.{Contents, is_magic, has_whole_sizes, IsWord, IsSound}, declared.reloc.Reloc.Reloc}
-use Rattle.aout_core.specs.{declared.symbol.Symbol.Symbol, declared.header.Header.Header, Addresses.data_start, declared.part.Part.Part}
-use Rattle.aout_core.specs.declared.part.Part.TheVariants as parts
+use Rattle.aout_core.specs.{declared.symbol.Symbol.Symbol, declared.header.Header.Header, Addresses.data_start}
 use Rattle.listings.specs.declared.fault.Section.TheVariants.{InText, InData, Ended}
 use Rattle.listings.specs.Columns.{Row, row_of, column, from_third, from_fourth, stray_from}
 use Rattle.listings.specs.Drafts.{Segment, Draft, empty_segment, empty_draft, finished}
-use Rattle.listings.specs.Listing.{Remarks, gap, wide, remarked, word_line, word_lines, symbol_lines, named_line, unusual, note_lines}
-use Rattle.listings.specs.Listing.{head_lines, text_lines, data_lines, bss_lines, table_lines, lines_before_end, listing_lines, listing}
+use Rattle.listings.specs.Listing.{IsLine, IsSkipped, IsWord as IsWordIn, AreWords, AreSymbols, IsBeforeEnd, IsListing, gap, wide, remarked}
+use Rattle.listings.specs.Listing.{word_line, named_line, unusual, head_lines, bss_lines}
 use Rattle.listings.specs.Reading.{◌>>=◌, in_column, named, is_label, row_read, lines_read, at_first_line, has_head, unless_stray, file_of}
-use Rattle.listings.specs.{Reading.read, declared.draft.Addresses.Addresses, Laws.{IsLine, IsLabel, AreRemarks}, declared.fault.Fault.Fault}
+use Rattle.listings.specs.{Reading.read, declared.draft.Addresses.Addresses, declared.fault.Fault.Fault}
 use Rattle.listings.specs.{declared.fault.Reason.Reason, declared.fault.Reason.TheVariants.{NoMagic, OddSize}, Octal.number}
 use Rattle.texts.specs.{Numbers.six_digits, Numbers.octal, Lines.lines_in, Lines.text_of, Names.printable_name}
 use Rattle.listings.proofs.OctalLemmas.{IsNumber, octal_again, short_again, octal_digits, short_digits}
 use Rattle.listings.proofs.ColumnLemmas.{IsColumn, ink, number_column, row_two, line_of_column, line_gap, line_last, lines_again}
 use Rattle.listings.proofs.NameLemmas.{name_column}
 use Rattle.listings.proofs.RowLemmas.{at_line, Reads, reads_nil, reads_one, reads_both, reads_more, entry_row, Enters, AreRelocs, line_with}
-use Rattle.listings.proofs.RowLemmas.{line_alone, words_with, words_alone, in_symbols, symbols_read}
+use Rattle.listings.proofs.RowLemmas.{line_alone, skipped_read, words_with, words_alone, in_symbols, symbols_read}
 
 -- no line has a newline
 abbrev AreLines : List (List ℕ) → Type 0
@@ -38,28 +37,34 @@ word_line_is : (said : List ℕ) (at w : ℕ) (r : Option Reloc) → IsLine said
 word_line_is said at w None is = search (rules, line_alone, line_gap, octal_column, line_last)
 word_line_is said at w (Some r) is = search (rules, line_with, line_gap, octal_column, line_last, short_column)
 
-labels_are : (ls : List (List ℕ)) → AllByRecursion IsLabel ls → AreLines ls
-labels_are [] h = tt
-labels_are (l ∷ ls) h = (h.0.0, labels_are ls h.1)
+skipped_are : (ls : List (List ℕ)) → AllByRecursion IsSkipped ls → AreLines ls
+skipped_are [] h = tt
+skipped_are (l ∷ ls) h = (h.0.0, skipped_are ls h.1)
 
-word_lines_are : (x : Remarks) (p : Part) (i at : ℕ) (ws : List ℕ) (rs : List Reloc) → AreRemarks x → AreLines (word_lines x p i at ws rs)
-word_lines_are x p i at [] rs are = labels_are (x.labels p i) (are.labels p i)
-word_lines_are x p i at (w ∷ ws) rs are =
-    let note = (are.word p i).0 in
-    search (rules, lines_append, labels_are, word_line_is, word_lines_are x p (i + 1) (at + 2) ws (drop 1 rs) are)
+of_word : (at w : ℕ) (r : Option Reloc) (ls : List (List ℕ)) → IsWordIn at w r ls → AreLines ls
+of_word at w r ls is =
+    subst AreLines (sym is.lines) (lines_append is.labels (word_line is.said at w r ∷ []) (skipped_are is.labels is.are_skipped)
+    (word_line_is is.said at w r is.is_remark.0, tt))
 
-symbol_lines_are : (x : Remarks) (n : ℕ) (ss : List Symbol) → AreRemarks x → AreLines (symbol_lines x n ss)
-symbol_lines_are x n [] are = tt
-symbol_lines_are x n (s ∷ ss) are =
+words_are : (at : ℕ) (ws : List ℕ) (rs : List Reloc) (ls : List (List ℕ)) → AreWords at ws rs ls → AreLines ls
+words_are at [] rs ls are = skipped_are ls are
+words_are at (w ∷ ws) rs ls are =
+    subst AreLines (sym are.4) (lines_append are.0 are.1 (of_word (at % 65536) w (slice_get rs 0) are.0 are.2)
+    (words_are (at + 2) ws (drop 1 rs) are.1 are.3))
+
+symbols_are : (n : ℕ) (ss : List Symbol) (ls : List (List ℕ)) → AreSymbols n ss ls → AreLines ls
+symbols_are n [] ls are = subst AreLines (sym are) tt
+symbols_are n (s ∷ ss) ls are =
     let a = octal n in
     let b = printable_name s.name in
     let c = octal s.type_bits in
-    let e = six_digits s.value ++ remarked (x.symbol s) in (
-      line_gap (wide 4 a) a (gap (wide 8 b + (3 - length c)) b (gap 1 c e)) (short_column n)
-          (line_gap (wide 8 b + (3 - length c)) b (gap 1 c e) (name_column s.name)
-          (line_gap 1 c e (short_column s.type_bits) (line_last (six_digits s.value) (x.symbol s) (octal_column s.value) (are.symbol s)))),
-      symbol_lines_are x (n + 1) ss are,
-    )
+    let said = are.2.0 in
+    let e = six_digits s.value ++ remarked said in
+    let is : IsLine are.0 =
+    subst IsLine (sym are.2.2) (line_gap (wide 4 a) a (gap (wide 8 b + (3 - length c)) b (gap 1 c e)) (short_column n)
+    (line_gap (wide 8 b + (3 - length c)) b (gap 1 c e) (name_column s.name)
+    (line_gap 1 c e (short_column s.type_bits) (line_last (six_digits s.value) said (octal_column s.value) are.2.1.0)))) in
+    subst AreLines (sym are.4) (is, symbols_are (n + 1) ss are.1 are.3)
 
 magic_column : IsColumn (codes "magic")
 magic_column = (omega arith, (omega arith, (omega arith, (omega arith, (omega arith, tt)))))
@@ -94,42 +99,46 @@ unusual_by usual n w t e h = search (rules, named_line_is)
 unusual_are : (usual n : ℕ) (w : List ℕ) → IsColumn w → AreLines (unusual usual w n)
 unusual_are usual n w h = unusual_by usual n w (eqb n usual) refl h
 
-notes_are : (ns : List (List ℕ)) → AreLines ns → AreLines (map (λ (note : List ℕ). 47 ∷ note) ns)
-notes_are [] h = tt
-notes_are (n ∷ ns) h = ((omega arith, h.0), notes_are ns h.1)
-
 end_column : IsColumn (codes "end")
 end_column = (omega arith, (omega arith, (omega arith, tt)))
 
-before_end_are : (x : Remarks) (c : Contents) → AreRemarks x → AreLines (lines_before_end x c)
-before_end_are x c are =
-    lines_append (note_lines x.notes) (head_lines c.header
-    ++ (text_lines x c ++ (data_lines x c ++ (bss_lines c.header ++ (table_lines x c ++ note_lines x.findings)))))
-    (notes_are x.notes are.notes)
-    (lines_append (head_lines c.header)
-    (text_lines x c ++ (data_lines x c ++ (bss_lines c.header ++ (table_lines x c ++ note_lines x.findings))))
-    (lines_append (unusual 0o407 (codes "magic") c.header.magic) (unusual 0 (codes "flag") c.header.flag)
-    (unusual_are 0o407 c.header.magic (codes "magic") magic_column) (unusual_are 0 c.header.flag (codes "flag") flag_column))
-    (lines_append (text_lines x c) (data_lines x c ++ (bss_lines c.header ++ (table_lines x c ++ note_lines x.findings)))
-    (line_of_column (codes "text") text_column, word_lines_are x parts.Text 0 0 c.text_words c.text_reloc are)
-    (lines_append (data_lines x c) (bss_lines c.header ++ (table_lines x c ++ note_lines x.findings)) (
-      line_of_column (codes "data") data_column,
-      word_lines_are x parts.Data 0 (data_start c.header.magic c.header.text_size) c.data_words c.data_reloc are,
-    )
-    (lines_append (bss_lines c.header) (table_lines x c ++ note_lines x.findings) (
-      line_gap 0 (codes "bss") (octal c.header.bss_size) bss_column
-          (line_of_column (octal c.header.bss_size) (ink (octal c.header.bss_size) (short_column c.header.bss_size))),
-      lines_append (unusual 0 (codes "entry") c.header.entry_point) (unusual 0 (codes "unused") c.header.unused)
-          (unusual_are 0 c.header.entry_point (codes "entry") entry_column) (unusual_are 0 c.header.unused (codes "unused") unused_column),
-    )
-    (lines_append (table_lines x c) (note_lines x.findings) (
-      line_of_column (codes "symbols") symbols_column,
-      symbol_lines_are x 0 c.symbols are,
-    ) (notes_are x.findings are.findings))))))
+abbrev data_begin : Contents → ℕ
+data_begin c = data_start c.header.magic c.header.text_size
 
-listing_lines_are : (x : Remarks) (c : Contents) → AreRemarks x → AreLines (listing_lines x c)
-listing_lines_are x c are =
-    lines_append (lines_before_end x c) (codes "end" ∷ []) (before_end_are x c are) (line_of_column (codes "end") end_column, tt)
+head_are : (h : Header) → AreLines (head_lines h)
+head_are h =
+    lines_append (unusual 0o407 (codes "magic") h.magic) (unusual 0 (codes "flag") h.flag)
+    (unusual_are 0o407 h.magic (codes "magic") magic_column) (unusual_are 0 h.flag (codes "flag") flag_column)
+
+bss_are : (h : Header) → AreLines (bss_lines h)
+bss_are h = (
+  line_gap 0 (codes "bss") (octal h.bss_size) bss_column (line_of_column (octal h.bss_size) (ink (octal h.bss_size) (short_column h.bss_size))),
+  lines_append (unusual 0 (codes "entry") h.entry_point) (unusual 0 (codes "unused") h.unused)
+      (unusual_are 0 h.entry_point (codes "entry") entry_column) (unusual_are 0 h.unused (codes "unused") unused_column),
+)
+
+before_end_are : (c : Contents) (ls : List (List ℕ)) → IsBeforeEnd c ls → AreLines ls
+before_end_are c ls is =
+    let last = (codes "symbols" ∷ is.symbols) ++ is.findings in
+    let after_data = bss_lines c.header ++ last in
+    let after_text = (codes "data" ∷ is.«data») ++ after_data in
+    let after_head = (codes "text" ∷ is.text) ++ after_text in
+    subst AreLines (sym is.lines)
+    (lines_append is.notes (head_lines c.header ++ after_head) (skipped_are is.notes is.are_notes)
+    (lines_append (head_lines c.header) after_head (head_are c.header)
+    (lines_append (codes "text" ∷ is.text) after_text
+    (line_of_column (codes "text") text_column, words_are 0 c.text_words c.text_reloc is.text is.are_text)
+    (lines_append (codes "data" ∷ is.«data») after_data
+    (line_of_column (codes "data") data_column, words_are (data_begin c) c.data_words c.data_reloc is.«data» is.are_data)
+    (lines_append (bss_lines c.header) last (bss_are c.header)
+    (lines_append (codes "symbols" ∷ is.symbols) is.findings
+    (line_of_column (codes "symbols") symbols_column, symbols_are 0 c.symbols is.symbols is.are_symbols)
+    (skipped_are is.findings is.are_findings)))))))
+
+listing_are : (c : Contents) (ls : List (List ℕ)) → IsListing c ls → AreLines ls
+listing_are c ls is =
+    subst AreLines (sym is.2) (lines_append is.0 (codes "end" ∷ []) (before_end_are c is.0 is.1)
+    (line_of_column (codes "end") end_column, tt))
 
 -- no line has a byte that no listing has
 stray_line : (n k : ℕ) (l rest : List ℕ) → IsLine l → stray_from n k (l ++ 10 ∷ rest) ≡ stray_from (n + 1) 1 rest
@@ -198,10 +207,6 @@ unusual_reads : (put : ℕ → Draft) (usual n : ℕ) (w : List ℕ) →
     row_read (put usual) (row_of (named_line w n)) ≡ Ok (put n) → Reads (put usual) (unusual usual w n) (put n)
 unusual_reads put usual n w found = unusual_reads_by put usual n w (eqb n usual) refl found
 
-notes_read : (d : Draft) (ns : List (List ℕ)) → Reads d (map (λ (note : List ℕ). 47 ∷ note) ns) d
-notes_read d [] = reads_nil d
-notes_read d (n ∷ ns) = reads_more d d d (47 ∷ n) (map (λ (note : List ℕ). 47 ∷ note) ns) refl (notes_read d ns)
-
 -- and after the flag
 abbrev with_flag : Addresses → Contents → ℕ → Draft
 with_flag a c n = let d : Draft = with_magic a c.header.magic in record d { flag = n }
@@ -234,9 +239,6 @@ in_data a c s n = let d : Draft = head_draft a c in record d { section = InData;
 
 abbrev text_end : Contents → ℕ
 text_end c = (0 + 2 * length c.text_words) % 65536
-
-abbrev data_begin : Contents → ℕ
-data_begin c = data_start c.header.magic c.header.text_size
 
 abbrev data_end : Contents → ℕ
 data_end c = (data_begin c + 2 * length c.data_words) % 65536
@@ -276,16 +278,16 @@ bss_reads a c sound =
     unlabelled (with_entry a c c.header.entry_point) (codes "unused") (six_digits c.header.unused) k m (octal_digits c.header.unused)))))
 
 -- the relocation of a segment is whole, or not there
-segment_reads : (x : Remarks) (p : Part) (put : Segment → ℕ → Draft) (a : Addresses) (flag at size : ℕ) (ws : List ℕ)
-    (rs : List Reloc) (t : Bool) → AreRemarks x → eqb flag 0 ≡ t →
+segment_reads : (put : Segment → ℕ → Draft) (a : Addresses) (flag at size : ℕ) (ws : List ℕ)
+    (rs : List Reloc) (ls : List (List ℕ)) (t : Bool) → AreWords at ws rs ls → eqb flag 0 ≡ t →
     Enters put a flag → 2 * length ws ≡ size → size < 65536 → 2 * length rs ≡ cond t size 0 →
     AllByRecursion IsWord ws → AreRelocs rs →
-    Reads (put empty_segment (at % 65536)) (word_lines x p 0 at ws rs) (put (record { words = ws; relocs = rs }) ((at + 2 * length ws) % 65536))
-segment_reads x p put a flag at size ws rs true are on enters long small also words relocs =
-    words_with x p 0 put a flag at empty_segment ws rs are enters on (omega arith) words relocs (omega arith)
-segment_reads x p put a flag at size ws [] false are off enters long small also words relocs =
-    words_alone x p 0 put a flag at empty_segment ws are enters off words (omega arith)
-segment_reads x p put a flag at size ws (r ∷ rs) false are off enters long small also words relocs = absurd (omega arith)
+    Reads (put empty_segment (at % 65536)) ls (put (record { words = ws; relocs = rs }) ((at + 2 * length ws) % 65536))
+segment_reads put a flag at size ws rs ls true are on enters long small also words relocs =
+    words_with put a flag at empty_segment ws rs ls are enters on (omega arith) words relocs (omega arith)
+segment_reads put a flag at size ws [] ls false are off enters long small also words relocs =
+    words_alone put a flag at empty_segment ws ls are enters off words (omega arith)
+segment_reads put a flag at size ws (r ∷ rs) ls false are off enters long small also words relocs = absurd (omega arith)
 
 -- text ends where its size says
 text_ends : (c : Contents) → IsSound c → text_end c ≡ c.header.text_size
@@ -294,19 +296,20 @@ text_ends c sound =
     let small = sound.header.text_size in
     omega arith
 
-body_reads : (a : Addresses) (x : Remarks) (c : Contents) → AreRemarks x → IsSound c → Reads (head_draft a c) (text_lines x c
-    ++ (data_lines x c ++ (bss_lines c.header ++ (table_lines x c ++ note_lines x.findings)))) (in_table a c)
-body_reads a x c are sound =
+body_reads : (a : Addresses) (c : Contents) (ls : List (List ℕ)) (is : IsBeforeEnd c ls) → IsSound c →
+    Reads (head_draft a c) ((codes "text" ∷ is.text) ++ ((codes "data" ∷ is.«data»)
+    ++ (bss_lines c.header ++ ((codes "symbols" ∷ is.symbols) ++ is.findings)))) (in_table a c)
+body_reads a c ls is sound =
     let fits = sound.fits in
     let flag = c.header.flag in
     let text_draft = in_text a c (text_segment c) (text_end c) in
-    let text : Reads (in_text a c empty_segment 0) (word_lines x parts.Text 0 0 c.text_words c.text_reloc) text_draft =
-    segment_reads x parts.Text (in_text a c) a flag 0 c.header.text_size c.text_words c.text_reloc (eqb flag 0) are refl
+    let text : Reads (in_text a c empty_segment 0) is.text text_draft =
+    segment_reads (in_text a c) a flag 0 c.header.text_size c.text_words c.text_reloc is.text (eqb flag 0) is.are_text refl
     (λ s n f g k m h. entry_row (in_text a c s n) f g k m h)
     fits.text sound.header.text_size fits.text_relocation sound.text_words sound.text_reloc in
     let data_first = in_data a c empty_segment (data_begin c % 65536) in
-    let data_rows : Reads data_first (word_lines x parts.Data 0 (data_begin c) c.data_words c.data_reloc) (data_draft a c) =
-    segment_reads x parts.Data (in_data a c) a flag (data_begin c) c.header.data_size c.data_words c.data_reloc (eqb flag 0) are refl
+    let data_rows : Reads data_first is.«data» (data_draft a c) =
+    segment_reads (in_data a c) a flag (data_begin c) c.header.data_size c.data_words c.data_reloc is.«data» (eqb flag 0) is.are_data refl
     (λ s n f g k m h. entry_row (in_data a c s n) f g k m h) fits.«data»
     sound.header.data_size fits.data_relocation sound.data_words sound.data_reloc in
     let data_opens : row_read text_draft (row_of (codes "data")) ≡ Ok data_first =
@@ -314,20 +317,19 @@ body_reads a x c are sound =
     let whole = fits.table in
     let small = sound.header.symbol_size in
     let table_first = in_symbols (header_draft a c) [] 0 in
-    let table : Reads table_first (symbol_lines x 0 c.symbols) (in_table a c) =
-    symbols_read x (header_draft a c) 0 [] c.symbols refl sound.symbols (omega arith) in
-    reads_both (head_draft a c) text_draft (in_table a c) (text_lines x c)
-    (data_lines x c ++ (bss_lines c.header ++ (table_lines x c ++ note_lines x.findings)))
-    (reads_more (head_draft a c) (in_text a c empty_segment 0) text_draft (codes "text")
-    (word_lines x parts.Text 0 0 c.text_words c.text_reloc) refl text)
-    (reads_both text_draft (data_draft a c) (in_table a c) (data_lines x c) (bss_lines c.header ++ (table_lines x c ++ note_lines x.findings))
-    (reads_more text_draft data_first (data_draft a c) (codes "data")
-    (word_lines x parts.Data 0 (data_begin c) c.data_words c.data_reloc) data_opens data_rows)
-    (reads_both (data_draft a c) (header_draft a c) (in_table a c) (bss_lines c.header) (table_lines x c ++ note_lines x.findings)
-    (bss_reads a c sound)
-    (reads_both (header_draft a c) (in_table a c) (in_table a c) (table_lines x c) (note_lines x.findings)
-    (reads_more (header_draft a c) table_first (in_table a c) (codes "symbols") (symbol_lines x 0 c.symbols) refl table)
-    (notes_read (in_table a c) x.findings))))
+    let table : Reads table_first is.symbols (in_table a c) =
+    symbols_read (header_draft a c) 0 [] c.symbols is.symbols is.are_symbols refl sound.symbols (omega arith) in
+    let last = (codes "symbols" ∷ is.symbols) ++ is.findings in
+    let after_data = bss_lines c.header ++ last in
+    let after_text = (codes "data" ∷ is.«data») ++ after_data in
+    reads_both (head_draft a c) text_draft (in_table a c) (codes "text" ∷ is.text) after_text
+    (reads_more (head_draft a c) (in_text a c empty_segment 0) text_draft (codes "text") is.text refl text)
+    (reads_both text_draft (data_draft a c) (in_table a c) (codes "data" ∷ is.«data») after_data
+    (reads_more text_draft data_first (data_draft a c) (codes "data") is.«data» data_opens data_rows)
+    (reads_both (data_draft a c) (header_draft a c) (in_table a c) (bss_lines c.header) last (bss_reads a c sound)
+    (reads_both (header_draft a c) (in_table a c) (in_table a c) (codes "symbols" ∷ is.symbols) is.findings
+    (reads_more (header_draft a c) table_first (in_table a c) (codes "symbols") is.symbols refl table)
+    (skipped_read (in_table a c) is.findings is.are_findings))))
 
 -- after the last line
 abbrev at_end : Addresses → Contents → Draft
@@ -336,23 +338,28 @@ at_end a c = let d : Draft = in_table a c in record d { section = Ended; next = 
 finished_is : (a : Addresses) (c : Contents) → IsSound c → finished (at_end a c) ≡ c
 finished_is a c sound = search rules
 
-pub listing_read : (a : Addresses) (x : Remarks) (c : Contents) → AreRemarks x → IsSound c → read a (listing x c) ≡ Ok c
-listing_read a x c are sound =
+pub listing_read : (a : Addresses) (c : Contents) (ls : List (List ℕ)) → IsListing c ls → IsSound c → read a (text_of ls) ≡ Ok c
+listing_read a c ls is sound =
     let table = in_table a c in
     let last = at_end a c in
     let none = empty_draft a in
-    let ls = listing_lines x c in
-    let head = has_head (lines_in (listing x c)) in
-    let body = text_lines x c ++ (data_lines x c ++ (bss_lines c.header ++ (table_lines x c ++ note_lines x.findings))) in
-    let before : Reads none (lines_before_end x c) table =
-    reads_both none none table (note_lines x.notes) (head_lines c.header ++ body) (notes_read none x.notes)
-    (reads_both none (head_draft a c) table (head_lines c.header) body (head_reads a c sound) (body_reads a x c are sound)) in
-    let all = reads_both none table last (lines_before_end x c) (codes "end" ∷ []) before (reads_one table last (codes "end") refl) 1 [] in
-    let said : lines_read (at_first_line a) (lines_in (listing x c)) ≡ at_line all.0 last =
-    ap (lines_read (at_first_line a)) (lines_again ls (listing_lines_are x c are))
+    let parts = is.1 in
+    let lines = lines_in (text_of ls) in
+    let body = (codes "text" ∷ parts.text) ++ ((codes "data" ∷ parts.«data»)
+    ++ (bss_lines c.header ++ ((codes "symbols" ∷ parts.symbols) ++ parts.findings))) in
+    let before : Reads none is.0 table =
+    subst (λ (y : List (List ℕ)). Reads none y table) (sym parts.lines)
+    (reads_both none none table parts.notes (head_lines c.header ++ body) (skipped_read none parts.notes parts.are_notes)
+    (reads_both none (head_draft a c) table (head_lines c.header) body (head_reads a c sound) (body_reads a c is.0 parts sound))) in
+    let whole : Reads none ls last =
+    subst (λ (y : List (List ℕ)). Reads none y last) (sym is.2)
+    (reads_both none table last is.0 (codes "end" ∷ []) before (reads_one table last (codes "end") refl)) in
+    let all = whole 1 [] in
+    let said : lines_read (at_first_line a) lines ≡ at_line all.0 last =
+    ap (lines_read (at_first_line a)) (lines_again ls (listing_are c ls is))
     ∙ ap (lines_read (at_first_line a)) (sym (append-nil ls))
     ∙ all.1 in
-    ap (λ (stray : Option Fault). unless_stray stray (file_of head (lines_read (at_first_line a) (lines_in (listing x c)))))
-    (none_stray 1 ls (listing_lines_are x c are))
-    ∙ ap (file_of head) said
+    ap (λ (stray : Option Fault). unless_stray stray (file_of (has_head lines) (lines_read (at_first_line a) lines)))
+    (none_stray 1 ls (listing_are c ls is))
+    ∙ ap (file_of (has_head lines)) said
     ∙ ap Ok (finished_is a c sound)

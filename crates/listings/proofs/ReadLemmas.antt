@@ -5,7 +5,7 @@ use Rattle.aout_core.specs.Contents.{Contents, IsSound}
 use Rattle.listings.specs.Reading.{Mistakes, State, is_head, has_head, line_read, lines_read, read}
 use Rattle.listings.specs.{MemoryWanted.{IsEntry, IsLater, MayRunOutInLines}, declared.draft.Addresses.Addresses}
 use Rattle.listings.specs.{Columns.{row_of, first_line, other_lines, is_said, says_something}, declared.fault.ListingFault.ListingFault}
-use Rattle.listings.specs.{Listing.{Remarks, listing}, Laws.AreRemarks, Said.{Says, Gives}}
+use Rattle.listings.specs.{Listing.IsListed, Said.{Says, Gives}}
 use Rattle.listings.proofs.ListingLemmas.{listing_read}
 use Rattle.texts.specs.Lines.{lines_in}
 
@@ -38,9 +38,11 @@ same_file a b found ha hb = cc
 never : (a : Contents) (m : Mistakes) (found : Result Contents Mistakes) → found ≡ Ok a → found ≡ Err m → ⊥
 never a m found ha hf = absurd (cc)
 
-pub says_gives : (a : Addresses) (result : Result Contents ListingFault) (text : List ℕ) (x : Remarks) (c : Contents) →
-    Says result (read a text) → AreRemarks x → IsSound c → text ≡ listing x c → Gives result c
-says_gives a result text x c said are sound is = search (rules, same_file, listing_read, never)
+pub says_gives : (a : Addresses) (result : Result Contents ListingFault) (text : List ℕ) (c : Contents) →
+    Says result (read a text) → IsListed c text → IsSound c → Gives result c
+says_gives a result text c said listed sound =
+    let found : read a text ≡ Ok c = ap (read a) listed.2 ∙ listing_read a c listed.0 listed.1 sound in
+    search (rules, same_file, never)
 
 first_asks : (s : State) (l : List ℕ) (ls : List (List ℕ)) → IsEntry s.draft (row_of l) ⊎ IsLater s (row_of l) → MayRunOutInLines s (l ∷ ls)
 first_asks s l ls (inl entry) = inl entry

@@ -1,14 +1,13 @@
 -- Rows that were written say what was written.
 use Rattle.std.proofs.Common.{◌≡◌, ℕ, ◌+◌, ◌*◌, ◌%◌, ◌<◌, true, false, eqb, List, [], ◌∷◌, ◌++◌, length, refl, sym, ◌∙◌, ap, subst, arith}
 use Rattle.std.proofs.{Common.{append_assoc, length-append, replicate, rules}, lemmas.List.append-nil}
-use Rattle.std.specs.{Prelude.◌-◌, Prelude.Some, Prelude.None, Prelude.Result, Prelude.Ok, List.AllByRecursion}
-use Rattle.aout_core.specs.{declared.reloc.Reloc.Reloc, declared.symbol.Symbol.Symbol, Contents.{IsWord, IsSymbol}, declared.part.Part.Part}
-use Rattle.listings.specs.Listing.{Remarks, gap, wide, remarked, word_line, word_lines, symbol_line, symbol_lines}
-use Rattle.listings.specs.Reading.{Mistake, ◌>>=◌, is_digits, relocs_of, with_word, is_right, word_entry, symbol_entry, entry_in, row_read}
+use Rattle.std.specs.{Prelude.◌-◌, Prelude.Option, Prelude.Some, Prelude.None, Prelude.slice_get, Prelude.Result, Prelude.Ok, List.AllByRecursion}
+use Rattle.aout_core.specs.{declared.reloc.Reloc.Reloc, declared.symbol.Symbol.Symbol, Contents.{IsWord, IsSymbol}}
+use Rattle.listings.specs.Listing.{IsSkipped, IsWord as IsWordIn, AreWords, AreSymbols, gap, wide, remarked, word_line, symbol_line}
+use Rattle.listings.specs.Reading.{Mistake, ◌>>=◌, is_digits, is_numbered, relocs_of, with_word, is_right, word_entry, symbol_entry, entry_in, row_read}
 use Rattle.listings.specs.{Reading.{State, line_by, lines_read}, declared.draft.Addresses.Addresses}
 use Rattle.listings.specs.{declared.draft.Addresses.TheVariants.{Compared, Computed}, declared.fault.Section.TheVariants.InSymbols}
 use Rattle.listings.specs.{Octal.number, Columns.{row_of, column, from_third, from_fourth}, Names.name_of, Drafts.{Segment, Draft}}
-use Rattle.listings.specs.Laws.{IsLabel, AreRemarks}
 use Rattle.texts.specs.{Numbers.six_digits, Numbers.octal, Names.printable_name}
 use Rattle.listings.proofs.OctalLemmas.{octal_again, short_again, IsNumber, octal_digits, short_digits}
 use Rattle.listings.proofs.ColumnLemmas.{number_column, row_two, row_three, row_four, third_numbered, fourth_numbered}
@@ -78,7 +77,7 @@ abbrev pub AreRelocs : List Reloc → Type 0
 AreRelocs rs = AllByRecursion (λ (r : Reloc). IsWord r.0) rs
 
 -- the columns of a line, and a remark
-gap_append : (n : ℕ) (a b t : List ℕ) → gap n a b ++ t ≡ gap n a (b ++ t)
+pub gap_append : (n : ℕ) (a b t : List ℕ) → gap n a b ++ t ≡ gap n a (b ++ t)
 gap_append n a b t = append_assoc a (32 ∷ (replicate n 32 ++ b)) t ∙ ap (λ (y : List ℕ). a ++ 32 ∷ y) (append_assoc (replicate n 32) b t)
 
 pub line_with : (said : List ℕ) (at w : ℕ) (r : Reloc) →
@@ -88,100 +87,113 @@ line_with said at w r = search (rules, gap_append)
 pub line_alone : (said : List ℕ) (at w : ℕ) → word_line said at w None ≡ gap 1 (six_digits at) (six_digits w ++ remarked said)
 line_alone said at w = gap_append 1 (six_digits at) (six_digits w) (remarked said)
 
-labels_read : (d : Draft) (ls : List (List ℕ)) → AllByRecursion IsLabel ls → Reads d ls d
-labels_read d [] h = reads_nil d
-labels_read d (l ∷ ls) h = reads_more d d d l ls (h.0.1 d) (labels_read d ls h.1)
+pub skipped_read : (d : Draft) (ls : List (List ℕ)) → AllByRecursion IsSkipped ls → Reads d ls d
+skipped_read d [] h = reads_nil d
+skipped_read d (l ∷ ls) h = reads_more d d d l ls (h.0.1 d) (skipped_read d ls h.1)
 
 -- the same segment and the same address
 same_put : (put : Segment → ℕ → Draft) (s t : Segment) (n m : ℕ) → s ≡ t → n ≡ m → put s n ≡ put t m
 same_put put s t n m same next = λ i. put (same i) (next i)
 
--- the words of a segment with relocation
-pub words_with : (x : Remarks) (p : Part) (i : ℕ) (put : Segment → ℕ → Draft) (a : Addresses) (flag at : ℕ) (s : Segment)
-    (ws : List ℕ) (rs : List Reloc) → AreRemarks x →
-    Enters put a flag → eqb flag 0 ≡ true → length rs ≡ length ws →
-    AllByRecursion IsWord ws → AreRelocs rs → length s.words + length ws < 32768 →
-    Reads (put s (at % 65536)) (word_lines x p i at ws rs) (put (joined s ws rs) ((at + 2 * length ws) % 65536))
-words_with x p i put a flag at s [] [] are enters on same words relocs room =
-    subst (λ (d : Draft). Reads (put s (at % 65536)) (x.labels p i) d)
-    (same_put put s (joined s [] []) (at % 65536) ((at + 2 * 0) % 65536) (joined_nil s) (omega arith))
-    (labels_read (put s (at % 65536)) (x.labels p i) (are.labels p i))
-words_with x p i put a flag at s [] (r ∷ rs) are enters on same words relocs room = absurd (omega arith)
-words_with x p i put a flag at s (w ∷ ws) [] are enters on same words relocs room = absurd (omega arith)
-words_with x p i put a flag at s (w ∷ ws) (r ∷ rs) are enters on same words relocs room =
-    let here = at % 65536 in
+-- the line of a word with relocation
+line_with_reads : (put : Segment → ℕ → Draft) (a : Addresses) (flag here w : ℕ) (r : Reloc) (s : Segment) (said : List ℕ) →
+    Enters put a flag → eqb flag 0 ≡ true → here < 65536 → IsWord w → IsWord r.0 → length s.words < 32767 →
+    is_numbered said ≡ false →
+    row_read (put s here) (row_of (word_line said here w (Some r))) ≡ Ok (put (with_word s w (r ∷ [])) ((here + 2) % 65536))
+line_with_reads put a flag here w r s said enters on small word reloc room unnumbered =
     let f = six_digits here in
     let b = six_digits w in
     let k = octal r.0 in
-    let note = x.word p i in
-    let line = word_line note here w (Some r) in
-    let form = gap 1 f (gap (wide 4 k) b (k ++ remarked note)) in
-    let t : Segment = with_word s w (r ∷ []) in
-    let last = column (from_fourth form) in
+    let last = column (from_fourth (gap 1 f (gap (wide 4 k) b (k ++ remarked said)))) in
     let unnumbered_last : is_digits last ≡ false =
-    fourth_numbered 1 (wide 4 k) f b k note (number_column f (octal_digits here)) (number_column b (octal_digits w))
+    fourth_numbered 1 (wide 4 k) f b k said (number_column f (octal_digits here)) (number_column b (octal_digits w))
     (number_column k (short_digits r.0))
-    ∙ (are.word p i).1 in
-    let found : row_read (put s here) (row_of line) ≡ Ok (put t ((here + 2) % 65536)) =
-    ap (λ (l : List ℕ). row_read (put s here) (row_of l)) (line_with note here w r)
-    ∙ ap (row_read (put s here)) (row_three 1 (wide 4 k) f b k note (number_column f (octal_digits here))
+    ∙ unnumbered in
+    ap (λ (l : List ℕ). row_read (put s here) (row_of l)) (line_with said here w r)
+    ∙ ap (row_read (put s here)) (row_three 1 (wide 4 k) f b k said (number_column f (octal_digits here))
     (number_column b (octal_digits w)) (number_column k (short_digits r.0)))
     ∙ enters s here f b k last (octal_digits here)
     ∙ ap (λ (y : Result Segment Mistake). y >>= (λ u. Ok (put u ((here + 2) % 65536))))
-    (word_found a flag here w s (r ∷ []) f b k last (octal_again here (omega arith)) (octal_again w words.0)
-    (relocs_there flag r last on relocs.0 unnumbered_last) (omega arith)) in
-    let long : length (s.words ++ w ∷ []) ≡ length s.words + 1 = length-append s.words (w ∷ []) in
-    let rest = words_with x p (i + 1) put a flag (at + 2) t ws rs are enters on (omega arith) words.1 relocs.1 (omega arith) in
-    let others = word_lines x p (i + 1) (at + 2) ws rs in
-    let last_draft = put (joined s (w ∷ ws) (r ∷ rs)) ((at + 2 * length (w ∷ ws)) % 65536) in
-    let start = same_put put t t ((at + 2) % 65536) ((here + 2) % 65536) refl (omega arith) in
-    let end =
-    same_put put (joined t ws rs) (joined s (w ∷ ws) (r ∷ rs)) ((at + 2 + 2 * length ws) % 65536) ((at + 2 * length (w ∷ ws)) % 65536)
-    (joined_more s w (r ∷ []) rs ws) (omega arith) in
-    reads_both (put s here) (put s here) last_draft (x.labels p i) (line ∷ others) (labels_read (put s here) (x.labels p i) (are.labels p i))
-    (reads_more (put s here) (put t ((here + 2) % 65536)) last_draft line others found
-    (subst (λ (d : Draft). Reads d others last_draft) start
-    (subst (λ (d : Draft). Reads (put t ((at + 2) % 65536)) others d) end rest)))
+    (word_found a flag here w s (r ∷ []) f b k last (octal_again here small) (octal_again w word)
+    (relocs_there flag r last on reloc unnumbered_last) room)
 
--- the words of a segment without relocation
-pub words_alone : (x : Remarks) (p : Part) (i : ℕ) (put : Segment → ℕ → Draft) (a : Addresses) (flag at : ℕ) (s : Segment)
-    (ws : List ℕ) → AreRemarks x → Enters put a flag → eqb flag 0 ≡ false → AllByRecursion IsWord ws → length s.words + length ws < 32768 →
-    Reads (put s (at % 65536)) (word_lines x p i at ws []) (put (joined s ws []) ((at + 2 * length ws) % 65536))
-words_alone x p i put a flag at s [] are enters off words room =
-    subst (λ (d : Draft). Reads (put s (at % 65536)) (x.labels p i) d)
-    (same_put put s (joined s [] []) (at % 65536) ((at + 2 * 0) % 65536) (joined_nil s) (omega arith))
-    (labels_read (put s (at % 65536)) (x.labels p i) (are.labels p i))
-words_alone x p i put a flag at s (w ∷ ws) are enters off words room =
-    let here = at % 65536 in
+-- and of one without
+line_alone_reads : (put : Segment → ℕ → Draft) (a : Addresses) (flag here w : ℕ) (s : Segment) (said : List ℕ) →
+    Enters put a flag → eqb flag 0 ≡ false → here < 65536 → IsWord w → length s.words < 32767 → is_numbered said ≡ false →
+    row_read (put s here) (row_of (word_line said here w None)) ≡ Ok (put (with_word s w []) ((here + 2) % 65536))
+line_alone_reads put a flag here w s said enters off small word room unnumbered =
     let f = six_digits here in
     let b = six_digits w in
-    let note = x.word p i in
-    let line = word_line note here w None in
-    let form = gap 1 f (b ++ remarked note) in
-    let t : Segment = with_word s w [] in
+    let form = gap 1 f (b ++ remarked said) in
     let third = column (from_third form) in
     let last = column (from_fourth form) in
     let unnumbered_third : is_digits third ≡ false =
-    third_numbered 1 f b note (number_column f (octal_digits here)) (number_column b (octal_digits w)) ∙ (are.word p i).1 in
-    let found : row_read (put s here) (row_of line) ≡ Ok (put t ((here + 2) % 65536)) =
-    ap (λ (l : List ℕ). row_read (put s here) (row_of l)) (line_alone note here w)
-    ∙ ap (row_read (put s here)) (row_two 1 f b note (number_column f (octal_digits here)) (number_column b (octal_digits w)))
+    third_numbered 1 f b said (number_column f (octal_digits here)) (number_column b (octal_digits w)) ∙ unnumbered in
+    ap (λ (l : List ℕ). row_read (put s here) (row_of l)) (line_alone said here w)
+    ∙ ap (row_read (put s here)) (row_two 1 f b said (number_column f (octal_digits here)) (number_column b (octal_digits w)))
     ∙ enters s here f b third last (octal_digits here)
     ∙ ap (λ (y : Result Segment Mistake). y >>= (λ u. Ok (put u ((here + 2) % 65536))))
-    (word_found a flag here w s [] f b third last (octal_again here (omega arith)) (octal_again w words.0)
-    (relocs_none flag third last off unnumbered_third) (omega arith)) in
-    let long : length (s.words ++ w ∷ []) ≡ length s.words + 1 = length-append s.words (w ∷ []) in
-    let rest = words_alone x p (i + 1) put a flag (at + 2) t ws are enters off words.1 (omega arith) in
-    let others = word_lines x p (i + 1) (at + 2) ws [] in
-    let last_draft = put (joined s (w ∷ ws) []) ((at + 2 * length (w ∷ ws)) % 65536) in
+    (word_found a flag here w s [] f b third last (octal_again here small) (octal_again w word)
+    (relocs_none flag third last off unnumbered_third) room)
+
+-- the lines of a word, and those of the words after it
+word_then : (put : Segment → ℕ → Draft) (at w : ℕ) (r : Option Reloc) (rs rest : List Reloc) (s : Segment) (ws : List ℕ)
+    (ls first others : List (List ℕ)) → (line : IsWordIn (at % 65536) w r first) → ls ≡ first ++ others →
+    row_read (put s (at % 65536)) (row_of (word_line line.said (at % 65536) w r)) ≡ Ok (put (with_word s w rs) ((at % 65536 + 2) % 65536)) →
+    Reads (put (with_word s w rs) ((at + 2) % 65536)) others (put (joined (with_word s w rs) ws rest) ((at + 2 + 2 * length ws) % 65536)) →
+    Reads (put s (at % 65536)) ls (put (joined s (w ∷ ws) (rs ++ rest)) ((at + 2 * length (w ∷ ws)) % 65536))
+word_then put at w r rs rest s ws ls first others line is found more =
+    let here = at % 65536 in
+    let t : Segment = with_word s w rs in
+    let next = put t ((here + 2) % 65536) in
+    let last = put (joined s (w ∷ ws) (rs ++ rest)) ((at + 2 * length (w ∷ ws)) % 65536) in
     let start = same_put put t t ((at + 2) % 65536) ((here + 2) % 65536) refl (omega arith) in
     let end =
-    same_put put (joined t ws []) (joined s (w ∷ ws) []) ((at + 2 + 2 * length ws) % 65536) ((at + 2 * length (w ∷ ws)) % 65536)
-    (joined_more s w [] [] ws) (omega arith) in
-    reads_both (put s here) (put s here) last_draft (x.labels p i) (line ∷ others) (labels_read (put s here) (x.labels p i) (are.labels p i))
-    (reads_more (put s here) (put t ((here + 2) % 65536)) last_draft line others found
-    (subst (λ (d : Draft). Reads d others last_draft) start
-    (subst (λ (d : Draft). Reads (put t ((at + 2) % 65536)) others d) end rest)))
+    same_put put (joined t ws rest) (joined s (w ∷ ws) (rs ++ rest)) ((at + 2 + 2 * length ws) % 65536) ((at + 2 * length (w ∷ ws)) % 65536)
+    (joined_more s w rs rest ws) (omega arith) in
+    let here_reads : Reads (put s here) first next =
+    subst (λ (y : List (List ℕ)). Reads (put s here) y next) (sym line.lines)
+    (reads_both (put s here) (put s here) next line.labels (word_line line.said here w r ∷ [])
+    (skipped_read (put s here) line.labels line.are_skipped)
+    (reads_one (put s here) next (word_line line.said here w r) found)) in
+    subst (λ (y : List (List ℕ)). Reads (put s here) y last) (sym is)
+    (reads_both (put s here) next last first others here_reads
+    (subst (λ (d : Draft). Reads d others last) start (subst (λ (d : Draft). Reads (put t ((at + 2) % 65536)) others d) end more)))
+
+words_end : (put : Segment → ℕ → Draft) (at : ℕ) (s : Segment) (ls : List (List ℕ)) → AllByRecursion IsSkipped ls →
+    Reads (put s (at % 65536)) ls (put (joined s [] []) ((at + 2 * 0) % 65536))
+words_end put at s ls are =
+    subst (λ (d : Draft). Reads (put s (at % 65536)) ls d)
+    (same_put put s (joined s [] []) (at % 65536) ((at + 2 * 0) % 65536) (joined_nil s) (omega arith))
+    (skipped_read (put s (at % 65536)) ls are)
+
+-- the words of a segment with relocation
+pub words_with : (put : Segment → ℕ → Draft) (a : Addresses) (flag at : ℕ) (s : Segment)
+    (ws : List ℕ) (rs : List Reloc) (ls : List (List ℕ)) → AreWords at ws rs ls →
+    Enters put a flag → eqb flag 0 ≡ true → length rs ≡ length ws →
+    AllByRecursion IsWord ws → AreRelocs rs → length s.words + length ws < 32768 →
+    Reads (put s (at % 65536)) ls (put (joined s ws rs) ((at + 2 * length ws) % 65536))
+words_with put a flag at s [] [] ls are enters on same words relocs room = words_end put at s ls are
+words_with put a flag at s [] (r ∷ rs) ls are enters on same words relocs room = absurd (omega arith)
+words_with put a flag at s (w ∷ ws) [] ls are enters on same words relocs room = absurd (omega arith)
+words_with put a flag at s (w ∷ ws) (r ∷ rs) ls are enters on same words relocs room =
+    let line = are.2 in
+    let long : length (s.words ++ w ∷ []) ≡ length s.words + 1 = length-append s.words (w ∷ []) in
+    word_then put at w (Some r) (r ∷ []) rs s ws ls are.0 are.1 line are.4
+    (line_with_reads put a flag (at % 65536) w r s line.said enters on (omega arith) words.0 relocs.0 (omega arith) line.is_remark.1)
+    (words_with put a flag (at + 2) (with_word s w (r ∷ [])) ws rs are.1 are.3 enters on (omega arith) words.1 relocs.1 (omega arith))
+
+-- the words of a segment without relocation
+pub words_alone : (put : Segment → ℕ → Draft) (a : Addresses) (flag at : ℕ) (s : Segment)
+    (ws : List ℕ) (ls : List (List ℕ)) → AreWords at ws [] ls → Enters put a flag → eqb flag 0 ≡ false → AllByRecursion IsWord ws →
+    length s.words + length ws < 32768 → Reads (put s (at % 65536)) ls (put (joined s ws []) ((at + 2 * length ws) % 65536))
+words_alone put a flag at s [] ls are enters off words room = words_end put at s ls are
+words_alone put a flag at s (w ∷ ws) ls are enters off words room =
+    let line = are.2 in
+    let long : length (s.words ++ w ∷ []) ≡ length s.words + 1 = length-append s.words (w ∷ []) in
+    word_then put at w None [] [] s ws ls are.0 are.1 line are.4
+    (line_alone_reads put a flag (at % 65536) w s line.said enters off (omega arith) words.0 (omega arith) line.is_remark.1)
+    (words_alone put a flag (at + 2) (with_word s w []) ws are.1 are.3 enters off words.1 (omega arith))
 
 -- symbols
 symbol_found : (n : ℕ) (done : List Symbol) (s : Symbol) (f g k m : List ℕ) →
@@ -195,13 +207,18 @@ in_symbols d ss n = record d { section = InSymbols; next = n; symbols = ss }
 same_table : (d : Draft) (xs ys : List Symbol) (n m : ℕ) → xs ≡ ys → n ≡ m → in_symbols d xs n ≡ in_symbols d ys m
 same_table d xs ys n m same next = λ i. in_symbols d (same i) (next i)
 
-pub symbols_read : (x : Remarks) (d : Draft) (n : ℕ) (done ss : List Symbol) → n ≡ length done →
+pub symbols_read : (d : Draft) (n : ℕ) (done ss : List Symbol) (ls : List (List ℕ)) → AreSymbols n ss ls → n ≡ length done →
     AllByRecursion IsSymbol ss → length done + length ss < 5462 →
-    Reads (in_symbols d done n) (symbol_lines x n ss) (in_symbols d (done ++ ss) (n + length ss))
-symbols_read x d n done [] place are room =
-    subst (λ (e : Draft). Reads (in_symbols d done n) [] e)
-    (same_table d done (done ++ []) n (n + 0) (sym (append-nil done)) (omega arith)) (reads_nil (in_symbols d done n))
-symbols_read x d n done (s ∷ ss) place are room =
+    Reads (in_symbols d done n) ls (in_symbols d (done ++ ss) (n + length ss))
+symbols_read d n done [] ls lines place are room =
+    subst (λ (y : List (List ℕ)). Reads (in_symbols d done n) y (in_symbols d (done ++ []) (n + 0))) (sym lines)
+    (subst (λ (e : Draft). Reads (in_symbols d done n) [] e)
+    (same_table d done (done ++ []) n (n + 0) (sym (append-nil done)) (omega arith)) (reads_nil (in_symbols d done n)))
+symbols_read d n done (s ∷ ss) ls lines place are room =
+    let l = lines.0 in
+    let others = lines.1 in
+    let said = lines.2.0 in
+    let said_so = lines.2.2 in
     let from : Draft = in_symbols d done n in
     let next : Draft = in_symbols d (done ++ s ∷ []) ((n + 1) % 65536) in
     let last : Draft = in_symbols d (done ++ s ∷ ss) (n + length (s ∷ ss)) in
@@ -209,8 +226,9 @@ symbols_read x d n done (s ∷ ss) place are room =
     let b = printable_name s.name in
     let c = octal s.type_bits in
     let e = six_digits s.value in
-    let found : row_read from (row_of (symbol_line x n s)) ≡ Ok next =
-    ap (row_read from) (row_four (wide 4 a) (wide 8 b + (3 - length c)) 1 a b c e (x.symbol s)
+    let found : row_read from (row_of l) ≡ Ok next =
+    ap (λ (y : List ℕ). row_read from (row_of y)) said_so
+    ∙ ap (row_read from) (row_four (wide 4 a) (wide 8 b + (3 - length c)) 1 a b c e said
     (number_column a (short_digits n)) (name_column s.name) (number_column c (short_digits s.type_bits))
     (number_column e (octal_digits s.value)))
     ∙ entry_row from a b c e (short_digits n)
@@ -218,12 +236,12 @@ symbols_read x d n done (s ∷ ss) place are room =
     (symbol_found n done s a b c e (short_again n (omega arith)) (name_again s.name are.0.name)
     (short_again s.type_bits are.0.type_bits) (octal_again s.value are.0.value) (omega arith)) in
     let long : length (done ++ s ∷ []) ≡ length done + 1 = length-append done (s ∷ []) in
-    let rest = symbols_read x d (n + 1) (done ++ s ∷ []) ss (omega arith) are.1 (omega arith) in
-    let others = symbol_lines x (n + 1) ss in
+    let rest = symbols_read d (n + 1) (done ++ s ∷ []) ss others lines.3 (omega arith) are.1 (omega arith) in
     let start = same_table d (done ++ s ∷ []) (done ++ s ∷ []) (n + 1) ((n + 1) % 65536) refl (omega arith) in
     let end =
     same_table d ((done ++ s ∷ []) ++ ss) (done ++ s ∷ ss) (n + 1 + length ss) (n + length (s ∷ ss)) (append_assoc done (s ∷ []) ss)
     (omega arith) in
-    reads_more from next last (symbol_line x n s) others found
+    subst (λ (y : List (List ℕ)). Reads from y last) (sym lines.4)
+    (reads_more from next last l others found
     (subst (λ (e : Draft). Reads e others last) start
-    (subst (λ (e : Draft). Reads (in_symbols d (done ++ s ∷ []) (n + 1)) others e) end rest))
+    (subst (λ (e : Draft). Reads (in_symbols d (done ++ s ∷ []) (n + 1)) others e) end rest)))

@@ -3,6 +3,7 @@ pub mod Columns
 pub mod Names
 pub mod Drafts
 pub mod Listing
+pub mod Puts
 pub mod Reading
 pub mod Said
 pub mod MemoryWanted

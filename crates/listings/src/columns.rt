@@ -123,7 +123,6 @@ pub(crate) struct Columns<'a> {
     pub(crate) fourth: &'a [u8],
 }
 
-/// The columns of a line.
 pub(crate) fn columns_of(line: &[u8]) -> Columns<'_>
     ensures { row_in result ≡ row_of line.now }
 {

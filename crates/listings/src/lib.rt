@@ -19,7 +19,8 @@
 //! - `write_cut_listing`: the same with its first relocation words alone
 //! - `read_listing`: the file of a listing
 //! - `says_something`: whether a listing has a line that is neither blank nor a comment
-//! - `is_numbered`: whether a remark begins with a number, as none on a word does
+//! - `put_notes`: appends notes, a line each, as a listing has them
+//! - `put_printed`: appends bytes; those below the blank as `\ooo`
 //!
 //! Modules:
 //!
@@ -47,6 +48,7 @@ mod numbers;
 mod read;
 mod remark;
 mod rows;
+mod said;
 mod write;
 
 pub use columns::says_something;
@@ -54,5 +56,5 @@ pub use draft::Addresses;
 pub use fault::{Fault, ListingFault, Mistakes, Reason};
 pub use read::read_listing;
 pub use remark::{Nothing, Remark};
-pub use rows::is_numbered;
+pub use said::{put_notes, put_printed};
 pub use write::{write_cut_listing, write_listing};

@@ -9,7 +9,6 @@ use aout_core::Name;
 use std::alloc::Global;
 use texts::is_printable;
 
-/// The number in a column.
 pub(crate) fn number_at(place: usize, column: &[u8]) -> Result<u16, RowFault>
     ensures found { Found (λ n. n) result (in_column place (number column.now)) }
     ensures no_memory { IfErr result (λ fault. fault ≢ Memory refused) }
@@ -99,7 +98,6 @@ fn whole_name(bytes: &[u8]) -> Result<Name, Reason>
     Ok(name)
 }
 
-/// The name in a column.
 pub(crate) fn name_at(alloc: Global, place: usize, column: &[u8]) -> Result<Name, RowFault>
     ensures { Found (λ n. n) result (in_column place (name_of column.now)) }
 {

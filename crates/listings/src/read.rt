@@ -2,7 +2,7 @@
 ghost use Rattle.std.specs.Prelude.{◌≡◌, ◌≢◌, ◌⊎◌, ◌+◌, IfOk, IfErr, IsSome};
 ghost use Rattle.aout_core.specs.{Contents.{Contents, IsSound}, Refusals.refused};
 ghost use Rattle.listings.specs.{declared.fault.ListingFault.TheVariants.Memory, Columns.row_of, Drafts.finished};
-ghost use Rattle.listings.specs.{Listing.{Remarks, listing}, Laws.AreRemarks, Reading.{file_of, noted_by, line_read, lines_read, read}};
+ghost use Rattle.listings.specs.{Listing.IsListed, Reading.{file_of, noted_by, line_read, lines_read, read}};
 ghost use Rattle.listings.specs.{MemoryWanted.{IsEntry, IsLater, ListingMayRunOut, MayRunOutInLines}, Said.{Gives, Says}};
 ghost use Rattle.listings.specs.{internal.DraftParts.draft_of, internal.Lines.{noted_of, state_of}, internal.Whole.IsDraft};
 ghost use Rattle.texts.specs.Lines.{lines_in};
@@ -37,7 +37,6 @@ fn note(noting: &mut Noting, fault: Fault) -> Result<(), Refused>
     Ok(())
 }
 
-/// Reads a line, by its number.
 fn read_line(
     alloc: Global,
     draft: &mut FileDraft,
@@ -93,7 +92,6 @@ fn read_lines(
     Ok(number)
 }
 
-/// The file of a draft.
 fn finish(draft: FileDraft) -> File
     requires { IsDraft (draft_of draft) }
     ensures { result ≡ finished (draft_of draft) }
@@ -192,8 +190,7 @@ pub fn read_listing(alloc: Global, addresses: Addresses, text: &[u8]) -> Result<
     ensures says { Says result (read addresses text.now) }
     ensures memory { IfErr result (λ fault.
         fault ≡ Memory refused → ListingMayRunOut addresses text.now) }
-    ensures again { (x : Remarks) (c : Contents) → AreRemarks x → IsSound c → text.now ≡ listing x c
-        → Gives result c }
+    ensures again { (c : Contents) → IsListed c text.now → IsSound c → Gives result c }
 {
     read_all(alloc, addresses, text)
 }

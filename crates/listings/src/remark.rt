@@ -1,55 +1,42 @@
 //! What is remarked in a listing.
-ghost use Rattle.std.specs.Prelude.{◌≡◌, false, []};
-ghost use Rattle.texts.specs.{Lines.text_of, Texts.Puts};
-ghost use Rattle.listings.specs.{Listing.{Remarks, no_remarks, remarked, note_lines}, Laws.AreRemarks};
 
 use aout_core::{Part, Symbol};
 use texts::Text;
 
-/// What a listing says to people beside the file. `read_listing` skips it. A part is text or data, and a place in it is the
-/// index of a word. (own choice)
+/// What a listing says to people beside the file. `read_listing` skips it: what it would not skip is written as a note or a remark that
+/// begins with a slash. A part is text or data, and a place in it is the index of a word. (own choice)
 pub trait Remark {
-    ghost said: { Self → Remarks };
+    /// The notes at the head of the listing. Each becomes a line that begins with a slash.
+    fn notes(&self) -> &[Vec<u8>];
 
-    /// Appends the notes at the head of the listing, a line each, which begins with a slash.
-    fn put_notes(&self, text: &mut Text)
-        ensures { Puts text.old text.new (text_of (note_lines (said self.now).notes)) };
+    /// The notes that follow the table.
+    fn findings(&self) -> &[Vec<u8>];
 
-    /// Appends the notes that follow the table, in the same form.
-    fn put_findings(&self, text: &mut Text)
-        ensures { Puts text.old text.new (text_of (note_lines (said self.now).findings)) };
+    /// Puts the labels before the word at a place of a part, a line each, or at the end of the part those of the end.
+    fn put_labels(&self, labels: &mut Text, part: Part, place: usize);
 
-    /// Appends the labels before the word at a place of a part, a line each, or at the end of the part those of the end.
-    fn put_labels(&self, text: &mut Text, part: Part, place: usize)
-        ensures { Puts text.old text.new (text_of ((said self.now).labels part place)) };
+    /// Puts what is remarked of the word at a place of a part, if anything is. A number at its front is left out, up to a slash.
+    fn put_word(&self, remark: &mut Text, part: Part, place: usize);
 
-    /// Appends two blanks and what is remarked of the word at a place of a part, or nothing if there is no remark. It does not begin with
-    /// a digit.
-    fn put_word(&self, text: &mut Text, part: Part, place: usize)
-        ensures { Puts text.old text.new (remarked ((said self.now).word part place)) };
-
-    /// Appends two blanks and what is remarked of a symbol, or nothing.
-    fn put_symbol(&self, text: &mut Text, symbol: &Symbol)
-        ensures { Puts text.old text.new (remarked ((said self.now).symbol symbol.now)) };
-
-    ghost are: { (r : Self) → AreRemarks (said r) };
+    /// Puts what is remarked of a symbol, if anything is.
+    fn put_symbol(&self, remark: &mut Text, symbol: &Symbol);
 }
 
 /// Nothing is remarked.
 pub struct Nothing;
 
 impl Remark for Nothing {
-    ghost said = { λ r. no_remarks };
+    fn notes(&self) -> &[Vec<u8>] {
+        &[]
+    }
 
-    fn put_notes(&self, text: &mut Text) {}
+    fn findings(&self) -> &[Vec<u8>] {
+        &[]
+    }
 
-    fn put_findings(&self, text: &mut Text) {}
+    fn put_labels(&self, labels: &mut Text, part: Part, place: usize) {}
 
-    fn put_labels(&self, text: &mut Text, part: Part, place: usize) {}
+    fn put_word(&self, remark: &mut Text, part: Part, place: usize) {}
 
-    fn put_word(&self, text: &mut Text, part: Part, place: usize) {}
-
-    fn put_symbol(&self, text: &mut Text, symbol: &Symbol) {}
-
-    ghost are = { λ r. record { notes = tt; findings = tt; labels = λ p i. tt; word = λ p i. (tt, λ k. false); symbol = λ s. tt } };
+    fn put_symbol(&self, remark: &mut Text, symbol: &Symbol) {}
 }

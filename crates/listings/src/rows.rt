@@ -1,5 +1,5 @@
 //! Reads a row of a listing into a draft.
-ghost use Rattle.std.specs.{Prelude.{◌≡◌, ◌≢◌, option_to_list, Ok, IfErr, IsTrue}, Cmp.Lexicographic.pointwise, List.list_all};
+ghost use Rattle.std.specs.{Prelude.{◌≡◌, ◌≢◌, ◌&&◌, not, option_to_list, Ok, IfErr, IsTrue}, Cmp.Lexicographic.pointwise, List.list_all};
 ghost use Rattle.listings.specs.{Columns.row_of, internal.Rows.row_in, declared.fault.RowFault.TheVariants.Memory};
 ghost use Rattle.listings.specs.declared.fault.Section.TheVariants.{InHeader, InText, InData, InSymbols};
 ghost use Rattle.listings.specs.{declared.fault.Word.TheVariants.{Bss, Magic, Flag}, Octal.number};
@@ -91,7 +91,6 @@ fn is_right(addresses: Addresses, at: u16, next: u16) -> bool
     }
 }
 
-/// Reads a word of a segment, at the next address.
 fn word_entry(
     addresses: Addresses,
     next: u16,
@@ -265,7 +264,6 @@ fn first_in(section: Section, draft: &FileDraft) -> u16
     }
 }
 
-/// Opens a section.
 fn open(draft: &mut FileDraft, section: Section) -> Result<(), RowFault>
     ensures left { Leaves (draft_of draft.old) (draft_of draft.new) result (opened section (draft_of draft.old)) }
     ensures no_memory { IfErr result (λ fault. fault ≢ Memory refused) }
@@ -309,7 +307,6 @@ fn take_magic(draft: &mut FileDraft, second: &[u8]) -> Result<(), RowFault>
     Ok(())
 }
 
-/// Takes the flag.
 fn take_flag(draft: &mut FileDraft, second: &[u8]) -> Result<(), RowFault>
     ensures left { Leaves (draft_of draft.old) (draft_of draft.new) result
         (named_by Flag (draft_of draft.old) (in_column 1 (number second.now))) }
@@ -322,7 +319,6 @@ fn take_flag(draft: &mut FileDraft, second: &[u8]) -> Result<(), RowFault>
     Ok(())
 }
 
-/// Takes what a word says.
 fn take_word(draft: &mut FileDraft, word: Word, second: &[u8]) -> Result<(), RowFault>
     ensures left { Leaves (draft_of draft.old) (draft_of draft.new) result
         (named_by word (draft_of draft.old) (in_column 1 (number second.now))) }
@@ -397,6 +393,14 @@ fn is_label(columns: Columns) -> bool
         || (is_word(columns.second, b"=") && columns.third.starts_with(b".+"))
 }
 
+/// Whether a row is a label, for a reader that looks at digits first.
+pub(crate) fn is_skipped(line: &[u8]) -> bool
+    ensures { result ≡ (not (begins_with_digit (row_of line.now).first) && is_label (row_of line.now)) }
+{
+    let columns = columns_of(line);
+    !begins_with_digit(columns.first) && is_label(columns)
+}
+
 /// Whether a row is a word, a symbol, or a mistake in its place.
 fn begins_with_digit(first: &[u8]) -> bool
     ensures { result ≡ begins_with_digit first.now }
@@ -407,7 +411,6 @@ fn begins_with_digit(first: &[u8]) -> bool
     }
 }
 
-/// Reads a row.
 pub(crate) fn read_row(alloc: Global, draft: &mut FileDraft, line: &[u8]) -> Result<(), RowFault>
     ensures left { Leaves (draft_of draft.old) (draft_of draft.new) result
         (row_read (draft_of draft.old) (row_of line.now)) }

@@ -1,11 +1,13 @@
 //! Writes the listing of a file.
 ghost use Rattle.std.specs.Prelude.{◌≡◌, ◌<◌, ◌+◌, [], ◌∷◌, ◌++◌, codes, length, replicate, slice_get, Ok, IfOk};
+ghost use Rattle.aout_core.specs.Addresses.{data_start_in};
 ghost use Rattle.texts.specs.{Numbers.{six_digits, octal}, Names.printable_name, Lines.text_of, Texts.Puts};
-ghost use Rattle.listings.specs.Listing.{gap, wide, word_columns, word_line, word_lines, symbol_numbers, symbol_line, symbol_lines};
-ghost use Rattle.listings.specs.Listing.{named_line, unusual, head_lines, text_lines, data_lines, bss_lines, table_lines, cut_listing};
-ghost use Rattle.listings.specs.{Listing.{listing, with_relocs}, Reading.read, declared.draft.Addresses.TheVariants.Compared};
+ghost use Rattle.listings.specs.Listing.{gap, wide, word_columns, symbol_numbers, named_line, unusual, head_lines, bss_lines};
+ghost use Rattle.listings.specs.Listing.{IsRemark, IsWord, AreWords, IsSymbolLine, AreSymbols, IsBeforeEnd, IsListed};
+ghost use Rattle.listings.specs.{Reading.read, Puts.{PutsSuch, PutsLines}, declared.draft.Addresses.TheVariants.Compared};
 
 use crate::remark::Remark;
+use crate::said::{put_labels_at, put_notes, put_remark};
 use aout_core::laws::sound_law;
 use aout_core::{File, Header, Name, Part, Reloc, Symbol};
 use std::alloc::{AllocError, Global};
@@ -68,13 +70,13 @@ struct Place {
 
 /// Appends the line of a word, and the labels before it.
 fn put_word<R: Remark>(remarks: &R, text: &mut Text, place: Place, word: u16, reloc: Option<Reloc>)
-    ensures { Puts text.old text.new (text_of ((R.said remarks.now).labels place.part place.index)
-        ++ (word_line ((R.said remarks.now).word place.part place.index) place.at word reloc
-        ++ 10 ∷ [])) }
+    ensures { PutsLines (IsWord place.at word reloc) text.old text.new }
 {
-    remarks.put_labels(text, place.part, place.index);
+    put_labels_at(remarks, text, place.part, place.index);
     put_columns(text, place.at, word, reloc);
-    remarks.put_word(text, place.part, place.index);
+    let mut said = Text::new(text.allocator());
+    remarks.put_word(&mut said, place.part, place.index);
+    put_remark(text, said);
     text.put_byte(b'\n');
 }
 
@@ -94,8 +96,7 @@ fn put_words<R: Remark>(
     relocs: &[Reloc],
 )
     requires { start < 131072 }
-    ensures { Puts text.old text.new
-        (text_of (word_lines (R.said remarks.now) part 0 start words.now relocs.now)) }
+    ensures { PutsLines (AreWords start words.now relocs.now) text.old text.new }
 {
     let mut at = (start % 65536) as u16;
     for (index, word) in words.iter().enumerate() {
@@ -103,7 +104,7 @@ fn put_words<R: Remark>(
         put_word(remarks, text, place, *word, reloc_at(relocs, index));
         at = at.wrapping_add(2);
     }
-    remarks.put_labels(text, part, words.len());
+    put_labels_at(remarks, text, part, words.len());
 }
 
 /// A name as it prints.
@@ -115,7 +116,6 @@ fn printable(alloc: Global, name: &Name) -> Result<Vec<u8>, AllocError>
     text.finish()
 }
 
-/// Appends the numbers of a symbol, and a newline.
 fn put_numbers<R: Remark>(
     remarks: &R,
     text: &mut Text,
@@ -124,13 +124,14 @@ fn put_numbers<R: Remark>(
     digits: &[u8],
 )
     requires { digits.now ≡ octal symbol.now.type_bits }
-    ensures { Puts text.old text.new
-        (32 ∷ (replicate blanks 32 ++ symbol_numbers (R.said remarks.now) symbol.now) ++ 10 ∷ []) }
+    ensures { PutsSuch (λ bytes. (said : _) × IsRemark said
+        × (bytes ≡ 32 ∷ (replicate blanks 32 ++ symbol_numbers said symbol.now))) text.old text.new }
 {
     put_column(text, blanks, digits);
     put_word_column(text, 1, symbol.value);
-    remarks.put_symbol(text, symbol);
-    text.put_byte(b'\n');
+    let mut said = Text::new(text.allocator());
+    remarks.put_symbol(&mut said, symbol);
+    put_remark(text, said);
 }
 
 /// Appends the number of a symbol and its name.
@@ -145,8 +146,7 @@ fn put_label(text: &mut Text, number: u16, name: &[u8])
 
 /// Appends an entry of the symbol table.
 fn put_symbol<R: Remark>(remarks: &R, text: &mut Text, number: u16, symbol: &Symbol)
-    ensures { Puts text.old text.new
-        (symbol_line (R.said remarks.now) number symbol.now ++ 10 ∷ []) }
+    ensures { PutsLines (λ ls. (l : _) × IsSymbolLine number symbol.now l × (ls ≡ l ∷ [])) text.old text.new }
 {
     let name = match printable(text.allocator(), &symbol.name) {
         Ok(name) => name,
@@ -157,12 +157,13 @@ fn put_symbol<R: Remark>(remarks: &R, text: &mut Text, number: u16, symbol: &Sym
     let blanks = wide(8, &name) + 3usize.saturating_sub(digits.len());
     put_label(text, number, &name);
     put_numbers(remarks, text, blanks, symbol, digits);
+    text.put_byte(b'\n');
 }
 
 /// Appends the symbol table.
 fn put_symbols<R: Remark>(remarks: &R, text: &mut Text, symbols: &[Symbol])
     requires { length symbols.now < 5462 }
-    ensures { Puts text.old text.new (text_of (symbol_lines (R.said remarks.now) 0 symbols.now)) }
+    ensures { PutsLines (AreSymbols 0 symbols.now) text.old text.new }
 {
     let mut number = 0u16;
     for symbol in symbols {
@@ -198,88 +199,46 @@ fn put_head(text: &mut Text, file: &File)
     put_unusual(text, 0, "flag", header.flag);
 }
 
-/// Appends the size of bss.
-fn put_bss_size(text: &mut Text, size: u16)
-    ensures { Puts text.old text.new (gap 0 (codes "bss") (octal size) ++ 10 ∷ []) }
-{
-    text.put("bss ");
-    text.put_octal(u64::from(size));
-    text.put_byte(b'\n');
-}
-
 /// Appends the size of bss, and the other words of the header.
-fn put_bss_words(text: &mut Text, header: &Header)
+fn put_bss(text: &mut Text, header: &Header)
     ensures { Puts text.old text.new (text_of (bss_lines header.now)) }
 {
-    put_bss_size(text, header.bss_size);
+    text.put("bss ");
+    text.put_octal(u64::from(header.bss_size));
+    text.put_byte(b'\n');
     put_unusual(text, 0, "entry", header.entry_point);
     put_unusual(text, 0, "unused", header.unused);
 }
 
-/// Appends the words of the header that follow the data.
-fn put_bss(text: &mut Text, file: &File)
-    ensures { Puts text.old text.new (text_of (bss_lines file.now.header)) }
-{
-    put_bss_words(text, file.header());
-}
-
-/// Appends the lines of the text, with so many relocation words.
-fn put_text<R: Remark>(remarks: &R, text: &mut Text, file: &File, relocs: usize)
-    ensures { Puts text.old text.new
-        (text_of (text_lines (R.said remarks.now) (with_relocs relocs file.now))) }
-{
-    text.put("text\n");
-    let count = relocs.min(file.text_reloc().len());
-    put_words(
-        remarks,
-        text,
-        Part::Text,
-        0,
-        file.text_words(),
-        &file.text_reloc()[..count],
-    );
-}
-
-/// Appends the lines of the data, with the relocation words of these that are not of text.
-fn put_data<R: Remark>(remarks: &R, text: &mut Text, file: &File, relocs: usize)
-    ensures { Puts text.old text.new
-        (text_of (data_lines (R.said remarks.now) (with_relocs relocs file.now))) }
+/// Appends the listing of a file but for its last line, with these relocation words.
+fn put_before_end<R: Remark>(
+    remarks: &R,
+    text: &mut Text,
+    file: &File,
+    text_relocs: &[Reloc],
+    data_relocs: &[Reloc],
+)
+    ensures { PutsLines (IsBeforeEnd (record file.now { text_reloc = text_relocs.now; data_reloc = data_relocs.now }))
+        text.old text.new }
 {
     let header = file.header();
+    put_notes(text, remarks.notes());
+    put_head(text, file);
+    text.put("text\n");
+    put_words(remarks, text, Part::Text, 0, file.text_words(), text_relocs);
     text.put("data\n");
-    let count = relocs
-        .saturating_sub(file.text_reloc().len())
-        .min(file.data_reloc().len());
     put_words(
         remarks,
         text,
         Part::Data,
         header.data_start(),
         file.data_words(),
-        &file.data_reloc()[..count],
+        data_relocs,
     );
-}
-
-/// Appends the lines of the symbol table.
-fn put_table<R: Remark>(remarks: &R, text: &mut Text, file: &File)
-    ensures { Puts text.old text.new (text_of (table_lines (R.said remarks.now) file.now)) }
-{
+    put_bss(text, header);
     text.put("symbols\n");
     put_symbols(remarks, text, file.symbols());
-}
-
-/// Appends the listing of a file but for its last line, with remarks and so many relocation words.
-fn put_before_end<R: Remark>(remarks: &R, text: &mut Text, file: &File, relocs: usize)
-    ensures { Puts text.old text.new
-        (cut_listing (R.said remarks.now) (with_relocs relocs file.now)) }
-{
-    remarks.put_notes(text);
-    put_head(text, file);
-    put_text(remarks, text, file, relocs);
-    put_data(remarks, text, file, relocs);
-    put_bss(text, file);
-    put_table(remarks, text, file);
-    remarks.put_findings(text);
+    put_notes(text, remarks.findings());
 }
 
 /// The listing of a file with its first relocation words alone, as they are in a file that ends early. It lacks the last line, so it is
@@ -291,35 +250,32 @@ pub fn write_cut_listing<R: Remark>(
     file: &File,
     relocs: usize,
     remarks: &R,
-) -> Result<Vec<u8>, AllocError>
-    ensures { IfOk result (λ v.
-        v.items ≡ cut_listing (R.said remarks.now) (with_relocs relocs file.now)) }
-{
+) -> Result<Vec<u8>, AllocError> {
     let mut text = Text::new(alloc);
-    put_before_end(remarks, &mut text, file, relocs);
+    let of_text = relocs.min(file.text_reloc().len());
+    let of_data = (relocs - of_text).min(file.data_reloc().len());
+    put_before_end(
+        remarks,
+        &mut text,
+        file,
+        &file.text_reloc()[..of_text],
+        &file.data_reloc()[..of_data],
+    );
     text.finish()
 }
 
-/// How many relocation words a file has.
-fn reloc_count(file: &File) -> usize
-    ensures { result ≡ length file.now.text_reloc + length file.now.data_reloc }
-{
-    file.text_reloc().len() + file.data_reloc().len()
-}
-
-/// Appends the listing of a file, with remarks.
-fn put_listing<R: Remark>(remarks: &R, text: &mut Text, file: &File)
-    ensures { Puts text.old text.new (listing (R.said remarks.now) file.now) }
-{
-    put_before_end(remarks, text, file, reloc_count(file));
-    text.put("end\n");
-}
-
 fn listing_of<R: Remark>(alloc: Global, file: &File, remarks: &R) -> Result<Vec<u8>, AllocError>
-    ensures { IfOk result (λ v. v.items ≡ listing (R.said remarks.now) file.now) }
+    ensures { IfOk result (λ v. IsListed file.now v.items) }
 {
     let mut text = Text::new(alloc);
-    put_listing(remarks, &mut text, file);
+    put_before_end(
+        remarks,
+        &mut text,
+        file,
+        file.text_reloc(),
+        file.data_reloc(),
+    );
+    text.put("end\n");
     text.finish()
 }
 
@@ -331,7 +287,7 @@ pub fn write_listing<R: Remark>(
     file: &File,
     remarks: &R,
 ) -> Result<Vec<u8>, AllocError>
-    ensures lists { IfOk result (λ v. v.items ≡ listing (R.said remarks.now) file.now) }
+    ensures lists { IfOk result (λ v. IsListed file.now v.items) }
     ensures again { IfOk result (λ v. read Compared v.items ≡ Ok file.now) }
 {
     sound_law(file);
