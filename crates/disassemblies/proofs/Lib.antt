@@ -1,12 +1,6 @@
-pub mod ChainLemmas
-pub mod BlockLemmas
 pub mod LineLemmas
 pub mod ListedLemmas
 pub mod StartLemmas
-pub mod LabelLemmas
-pub mod PlainLemmas
-pub mod ColumnLemmas
 pub mod SweptLemmas
-pub mod StringLemmas
-pub mod NameLemmas
+pub mod OrderedLemmas
 pub mod NearLemmas

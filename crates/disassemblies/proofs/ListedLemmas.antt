@@ -1,10 +1,10 @@
 -- The line that a listing shows is the one that the words begin, or their first word alone.
 use Rattle.std.proofs.Common.{◌≡◌, ℕ, zero, suc, ◌+◌, ◌-◌, ◌<◌, ◌≤◌, Bool, true, false, if◌then◌else◌, List, length, refl, ◌∙◌, ap, arith}
-use Rattle.std.specs.Prelude.{not, ◌&&◌, get_or, slice_index}
+use Rattle.std.specs.Prelude.{get_or, slice_index}
 use Rattle.aout_core.specs.{declared.symbol.Symbol.Symbol, Contents.Contents}
 use Rattle.instructions.specs.{declared.unix.Decoder.Decoder, declared.unix.UnixLine.UnixLine, declared.line.Line.TheVariants.Plain}
 use Rattle.instructions.specs.{declared.unix.UnixLine.TheVariants.Machine, UnixLines.unix_length}
-use Rattle.disassemblies.specs.{Lines.unix_line_in, Listed.{has_label, is_zero, zeros_from, have_label, listed_line, is_plain_line}}
+use Rattle.disassemblies.specs.{Lines.unix_line_in, Listed.{has_label, have_label, listed_line, is_plain_line}}
 use Rattle.disassemblies.specs.internal.Labelled.{AreLabelled, any_marked}
 use Rattle.disassemblies.proofs.LineLemmas.{length_in, line_fits}
 
@@ -70,13 +70,3 @@ listed_by d c labelled place t are h marked =
     let same : t ≡ have_label c.symbols (place + 1) (n - 1) =
     marked ∙ any_labels c.symbols (length c.text_words) labelled are (place + 1) (n - 1) (omega arith) in
     ap (λ (b : Bool). if b then Machine (Plain (slice_index c.text_words place)) else unix_line_in d c place) same
-
--- one word 0 more, without a label
-pub zero_more : (c : Contents) (place n rest : ℕ) → n ≡ suc rest → (not (has_label c.symbols place) && is_zero c place) ≡ true →
-    zeros_from c n place ≡ suc (zeros_from c rest (place + 1))
-zero_more c place n rest e h = cc
-
--- a word that is none
-pub zeros_end : (c : Contents) (place n : ℕ) → (not (has_label c.symbols place) && is_zero c place) ≡ false → zeros_from c n place ≡ 0
-zeros_end c place zero h = refl
-zeros_end c place (suc n) h = cc

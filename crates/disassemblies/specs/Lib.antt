@@ -1,11 +1,6 @@
 pub mod Naming
 pub mod Near
-pub mod Strings
-pub mod Linked
 pub mod Lines
 pub mod Listed
-pub mod Remarks
-pub mod Labels
 pub mod Starts
-pub mod Columns
 pub mod internal

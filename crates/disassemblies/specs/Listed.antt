@@ -2,11 +2,10 @@
 -- (own choice)
 --
 -- If a symbol names a later word of the line that the words at a place begin, that line is cut: its first word is a line of its own.
-use Rattle.std.specs.Prelude.{ℕ, zero, suc, ◌+◌, ◌-◌, ◌*◌, Bool, true, false, ◌||◌, ◌&&◌, not, eqb, if◌then◌else◌, List, [], codes, length}
-use Rattle.std.specs.{Prelude.{slice_get, slice_index}, List.list_any}
+use Rattle.std.specs.{Prelude.{ℕ, zero, suc, ◌+◌, ◌-◌, ◌*◌, Bool, true, false, ◌||◌, if◌then◌else◌, List, slice_index}, List.list_any}
 use Rattle.aout_core.specs.{declared.symbol.Symbol.Symbol, declared.symbol.Segment.TheVariants.TextSeg, Contents.Contents}
 use Rattle.instructions.specs.{declared.unix.Decoder.Decoder, declared.line.Line.TheVariants.Plain, UnixLines.unix_length}
-use Rattle.instructions.specs.{declared.unix.UnixLine.UnixLine, declared.unix.UnixLine.TheVariants.Machine, Relocated.is_relocated}
+use Rattle.instructions.specs.{declared.unix.UnixLine.UnixLine, declared.unix.UnixLine.TheVariants.Machine}
 use Rattle.disassemblies.specs.{Naming.is_at, Lines.unix_line_in}
 
 -- a symbol names the word of text at a place
@@ -29,22 +28,3 @@ listed_line d c place = uncut c place (unix_line_in d c place)
 abbrev pub is_plain_line : UnixLine → Bool
 is_plain_line (Machine (Plain w)) = true
 is_plain_line _ = false
-
--- what a listing says of a line, if the words there begin another
-abbrev pub cut_remark : UnixLine → UnixLine → List ℕ
-cut_remark (Machine (Plain w)) whole = if is_plain_line whole then [] else codes " / cut by a label"
-cut_remark _ whole = []
-
--- the word at a place is 0, and a link does not change it
-abbrev pub is_zero : Contents → ℕ → Bool
-is_zero c place = eqb (slice_index c.text_words place) 0 && not (is_relocated (slice_get c.text_reloc place))
-
--- how many such words follow each other from a place on, up to the next label; at most so many
-abbrev pub zeros_from : Contents → ℕ → ℕ → ℕ
-zeros_from c zero place = 0
-zeros_from c (suc most) place =
-    if not (has_label c.symbols place) && is_zero c place then suc (zeros_from c most (place + 1)) else 0
-
--- how many there are from a place on, which may have a label itself
-abbrev pub zeros : Contents → ℕ → ℕ
-zeros c place = if is_zero c place then suc (zeros_from c (length c.text_words - (place + 1)) (place + 1)) else 0

@@ -1,7 +1,6 @@
 -- The nearest label of a segment at an address or before it. (own choice)
 --
--- A label is near if it is fewer than 0400 bytes before the address. Of several with one value an external comes first, and then the
--- first of the table.
+-- Of several with one value an external comes first, and then the first of the table.
 use Rattle.std.specs.Prelude.{ℕ, zero, suc, ◌-◌, nat_le, if◌then◌else◌, List, Option, Some, None}
 use Rattle.aout_core.specs.{declared.symbol.Symbol.Symbol, declared.symbol.Segment.Segment, WellFormed.first_of}
 use Rattle.instructions.specs.declared.reference.Reference.{Reference}
@@ -26,6 +25,3 @@ nearest_within symbols segment address (suc n) =
 -- the nearest of all
 unfoldable pub nearest_label : List Symbol → Segment → ℕ → Option Reference
 nearest_label symbols segment address = nearest_within symbols segment address (suc address)
-
-unfoldable pub near : List Symbol → Segment → ℕ → Option Reference
-near symbols segment address = nearest_within symbols segment address 0o400

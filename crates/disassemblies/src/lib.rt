@@ -27,10 +27,10 @@
 //! - `is_start`, `line_start`: whether a line begins at a place, and where the line begins that has the word there
 //!
 //! A file with relocation is an object, in which relocation words name what each operand refers to; in any other the symbols
-//! name the addresses. Addresses are in bytes from the start of the text, which is at 0.
+//! name the addresses. Addresses are in bytes from the start of the text, which is at 0. Only tested: all texts. Proved: where lines begin,
+//! and the nearest label.
 #![tactic(auto)]
 
-mod chains;
 mod columns;
 mod label;
 mod line;

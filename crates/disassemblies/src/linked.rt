@@ -1,16 +1,12 @@
 //! What the addresses of a linked file refer to.
-ghost use Rattle.std.specs.Prelude.{◌≡◌, ◌<◌};
-ghost use Rattle.disassemblies.specs.Linked.{segment_at, located, linked_reference};
 
 use crate::names::Names;
-use crate::naming::{after, reference_at};
+use crate::naming::reference_at;
 use aout_core::{Header, Segment};
 use instructions::{Addressing, Operation, Reference};
 
 /// The segment in which an address lies, in the space of instructions or in that of data.
-pub(crate) fn segment_at(header: &Header, fetches: bool, address: u16) -> Option<Segment>
-    ensures { result ≡ segment_at header.now fetches address }
-{
+pub(crate) fn segment_at(header: &Header, fetches: bool, address: u16) -> Option<Segment> {
     let is_split = header.magic == 0o411;
     if address < header.text_size && (fetches || !is_split) {
         return Some(Segment::TextSeg);
@@ -36,9 +32,7 @@ pub(crate) fn located(
     names: &Names<'_>,
     fetches: bool,
     address: u16,
-) -> Option<Reference>
-    ensures { result ≡ located header.now names.now.symbols.now fetches address }
-{
+) -> Option<Reference> {
     reference_at(names, segment_at(header, fetches, address)?, address)
 }
 
@@ -49,17 +43,15 @@ pub(crate) fn linked_reference(
     names: &Names<'_>,
     operation: Operation,
     word: u16,
-    next: u32,
+    next: u16,
     addressing: Addressing,
-) -> Option<Reference>
-    requires { next < 0o400000 }
-    ensures { result
-        ≡ linked_reference header.now names.now.symbols.now operation word next addressing }
-{
+) -> Option<Reference> {
     match addressing {
         Addressing::Absolute => located(header, names, operation.jumps(), word),
-        Addressing::Relative => { located(header, names, operation.jumps(), after(next, word)) }
-        Addressing::RelativeDeferred => located(header, names, false, after(next, word)),
+        Addressing::Relative => {
+            located(header, names, operation.jumps(), next.wrapping_add(word))
+        }
+        Addressing::RelativeDeferred => located(header, names, false, next.wrapping_add(word)),
         Addressing::Immediate | Addressing::Indexed => None,
     }
 }

@@ -1,10 +1,9 @@
 //! The lines that a listing shows: instructions begin anew at each symbol of text.
-ghost use Rattle.std.specs.Prelude.{◌≡◌, ◌≤◌, ◌<◌, ◌+◌, ◌-◌, ◌*◌, ◌||◌, ◌&&◌, not, ℕ, false, length, get_or, IfOk};
-ghost use Rattle.texts.specs.Texts.{Puts};
+ghost use Rattle.std.specs.Prelude.{◌≡◌, ◌≤◌, ◌<◌, ◌+◌, ◌*◌, ◌||◌, ℕ, false, length, get_or, IfOk};
 ghost use Rattle.aout_core.specs.declared.symbol.Segment.TheVariants.{TextSeg};
 ghost use Rattle.instructions.specs.UnixLines.{unix_length};
-ghost use Rattle.disassemblies.specs.{Naming.is_at, Lines.unix_line_in, Columns.shown_words};
-ghost use Rattle.disassemblies.specs.Listed.{has_label, is_zero, zeros_from, zeros, listed_line, is_plain_line, cut_remark};
+ghost use Rattle.disassemblies.specs.{Naming.is_at, Lines.unix_line_in};
+ghost use Rattle.disassemblies.specs.Listed.{listed_line, is_plain_line};
 ghost use Rattle.disassemblies.specs.internal.Labelled.{AreLabelled, any_marked};
 
 use crate::line::{reloc_at, unix_line_in};
@@ -13,7 +12,6 @@ use aout_core::{File, Segment, Symbol};
 use instructions::{Decoder, Line, UnixLine, is_relocated};
 use std::alloc::{AllocError, Global};
 use std::marker::Model;
-use texts::Text;
 
 /// Marks the word that a symbol names, if it is one of text.
 fn mark_label(labelled: &mut [bool], symbol: &Symbol)
@@ -56,35 +54,8 @@ fn any_marked(marks: &[bool], place: usize, count: usize) -> bool
 }
 
 /// Whether a word is 0, and a link does not change it.
-fn is_zero(file: &File, place: usize) -> bool
-    requires { place < length file.now.text_words }
-    ensures { result ≡ is_zero file.now place }
-{
-    file.text_words()[place] == 0 && !is_relocated(reloc_at(file, place))
-}
-
-/// Whether a word without a label is 0, by the marks of the words.
-fn is_more(labelled: &[bool], file: &File, place: usize) -> bool
-    requires inside { place < length file.now.text_words }
-    requires labelled { AreLabelled file.now.symbols (length file.now.text_words) labelled.now }
-    ensures { result ≡ (not (has_label file.now.symbols place) && is_zero file.now place) }
-{
-    !labelled[place] && is_zero(file, place)
-}
-
-/// How many such words follow each other from a place on.
-fn zeros_from(labelled: &[bool], file: &File, place: usize) -> usize
-    requires inside { place ≤ length file.now.text_words }
-    requires labelled { AreLabelled file.now.symbols (length file.now.text_words) labelled.now }
-    ensures value { result ≡ zeros_from file.now (length file.now.text_words - place) place }
-    ensures fits { place + result ≤ length file.now.text_words }
-{
-    let end = file.text_words().len();
-    let mut at = place;
-    while at < end && is_more(labelled, file, at) {
-        at += 1;
-    }
-    at - place
+fn is_zero(file: &File, place: usize) -> bool {
+    file.text_words().get(place).copied() == Some(0) && !is_relocated(reloc_at(file, place))
 }
 
 /// The lines of a file's text, each up to the next label. Make it once for all lines.
@@ -118,7 +89,6 @@ impl<'a> ListedLines<'a> {
         })
     }
 
-    /// The file.
     pub(crate) fn file(&self) -> &'a File
         ensures { result.now ≡ self.now }
     {
@@ -145,21 +115,24 @@ impl<'a> ListedLines<'a> {
     /// How many words 0 follow each other from a place on, up to the next label.
     fn zeros(&self, place: usize) -> usize
         requires { place < length self.now.text_words }
-        ensures value { result ≡ zeros self.now place }
-        ensures fits { place + result ≤ length self.now.text_words }
+        ensures { place + result ≤ length self.now.text_words }
     {
-        if !is_zero(self.file, place) {
-            return 0;
+        let end = self.file.text_words().len();
+        let mut at = place;
+        while at < end
+            && is_zero(self.file, at)
+            && (at == place || self.labelled.get(at).copied() == Some(false))
+        {
+            at += 1;
         }
-        1 + zeros_from(&self.labelled, self.file, place + 1)
+        at - place
     }
 
     /// How many words the rows at a place show: more than eight words 0 together, or those of the line there.
-    #[tactic(auto, using(crate::proofs::ListedLemmas::listed_fits))]
-    pub(crate) fn shown_words(&self, decoder: Decoder, place: usize, line: &UnixLine) -> usize
+    pub(crate) fn shown_words(&self, place: usize, line: &UnixLine) -> usize
         requires within { place < length self.now.text_words }
-        requires line { line.now ≡ listed_line decoder self.now place }
-        ensures value { result ≡ shown_words decoder self.now place }
+        requires line { place + unix_length line.now ≤ length self.now.text_words }
+        requires some { 1 ≤ unix_length line.now }
         ensures fits { place + result ≤ length self.now.text_words }
         ensures some { 1 ≤ result }
     {
@@ -178,12 +151,9 @@ pub(crate) fn is_plain_line(line: &UnixLine) -> bool
     }
 }
 
-/// Appends that the line at a place is cut, if it is.
-pub(crate) fn put_cut(text: &mut Text, decoder: Decoder, file: &File, place: usize, line: &UnixLine)
-    requires { place < length file.now.text_words }
-    ensures { Puts text.old text.new (cut_remark line.now (unix_line_in decoder file.now place)) }
-{
-    if is_plain_line(line) && !is_plain_line(&unix_line_in(decoder, file, place)) {
-        text.put(" / cut by a label");
-    }
+/// Whether a label cuts the line at a place.
+pub(crate) fn is_cut(decoder: Decoder, file: &File, place: usize, line: &UnixLine) -> bool {
+    is_plain_line(line)
+        && place < file.text_words().len()
+        && !is_plain_line(&unix_line_in(decoder, file, place))
 }

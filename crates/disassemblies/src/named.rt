@@ -1,31 +1,20 @@
 //! A file whose symbols are found by their values.
-ghost use Rattle.std.specs.Prelude.{◌≡◌, ◌<◌, ◌*◌, length, IfOk};
+ghost use Rattle.std.specs.Prelude.{◌≡◌, IfOk};
 
-use crate::chains::Chains;
 use crate::names::Names;
 use aout_core::{File, Symbol};
 use std::alloc::{AllocError, Global};
 use std::marker::Model;
 
-/// Symbols in the blocks that begin at multiples of 32, and in those that begin 16 before them: a line of at most eight words is
-/// in one block of either kind.
-#[derive(Drop)]
-pub(crate) struct Blocks<'a> {
-    pub(crate) whole: Chains<'a>,
-    pub(crate) half: Chains<'a>,
-    ghost same: { half.symbols.now ≡ whole.symbols.now },
-}
-
-impl<'a> Blocks<'a> {
-    /// These symbols. An error: out of memory.
-    fn new(alloc: Global, symbols: &'a [Symbol]) -> Result<Blocks<'a>, AllocError>
-        ensures { IfOk result (λ b. b.whole.symbols.now ≡ symbols.now) }
-    {
-        Ok(Blocks {
-            whole: Chains::new(alloc, symbols, 0)?,
-            half: Chains::new(alloc, symbols, 16)?,
-        })
+/// For each word of memory, and for the one after the last, whether a symbol has its value there. An error: out of memory.
+fn marked(alloc: Global, symbols: &[Symbol]) -> Result<Vec<bool>, AllocError> {
+    let mut marks = vec![in alloc; false; 32769]?;
+    for symbol in symbols {
+        if let Some(mark) = marks.get_mut(usize::from(symbol.value / 2)) {
+            *mark = true;
+        }
     }
+    Ok(marks)
 }
 
 /// A file whose symbols are found by their values, so that the cost of a line does not grow with their number. Make it once for
@@ -34,7 +23,8 @@ impl<'a> Blocks<'a> {
 pub struct NamedFile<'a> {
     file: &'a File,
     names: Names<'a>,
-    blocks: Blocks<'a>,
+    /// For each word of memory, whether a symbol has its value there.
+    marks: Vec<bool>,
 }
 
 impl<'a> Model for NamedFile<'a> {
@@ -45,20 +35,19 @@ impl<'a> Model for NamedFile<'a> {
 
     ghost view = { λ n. n.file.now };
 
-    ghost invariant = { λ n. (n.names.symbols.now ≡ n.file.now.symbols) × (n.blocks.whole.symbols.now ≡ n.file.now.symbols) };
+    ghost invariant = { λ n. n.names.symbols.now ≡ n.file.now.symbols };
 }
 
 impl<'a> NamedFile<'a> {
     /// A file, after each of its symbols has been put in its place: the time grows with their number times its logarithm, and
-    /// about 60 bytes are kept for each. An error: out of memory.
+    /// about 24 bytes are kept for each, and 32 KB for all. An error: out of memory.
     pub fn new(alloc: Global, file: &'a File) -> Result<NamedFile<'a>, AllocError>
         ensures { IfOk result (λ n. n ≡ file.now) }
     {
-        let symbols = file.symbols();
         Ok(NamedFile {
             file,
-            names: Names::new(alloc, symbols)?,
-            blocks: Blocks::new(alloc, symbols)?,
+            names: Names::new(alloc, file.symbols())?,
+            marks: marked(alloc, file.symbols())?,
         })
     }
 
@@ -69,16 +58,6 @@ impl<'a> NamedFile<'a> {
         self.file
     }
 
-    /// The address of a word of text.
-    pub(crate) fn address(&self, place: usize) -> u16
-        requires { place < length self.now.text_words }
-        ensures { result ≡ 2 * place }
-    {
-        let is_inside = place < self.file.text_words().len();
-        prove!(is_inside);
-        (2 * place) as u16
-    }
-
     /// Its symbols by their segments and values.
     pub fn names(&self) -> &Names<'a>
         ensures { result.now.symbols.now ≡ self.now.symbols }
@@ -86,9 +65,13 @@ impl<'a> NamedFile<'a> {
         &self.names
     }
 
-    pub(crate) fn blocks(&self) -> &Blocks<'a>
-        ensures { result.now.whole.symbols.now ≡ self.now.symbols }
-    {
-        &self.blocks
+    /// Whether no symbol has a value among so many words from an address on, or in the word after them.
+    pub(crate) fn is_bare(&self, address: u16, length: u16) -> bool {
+        let first = usize::from(address / 2);
+        let end = first + usize::from(length);
+        match self.marks.get(first..end + 1) {
+            Some(marks) => marks.iter().all(|mark| !*mark),
+            None => false,
+        }
     }
 }

@@ -1,58 +1,50 @@
-//! The symbols that name values, each found by its value.
-ghost use Rattle.std.specs.{Prelude.{◌≡◌, ◌≤◌, ℕ, if◌then◌else◌, Some, OnOk, IfOk}, BTreeMap.get};
-ghost use Rattle.aout_core.specs.WellFormed.{first_of};
-ghost use Rattle.disassemblies.specs.{Naming.symbol_at, internal.FirstNamed.{key_cmp, has_key, first_with, FindsNamed}};
-ghost use Rattle.disassemblies.specs.internal.Nearest.{IsLastUpTo, IsNearest};
+//! The symbols that name values, in the order of their segments and values.
+ghost use Rattle.std.specs.Prelude.{◌≡◌, ◌≤◌, length, take, drop, not, slice_get, IfOk};
+ghost use Rattle.std.specs.List.{filter, position, Sorted.IsSortedByKey};
+ghost use Rattle.aout_core.specs.WellFormed.{is_external};
+ghost use Rattle.disassemblies.specs.Naming.{is_at, symbol_at};
+ghost use Rattle.disassemblies.specs.internal.{Nearest.IsNearest, Ordered.{key, key_cmp, is_before, is_between, AreOrdered}};
 
 use aout_core::{Segment, Symbol};
 use std::alloc::{AllocError, Global};
-use std::collections::BTreeMap;
 
-/// The symbol that names each segment and value; a segment is a number of the type word.
-type Named = BTreeMap<(u16, u16), Symbol>;
-
-/// Puts a symbol in front of those that follow it, if it is external or not as asked.
-fn put_before(named: &mut Named, symbol: &Symbol, external: bool) -> Result<(), AllocError>
-    ensures { OnOk result ((key : ℕ × ℕ)
-        → get key_cmp named.new key ≡ (if has_key external key symbol.now then Some symbol.now
-        else get key_cmp named.old key)) }
+/// Whether a symbol is before a value of a segment, which is a number of the type word.
+fn is_before(symbol: &Symbol, number: u16, value: usize) -> bool
+    ensures { result ≡ is_before number value symbol.now }
 {
-    if symbol.is_external() == external {
-        named.insert((symbol.type_bits % 0o40, symbol.value), *symbol)?;
-    }
-    Ok(())
+    let of = symbol.type_bits % 0o40;
+    of < number || (of == number && usize::from(symbol.value) < value)
 }
 
-/// Puts the external ones of these symbols, or the others, in front of those that are there.
-fn put_all(named: &mut Named, symbols: &[Symbol], external: bool) -> Result<(), AllocError>
-    ensures { OnOk result ((key : ℕ × ℕ)
-        → get key_cmp named.new key
-        ≡ first_of (first_with external symbols.now key) (get key_cmp named.old key)) }
+/// How many of these symbols in order are before a value of a segment.
+fn count_before(ordered: &[Symbol], number: u16, value: usize) -> usize
+    requires { IsSortedByKey key key_cmp ordered.now }
+    ensures bound { result ≤ length ordered.now }
+    ensures front { take result ordered.now ≡ filter (λ s. is_before number value s) ordered.now }
+    ensures rest { drop result ordered.now ≡ filter (λ s. not (is_before number value s)) ordered.now }
 {
-    let mut place = symbols.len();
-    while place > 0 {
-        place -= 1;
-        put_before(named, &symbols[place], external)?;
-    }
-    Ok(())
+    ordered.partition_point(|symbol| is_before(symbol, number, value))
 }
 
-/// The symbol that names each segment and value: an external one before the others, and then the first.
-fn named(alloc: Global, symbols: &[Symbol]) -> Result<Named, AllocError>
-    ensures { IfOk result (λ m. FindsNamed symbols.now m) }
+fn first_external(symbols: &[Symbol]) -> Option<usize>
+    ensures { result ≡ position (λ s. is_external s) symbols.now }
 {
-    let mut named = BTreeMap::new(alloc);
-    put_all(&mut named, symbols, false)?;
-    put_all(&mut named, symbols, true)?;
-    Ok(named)
+    symbols.iter().position(|symbol| symbol.is_external())
+}
+
+fn symbol_of(symbols: &[Symbol], place: usize) -> Option<Symbol>
+    ensures { result ≡ slice_get symbols.now place }
+{
+    symbols.get(place).copied()
 }
 
 /// Symbols that are found by their segments and values, in time in proportion to the logarithm of how many there are.
 #[derive(Drop)]
 pub struct Names<'a> {
     pub symbols: &'a [Symbol],
-    named: Named,
-    ghost finds: { FindsNamed symbols.now named },
+    /// The same by their segments and values; those with one value are in the order of the table.
+    ordered: Vec<Symbol>,
+    ghost are_ordered: { AreOrdered symbols.now ordered.items },
 }
 
 impl<'a> Names<'a> {
@@ -60,10 +52,31 @@ impl<'a> Names<'a> {
     pub fn new(alloc: Global, symbols: &'a [Symbol]) -> Result<Names<'a>, AllocError>
         ensures { IfOk result (λ n. n.symbols.now ≡ symbols.now) }
     {
-        Ok(Names {
-            symbols,
-            named: named(alloc, symbols)?,
-        })
+        let mut ordered = Vec::from_slice(alloc, symbols)?;
+        ordered.sort_by_key(|symbol| (symbol.type_bits % 0o40, symbol.value))?;
+        Ok(Names { symbols, ordered })
+    }
+
+    /// The symbols of a segment from one value up to another, by their values.
+    fn between(&self, segment: Segment, from: usize, to: usize) -> &[Symbol]
+        ensures { result.now ≡ filter (λ s. is_between segment from to s) self.now.ordered.items }
+    {
+        let number = segment.number();
+        let rest = &self.ordered[count_before(&self.ordered, number, from)..];
+        &rest[..count_before(rest, number, to)]
+    }
+
+    /// The symbols of a segment at an address, in the order of the table.
+    pub(crate) fn at(&self, segment: Segment, address: u16) -> &[Symbol]
+        ensures { result.now ≡ filter (λ s. is_at segment address s) self.now.symbols.now }
+    {
+        let address = usize::from(address);
+        self.between(segment, address, address + 1)
+    }
+
+    /// Whether a segment has a symbol from one value up to another.
+    pub(crate) fn has_between(&self, segment: Segment, from: usize, to: usize) -> bool {
+        !self.between(segment, from, to).is_empty()
     }
 
     /// The symbol that names an address of a segment, or an absolute number: an external one before the others, and then the
@@ -71,16 +84,10 @@ impl<'a> Names<'a> {
     pub(crate) fn symbol_at(&self, segment: Segment, value: u16) -> Option<Symbol>
         ensures { result ≡ symbol_at self.now.symbols.now segment value }
     {
-        self.named.get(&(segment.number(), value)).copied()
-    }
-
-    /// The last segment and value of a symbol up to these.
-    fn last_up_to(&self, number: u16, value: u16) -> Option<(u16, u16)>
-        ensures { IsLastUpTo self.now.symbols.now (number, value) result }
-    {
-        match self.named.range(..=(number, value)).next_back() {
-            Some((key, _)) => Some(*key),
-            None => None,
+        let symbols = self.at(segment, value);
+        match first_external(symbols) {
+            Some(place) => symbol_of(symbols, place),
+            None => symbol_of(symbols, 0),
         }
     }
 
@@ -89,13 +96,11 @@ impl<'a> Names<'a> {
         requires { within ≤ 65536 }
         ensures { IsNearest self.now.symbols.now segment address within result }
     {
-        let number = segment.number();
-        match self.last_up_to(number, address) {
-            Some((of, value))
-                if of == number && usize::from(address) < usize::from(value) + within => {
-                Some(value)
-            }
-            _ => None,
+        let end = usize::from(address) + 1;
+        let near = self.between(segment, end.saturating_sub(within), end);
+        match near.last() {
+            Some(symbol) => Some(symbol.value),
+            None => None,
         }
     }
 }

@@ -1,6 +1,6 @@
 //! The nearest label before an address.
 ghost use Rattle.std.specs.Prelude.{◌≡◌, ◌≤◌};
-ghost use Rattle.disassemblies.specs.Near.{bytes_beyond, near, nearest_label, nearest_within};
+ghost use Rattle.disassemblies.specs.Near.{bytes_beyond, nearest_label, nearest_within};
 
 use crate::names::Names;
 use aout_core::{Segment, Symbol};
@@ -36,10 +36,11 @@ fn nearest_within(
 }
 
 /// The nearest label of a segment at an address or fewer than 0400 bytes before it, and the bytes between them. (own choice)
-#[tactic(auto, unfolding(crate::specs::Near::near))]
-pub(crate) fn near_reference(names: &Names<'_>, segment: Segment, address: u16) -> Option<Reference>
-    ensures { result ≡ near names.now.symbols.now segment address }
-{
+pub(crate) fn near_reference(
+    names: &Names<'_>,
+    segment: Segment,
+    address: u16,
+) -> Option<Reference> {
     nearest_within(names, segment, address, 0o400)
 }
 

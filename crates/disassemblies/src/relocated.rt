@@ -1,18 +1,13 @@
 //! What relocation words refer to.
-ghost use Rattle.std.specs.Prelude.{◌≡◌, ◌<◌};
-ghost use Rattle.texts.specs.Texts.{Puts};
-ghost use Rattle.disassemblies.specs.Naming.{referred, is_unmoved, object_address, object_reference, segment_word, referred_text, from_the_pc, relocated_text};
 
 use crate::names::Names;
-use crate::naming::{after, reference_at, reference_beyond};
+use crate::naming::{reference_at, reference_beyond};
 use aout_core::{Kind, Reloc, Segment};
 use instructions::{Addressing, Reference};
 use texts::Text;
 
 /// What a number refers to by its relocation word.
-pub(crate) fn referred(names: &Names<'_>, reloc: Reloc, number: u16) -> Option<Reference>
-    ensures { result ≡ referred names.now.symbols.now reloc number }
-{
+pub(crate) fn referred(names: &Names<'_>, reloc: Reloc, number: u16) -> Option<Reference> {
     match reloc.kind()? {
         Kind::Absolute => reference_at(names, Segment::Absolute, number),
         Kind::TextSeg => reference_at(names, Segment::TextSeg, number),
@@ -26,16 +21,12 @@ pub(crate) fn referred(names: &Names<'_>, reloc: Reloc, number: u16) -> Option<R
 }
 
 /// Whether a link does not move what a word refers to.
-fn is_unmoved(reloc: Reloc) -> bool
-    ensures { result ≡ is_unmoved reloc }
-{
+fn is_unmoved(reloc: Reloc) -> bool {
     reloc.0 / 2 % 8 == 0
 }
 
 /// What an address refers to that an instruction reaches from the pc.
-fn object_address(names: &Names<'_>, reloc: Reloc, address: u16) -> Option<Reference>
-    ensures { result ≡ object_address names.now.symbols.now reloc address }
-{
+fn object_address(names: &Names<'_>, reloc: Reloc, address: u16) -> Option<Reference> {
     if reloc.is_pc() {
         return referred(names, reloc, address);
     }
@@ -50,15 +41,12 @@ pub(crate) fn object_reference(
     names: &Names<'_>,
     reloc: Reloc,
     word: u16,
-    next: u32,
+    next: u16,
     addressing: Addressing,
-) -> Option<Reference>
-    requires { next < 0o400000 }
-    ensures { result ≡ object_reference names.now.symbols.now reloc word next addressing }
-{
+) -> Option<Reference> {
     match addressing {
         Addressing::Relative | Addressing::RelativeDeferred => {
-            object_address(names, reloc, after(next, word))
+            object_address(names, reloc, next.wrapping_add(word))
         }
         Addressing::Absolute if !reloc.is_pc() => referred(names, reloc, word),
         Addressing::Immediate | Addressing::Indexed if !reloc.is_pc() && !is_unmoved(reloc) => {
@@ -68,9 +56,7 @@ pub(crate) fn object_reference(
     }
 }
 
-fn segment_word(reloc: Reloc) -> &'static str
-    ensures { result.now ≡ segment_word reloc }
-{
+fn segment_word(reloc: Reloc) -> &'static str {
     match reloc.kind() {
         Some(Kind::TextSeg) => "text ",
         Some(Kind::DataSeg) => "data ",
@@ -80,9 +66,12 @@ fn segment_word(reloc: Reloc) -> &'static str
 }
 
 /// Appends what a number refers to, with or without a name.
-pub(crate) fn put_referred(text: &mut Text, reference: Option<Reference>, reloc: Reloc, number: u16)
-    ensures { Puts text.old text.new (referred_text reference reloc number) }
-{
+pub(crate) fn put_referred(
+    text: &mut Text,
+    reference: Option<Reference>,
+    reloc: Reloc,
+    number: u16,
+) {
     match reference {
         Some(reference) => reference.put_text(text),
         None => {
@@ -93,9 +82,7 @@ pub(crate) fn put_referred(text: &mut Text, reference: Option<Reference>, reloc:
 }
 
 /// Appends whether a word is relative to the pc.
-pub(crate) fn put_from_the_pc(text: &mut Text, reloc: Reloc)
-    ensures { Puts text.old text.new (from_the_pc reloc) }
-{
+pub(crate) fn put_from_the_pc(text: &mut Text, reloc: Reloc) {
     if reloc.is_pc() {
         text.put(", from the pc");
     }
@@ -108,9 +95,7 @@ pub(crate) fn put_relocated(
     reloc: Reloc,
     word: u16,
     address: u16,
-)
-    ensures { Puts text.old text.new (relocated_text names.now.symbols.now reloc word address) }
-{
+) {
     let number = reloc.target(word, address);
     text.put_six_digits(u32::from(word));
     text.put(" / ");

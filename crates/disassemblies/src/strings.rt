@@ -1,7 +1,4 @@
 //! Strings in data.
-ghost use Rattle.std.specs.Prelude.{◌≡◌, ◌≤◌, ◌<◌};
-ghost use Rattle.texts.specs.Texts.{Puts};
-ghost use Rattle.disassemblies.specs.Strings.{byte_in, is_text, is_nul, run, character, character_at, characters, quoted, string_by, text_run, is_string_by, is_string, string_after, follows_no_text, string_from, string_in};
 
 use texts::Text;
 
@@ -9,62 +6,40 @@ use texts::Text;
 const SHOWN: usize = 40;
 
 /// The byte at a place of words, which counts bytes.
-fn byte_in(words: &[u16], place: usize) -> Option<u8>
-    ensures { result ≡ byte_in words.now place }
-{
-    match words.get(place / 2) {
-        Some(word) if place % 2 == 0 => Some((*word % 256) as u8),
-        Some(word) => Some((*word / 256) as u8),
-        None => None,
-    }
+fn byte_in(words: &[u16], place: usize) -> Option<u8> {
+    let bytes = words.get(place / 2)?.to_le_bytes();
+    Some(bytes[place % 2])
 }
 
-/// Whether a byte is one of text.
-fn is_text(byte: Option<u8>) -> bool
-    ensures { result ≡ is_text byte }
-{
-    match byte {
+/// Whether a byte of text is at a place.
+fn is_text(words: &[u16], place: usize) -> bool {
+    match byte_in(words, place) {
         Some(byte) => byte == b'\t' || byte == b'\n' || (b' ' <= byte && byte < 127),
         None => false,
     }
 }
 
-fn is_nul(byte: Option<u8>) -> bool
-    ensures { result ≡ is_nul byte }
-{
-    match byte {
-        Some(byte) => byte == 0,
-        None => false,
-    }
-}
-
-/// How many bytes from a place on are bytes of text, at most so many.
-fn run(words: &[u16], place: usize, most: usize) -> usize
-    requires place { place ≤ 200000 }
-    requires most { most ≤ 41 }
-    ensures value { result ≡ run words.now place most }
-    ensures bound { result ≤ most }
-{
-    let mut count = 0;
-    while count < most && is_text(byte_in(words, place + count)) {
-        count += 1;
-    }
-    count
-}
-
 /// How many bytes from a place on are bytes of text: one more than are shown, if there are so many.
-#[tactic(auto, unfolding(crate::specs::Strings::text_run))]
-fn text_run(words: &[u16], place: usize) -> usize
-    requires { place ≤ 200000 }
-    ensures value { result ≡ text_run words.now place }
-    ensures bound { result ≤ 41 }
-{
-    run(words, place, SHOWN + 1)
+fn run(words: &[u16], place: usize) -> usize {
+    for count in 0..SHOWN + 1 {
+        if !is_text(words, place.wrapping_add(count)) {
+            return count;
+        }
+    }
+    SHOWN + 1
 }
 
-fn put_character(text: &mut Text, byte: u8)
-    ensures { Puts text.old text.new (character byte) }
-{
+/// Whether so many bytes of text from a place on are a string.
+fn is_string_of(words: &[u16], place: usize, count: usize) -> bool {
+    count > SHOWN || (count >= 2 && byte_in(words, place.wrapping_add(count)) == Some(0))
+}
+
+/// Whether there is a string at a place of words, which counts bytes.
+pub(crate) fn is_string(words: &[u16], place: usize) -> bool {
+    is_string_of(words, place, run(words, place))
+}
+
+fn put_character(text: &mut Text, byte: u8) {
     match byte {
         b'\t' => text.put("\\t"),
         b'\n' => text.put("\\n"),
@@ -73,104 +48,29 @@ fn put_character(text: &mut Text, byte: u8)
     }
 }
 
-fn put_character_at(text: &mut Text, byte: Option<u8>)
-    ensures { Puts text.old text.new (character_at byte) }
-{
-    match byte {
-        Some(byte) => put_character(text, byte),
-        None => {},
-    }
-}
-
-/// Appends so many bytes from a place on.
-fn put_characters(text: &mut Text, words: &[u16], place: usize, count: usize)
-    requires place { place ≤ 200000 }
-    requires count { count ≤ 41 }
-    ensures { Puts text.old text.new (characters words.now place count) }
-{
-    let mut done = 0;
-    while done < count {
-        put_character_at(text, byte_in(words, place + done));
-        done += 1;
-    }
-}
-
-/// Appends so many bytes from a place on, in quotation marks.
-#[tactic(auto, unfolding(crate::specs::Strings::quoted))]
-fn put_quoted(text: &mut Text, words: &[u16], place: usize, count: usize)
-    requires place { place ≤ 200000 }
-    requires count { count ≤ 41 }
-    ensures { Puts text.old text.new (quoted words.now place count) }
-{
-    text.put("\"");
-    put_characters(text, words, place, count);
-    text.put("\"");
-}
-
-/// Appends the string with so many bytes of text from a place on, if it is one, and a text before it.
-fn put_string_of(text: &mut Text, before: &str, words: &[u16], place: usize, count: usize)
-    requires place { place ≤ 200000 }
-    requires count { count ≤ 41 }
-    ensures { Puts text.old text.new (string_by before.now words.now place count) }
-{
-    if count > SHOWN {
-        text.put(before);
-        put_quoted(text, words, place, SHOWN);
-        text.put("..");
-    } else if count >= 2 && is_nul(byte_in(words, place + count)) {
-        text.put(before);
-        put_quoted(text, words, place, count);
-    }
-}
-
-/// Whether so many bytes of text from a place on are a string.
-fn is_string_of(words: &[u16], place: usize, count: usize) -> bool
-    requires place { place ≤ 200000 }
-    requires count { count ≤ 41 }
-    ensures { result ≡ is_string_by words.now place count }
-{
-    count > SHOWN || (count >= 2 && is_nul(byte_in(words, place + count)))
-}
-
-/// Whether there is a string at a place of words, which counts bytes.
-pub(crate) fn is_string(words: &[u16], place: usize) -> bool
-    requires { place ≤ 200000 }
-    ensures { result ≡ is_string words.now place }
-{
-    is_string_of(words, place, text_run(words, place))
-}
-
 /// Appends the string at a place of words, which counts bytes, and a text before it; nothing if there is no string.
-pub(crate) fn put_string(text: &mut Text, before: &str, words: &[u16], place: usize)
-    requires { place ≤ 200000 }
-    ensures { Puts text.old text.new (string_after before.now words.now place) }
-{
-    put_string_of(text, before, words, place, text_run(words, place));
-}
-
-/// Whether no byte of text is before a place.
-fn follows_no_text(words: &[u16], place: usize) -> bool
-    ensures { result ≡ follows_no_text words.now place }
-{
-    place == 0 || !is_text(byte_in(words, place - 1))
-}
-
-/// Appends the string that begins at a place, after a byte that is not of text.
-fn put_string_from(text: &mut Text, words: &[u16], place: usize)
-    requires { place ≤ 200000 }
-    ensures { Puts text.old text.new (string_from words.now place) }
-{
-    if follows_no_text(words, place) {
-        put_string(text, "", words, place);
+pub(crate) fn put_string(text: &mut Text, before: &str, words: &[u16], place: usize) {
+    let count = run(words, place);
+    if !is_string_of(words, place, count) {
+        return;
     }
+    text.put(before);
+    text.put_byte(b'"');
+    for done in 0..count.min(SHOWN) {
+        if let Some(byte) = byte_in(words, place.wrapping_add(done)) {
+            put_character(text, byte);
+        }
+    }
+    text.put(if count > SHOWN { "\".." } else { "\"" });
 }
 
 /// Appends the string that begins in a word of data, in quotation marks: two or more bytes of text and a NUL, after a byte that is not
 /// of text. At most 40 bytes are shown. If none begins there, nothing is appended. (own choice)
-pub fn put_string_in(text: &mut Text, words: &[u16], place: usize)
-    requires { place < 65536 }
-    ensures { Puts text.old text.new (string_in words.now place) }
-{
-    put_string_from(text, words, 2 * place);
-    put_string_from(text, words, 2 * place + 1);
+pub fn put_string_in(text: &mut Text, words: &[u16], place: usize) {
+    let first = place.wrapping_mul(2);
+    for place in [first, first.wrapping_add(1)] {
+        if place == 0 || !is_text(words, place.wrapping_sub(1)) {
+            put_string(text, "", words, place);
+        }
+    }
 }

