@@ -5,36 +5,21 @@
 -- even address, not within another instruction, and not at the end of an object's text, where data begins; a linked file has `_etext` there.
 -- Some symbol is of text, or an absolute external has an address of the text by mistake. An address outside of text is odd in any file, and
 -- is not counted here.
-use Rattle.std.specs.Prelude.{ℕ, ◌+◌, ◌*◌, ◌/◌, ◌%◌, Bool, true, not, ◌&&◌, eqb, nat_lt, if◌then◌else◌, List, [], ◌∷◌, ◌++◌, length, Option}
-use Rattle.std.specs.{Prelude.{Some, None}, List.{flat_map, list_any}}
+use Rattle.std.specs.Prelude.{ℕ, ◌+◌, ◌*◌, ◌/◌, ◌%◌, Bool, true, not, ◌&&◌, ◌||◌, eqb, nat_lt, if◌then◌else◌, List, [], ◌∷◌, ◌++◌, length}
+use Rattle.std.specs.{Prelude.{Option, Some, None, is_some}, List.{flat_map, list_any}}
 use Rattle.aout_core.specs.{declared.symbol.Symbol.Symbol, declared.symbol.Segment.TheVariants.Absolute, declared.reloc.Reloc.Reloc}
-use Rattle.aout_core.specs.{Contents.Contents, Encoding.symbols_at, Placed.placed_words, declared.placed.PlacedWord.PlacedWord}
+use Rattle.aout_core.specs.{Contents.Contents, Placed.placed_words, declared.placed.PlacedWord.PlacedWord}
 use Rattle.aout_core.specs.{declared.part.Part.TheVariants.{Text, Data}, WellFormed.{is_external, masked_type, segment_number}}
 use Rattle.checks.specs.{declared.finding.FindingKind.TheVariants.{UnsuitableAddress, AbsoluteText}, Found.{Found, found_if}}
 use Rattle.checks.specs.{Segments.bss_to, declared.evidence.Evidence.Evidence, declared.evidence.Evidence.TheVariants.Promise}
-use Rattle.checks.specs.{Reached.is_text, Trust.entered}
-use Rattle.checks.specs.{declared.addresses.Misplaced.Misplaced, declared.addresses.Misplaced.TheVariants.{Odd, AtEnd, Within}}
+use Rattle.checks.specs.{Odd.symbol_at, Reached.is_text, Trust.entered}
 
-abbrev pub within_by : Option ℕ → Option Misplaced
-within_by None = None
-within_by (Some start) = Some (Within (2 * start))
-
--- an even address of the text or its end
-abbrev pub misplaced_even : Evidence → Contents → ℕ → Option Misplaced
-misplaced_even e c n =
-    if nat_lt n (2 * length c.text_words) then within_by (entered e c (n / 2))
-    else (if eqb c.header.flag 0 && nat_lt n (bss_to c.header) then Some AtEnd else None)
-
--- why no instruction begins at an address, if none does
-abbrev pub misplaced_at : Evidence → Contents → ℕ → Option Misplaced
-misplaced_at e c n =
-    if nat_lt (2 * length c.text_words) n then None
-    else (if eqb (n % 2) 1 then Some Odd else misplaced_even e c n)
-
--- at this byte, if there is a reason
-abbrev pub misplaced_found : ℕ → Option Misplaced → List Found
-misplaced_found place None = []
-misplaced_found place (Some m) = found_if true place UnsuitableAddress
+-- no instruction begins at an address of the text or at its end
+abbrev pub is_misplaced : Evidence → Contents → ℕ → Bool
+is_misplaced e c n =
+    not (nat_lt (2 * length c.text_words) n)
+    && (eqb (n % 2) 1 || (if nat_lt n (2 * length c.text_words) then is_some (entered e c (n / 2))
+    else eqb c.header.flag 0 && nat_lt n (bss_to c.header)))
 
 -- an external that is absolute has an address of the text
 abbrev pub is_absolute_text : Contents → Symbol → Bool
@@ -44,19 +29,19 @@ is_absolute_text c s =
 -- whether some symbol is of text, and one whose entry is at this byte
 abbrev pub suspicious_symbol : Evidence → Contents → Bool → ℕ → Symbol → List Found
 suspicious_symbol e c named place s =
-    (if is_text s then misplaced_found (place + 10) (misplaced_at e c s.value) else [])
+    found_if (is_text s && is_misplaced e c s.value) (place + 10) UnsuitableAddress
     ++ found_if (not named && is_absolute_text c s) (place + 8) AbsoluteText
 
 -- the symbols from number n on
 abbrev pub suspicious_symbols : Evidence → Contents → Bool → ℕ → List Symbol → List Found
 suspicious_symbols e c named n [] = []
 suspicious_symbols e c named n (s ∷ ss) =
-    suspicious_symbol e c named (symbols_at c.header + 12 * n) s ++ suspicious_symbols e c named (n + 1) ss
+    suspicious_symbol e c named (symbol_at c.header n) s ++ suspicious_symbols e c named (n + 1) ss
 
 -- a word, by its relocation word
 abbrev pub suspicious_reloc : Evidence → Contents → PlacedWord → Option Reloc → List Found
 suspicious_reloc e c w None = []
-suspicious_reloc e c w (Some r) = if eqb (r.0 % 0o20) 2 then misplaced_found w.place (misplaced_at e c w.word) else []
+suspicious_reloc e c w (Some r) = found_if (eqb (r.0 % 0o20) 2 && is_misplaced e c w.word) w.place UnsuitableAddress
 
 abbrev pub suspicious_word : Evidence → Contents → PlacedWord → List Found
 suspicious_word e c w = suspicious_reloc e c w w.reloc

@@ -19,7 +19,7 @@ use Rattle.instructions.specs.{declared.mode.Addressing.Addressing}
 use Rattle.instructions.specs.{declared.operand.Operand.Operand, declared.operand.Operand.TheVariants.General}
 use Rattle.instructions.specs.{declared.line.Line.TheVariants.Decoded, declared.unix.UnixLine.UnixLine}
 use Rattle.instructions.specs.{declared.unix.UnixLine.TheVariants.Machine, Modes.addressing, Modes.counts_from_pc}
-use Rattle.instructions.specs.{Instructions.jumps, Instructions.word_count_of, Relocated.is_relocated, Texts.number}
+use Rattle.instructions.specs.{Instructions.jumps, Instructions.word_count_of, Relocated.is_relocated, Syntax.number}
 use Rattle.instructions.specs.declared.mode.Addressing.TheVariants as ways
 use Rattle.checks.specs.declared.referent.Referent.TheVariants.{Nothing, Number, Near, Fixed, InText, InData, External}
 use Rattle.checks.specs.declared.referent.Access.TheVariants.{Goes, Touches, Neither}
@@ -81,9 +81,6 @@ common_size (Some s) = if is_undefined s then s.value else 0
 abbrev pub wrong_place : Access → ℕ → Option Mismatch
 wrong_place access n = if goes access && eqb (n % 2) 1 then Some (OddPlace n) else None
 
-abbrev pub wrong_storage : Access → ℕ → Option Mismatch
-wrong_storage access n = if goes access then Some (DataCalled n) else None
-
 -- n bytes beyond an external of so many bytes
 abbrev pub wrong_external : Access → ℕ → ℕ → Option Mismatch
 wrong_external Goes n size = if eqb size 0 then (if eqb n 0 then None else Some (Beyond n)) else Some (CommonCalled size)
@@ -98,7 +95,7 @@ mismatch_of c access (Number n) =
 mismatch_of c access (Near n) = if is_after_text c access n then Some (Unrelocated n) else wrong_place access n
 mismatch_of c access (Fixed n) = if is_storage c.header n then Some (Absolute n) else None
 mismatch_of c access (InText n) = wrong_place access n
-mismatch_of c access (InData n) = wrong_storage access n
+mismatch_of c access (InData n) = if goes access then Some (DataCalled n) else None
 mismatch_of c access (External k n) = wrong_external access n (common_size (slice_get c.symbols k))
 
 -- it is sure if the line is, by the promise or without it

@@ -1,13 +1,14 @@
 //! Addresses in text at which no instruction begins.
-ghost use Rattle.std.specs.{Prelude.{◌≡◌, ◌+◌, ◌*◌, ◌^◌, ◌<◌, if◌then◌else◌, [], length, slice_get}, List.{flat_map, list_any}};
-ghost use Rattle.aout_core.specs.{Encoding.symbols_at, Placed.{placed_word, placed_words, relocs_of, words_of}};
-ghost use Rattle.checks.specs.Found.{Finds};
-ghost use Rattle.checks.specs.Reached.{is_text};
-ghost use Rattle.checks.specs.Addresses.{misplaced_even, misplaced_at, misplaced_found, is_absolute_text, suspicious_symbol, suspicious_symbols, suspicious_reloc, suspicious_word, suspicious_addresses};
+ghost use Rattle.std.specs.{Prelude.{◌≡◌, ◌<◌, length, slice_get, is_some}, List.{flat_map, list_any}};
+ghost use Rattle.aout_core.specs.Placed.{placed_word, placed_words, relocs_of, words_of};
+ghost use Rattle.checks.specs.Found.{Finds, found_if};
+ghost use Rattle.checks.specs.{Odd.symbol_at, Reached.is_text, declared.finding.FindingKind.TheVariants.UnsuitableAddress};
+ghost use Rattle.checks.specs.Addresses.{is_misplaced, is_absolute_text, suspicious_symbol, suspicious_symbols, suspicious_reloc, suspicious_word, suspicious_addresses};
 
 use crate::evidence::{Evidence, Reached};
-use crate::finding::{FindingKind, Findings};
-use crate::places::{FilePlaces, Title};
+use crate::finding::FindingKind::{AbsoluteText, UnsuitableAddress};
+use crate::finding::Findings;
+use crate::places::{Title, symbol_at};
 use crate::referent::bss_to;
 use crate::trust::entered;
 use aout_core::{File, Part, Segment, Symbol};
@@ -23,33 +24,25 @@ pub(crate) enum Misplaced {
     Within(u32),
 }
 
-/// Why no instruction begins at an even address of the text or at its end, if none does.
-fn misplaced_even(reached: &Reached<'_>, address: u16) -> Option<Misplaced>
-    ensures { result ≡ misplaced_even reached.now.evidence reached.now.sweep.now address }
+/// Why no instruction begins at an address of the text or at its end, if none does.
+fn misplaced_at(reached: &Reached<'_>, address: u16) -> Option<Misplaced>
+    ensures { is_some result ≡ is_misplaced reached.now.evidence reached.now.sweep.now address }
 {
     let file = reached.sweep.file();
-    if usize::from(address) < 2 * file.text_words().len() {
-        match entered(reached, usize::from(address / 2)) {
-            Some(start) => Some(Misplaced::Within((2 * start) as u32)),
-            None => None,
-        }
-    } else if file.header().flag == 0 && usize::from(address) < bss_to(file.header()) {
-        Some(Misplaced::AtEnd)
-    } else {
-        None
-    }
-}
-
-/// Why no instruction begins at an address, if none does.
-fn misplaced_at(reached: &Reached<'_>, address: u16) -> Option<Misplaced>
-    ensures { result ≡ misplaced_at reached.now.evidence reached.now.sweep.now address }
-{
-    if usize::from(address) > 2 * reached.sweep.file().text_words().len() {
+    let (at, end) = (usize::from(address), 2 * file.text_words().len());
+    if at > end {
         None
     } else if address % 2 == 1 {
         Some(Misplaced::Odd)
+    } else if at < end {
+        match entered(reached, at / 2) {
+            Some(start) => Some(Misplaced::Within((2 * start) as u32)),
+            None => None,
+        }
+    } else if file.header().flag == 0 && at < bss_to(file.header()) {
+        Some(Misplaced::AtEnd)
     } else {
-        misplaced_even(reached, address)
+        None
     }
 }
 
@@ -57,19 +50,17 @@ fn misplaced_at(reached: &Reached<'_>, address: u16) -> Option<Misplaced>
 impl Display for Misplaced {
     fn fmt<W: fmt::Write>(&self, f: &mut Formatter<W>) -> fmt::Result {
         match self {
-            Misplaced::Odd => write!(
-                f,
-                ", which is odd: an instruction begins at an even address"
-            ),
-            Misplaced::AtEnd => write!(
-                f,
-                ", where text ends: data begins there, of type 3 and relocation word 4"
-            ),
-            Misplaced::Within(address) => {
+            Misplaced::Odd => {
+                f.write_str(", which is odd: an instruction begins at an even address")
+            }
+            Misplaced::AtEnd => {
+                f.write_str(", where text ends: data begins there, of type 3 and relocation word 4")
+            }
+            Misplaced::Within(at) => {
+                let at = *at;
                 write!(
                     f,
-                    ", within the instruction at {:06o}: count all bytes before it",
-                    *address
+                    ", within the instruction at {at:06o}: count all bytes before it"
                 )
             }
         }
@@ -85,33 +76,28 @@ fn is_absolute_text(file: &File, symbol: &Symbol) -> bool
         && usize::from(symbol.value) < 2 * file.text_words().len()
 }
 
-/// Adds symbol `number`, whose entry is at a byte, if it is of text, and no instruction begins there.
-fn find_misplaced_symbol(
+/// Adds what refers to an address of the text or to its end, if no instruction begins there.
+fn find_misplaced<D: Display + Drop>(
     findings: &mut Findings,
     reached: &Reached<'_>,
     place: usize,
-    number: usize,
-    symbol: &Symbol,
+    address: u16,
+    says: D,
 )
-    requires { place < 2 ^ 22 }
-    ensures { Finds findings.old findings.new (if is_text symbol.now then misplaced_found (place + 10)
-        (misplaced_at reached.now.evidence reached.now.sweep.now symbol.now.value) else []) }
+    ensures { Finds findings.old findings.new
+        (found_if (is_misplaced reached.now.evidence reached.now.sweep.now address) place UnsuitableAddress) }
 {
-    if !symbol.is_of(Segment::TextSeg) {
-        return;
-    }
-    if let Some(misplaced) = misplaced_at(reached, symbol.value) {
-        let (title, value) = (Title { number, symbol }, symbol.value);
+    if let Some(misplaced) = misplaced_at(reached, address) {
         findings.find_if(
             true,
-            place + 10,
-            FindingKind::UnsuitableAddress,
-            format_args!("{title} of text has value {value:06o}{misplaced}"),
+            place,
+            UnsuitableAddress,
+            format_args!("{says}{misplaced}"),
         );
     }
 }
 
-/// Adds what is suspicious of symbol `number`, whose entry is at a byte. Some symbol is of text, or none is.
+/// Adds what is suspicious of symbol `number`. Some symbol is of text, or none is.
 fn find_symbol(
     findings: &mut Findings,
     reached: &Reached<'_>,
@@ -121,23 +107,25 @@ fn find_symbol(
 )
     requires { number < 65536 }
     ensures { Finds findings.old findings.new (suspicious_symbol reached.now.evidence reached.now.sweep.now named
-        (symbols_at reached.now.sweep.now.header + 12 * number) symbol.now) }
+        (symbol_at reached.now.sweep.now.header number) symbol.now) }
 {
     let file = reached.sweep.file();
-    let place = FilePlaces::of(file.header()).symbols + 12 * number;
-    find_misplaced_symbol(findings, reached, place, number, symbol);
+    let place = symbol_at(file.header(), number);
     let (title, value) = (Title { number, symbol }, symbol.value);
+    if symbol.is_of(Segment::TextSeg) {
+        let says = format_args!("{title} of text has value {value:06o}");
+        find_misplaced(findings, reached, place + 10, value, says);
+    }
     findings.find_if(
         !named && is_absolute_text(file, symbol),
         place + 8,
-        FindingKind::AbsoluteText,
+        AbsoluteText,
         format_args!(
             "{title} is absolute with value {value:06o}, which is in text, and no symbol is of text: its type is 000042"
         ),
     );
 }
 
-/// Whether some symbol is of text.
 fn has_text_symbol(symbols: &[Symbol]) -> bool
     ensures { result ≡ list_any is_text symbols.now }
 {
@@ -167,19 +155,12 @@ fn find_word(findings: &mut Findings, reached: &Reached<'_>, part: Part, number:
     let Some(reloc) = at.reloc else {
         return;
     };
-    if reloc.0 % 0o20 != 2 {
-        return;
-    }
-    if let Some(misplaced) = misplaced_at(reached, at.word) {
+    if reloc.0 % 0o20 == 2 {
         let (address, word) = (at.address, at.word);
-        findings.find_if(
-            true,
-            at.place,
-            FindingKind::UnsuitableAddress,
-            format_args!(
-                "the word at {address:06o} is of kind text and refers to {word:06o}{misplaced}"
-            ),
+        let says = format_args!(
+            "the word at {address:06o} is of kind text and refers to {word:06o}"
         );
+        find_misplaced(findings, reached, at.place, word, says);
     }
 }
 

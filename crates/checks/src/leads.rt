@@ -1,7 +1,7 @@
 //! The addresses to which a line leads.
-ghost use Rattle.std.specs.{Prelude.{◌≡◌, ◌<◌, ◌≤◌, ◌+◌, ◌*◌, length, option_map, slice_get}, List.list_any};
+ghost use Rattle.std.specs.{Prelude.{◌≡◌, ◌<◌, ◌≤◌, ◌+◌, ◌*◌, length, slice_get}, List.list_any};
 ghost use Rattle.instructions.specs.UnixLines.{unix_length};
-ghost use Rattle.checks.specs.Reached.{is_pc_itself, only_reads, ends_with_pc, counts_down, may_write_pc, passes, is_csv, is_some_csv, is_external_csv, is_csv_at, refers_to_csv, calls_by_r5, calls_csv, flows, returns, is_promised, is_flow, may_leave, is_between, is_followed, goes_on, next_of, parent_of, branch_of, is_own_distance, is_own_address, jump_by, jump};
+ghost use Rattle.checks.specs.Reached.{is_pc_itself, only_reads, ends_with_pc, counts_down, may_write_pc, passes, is_csv, is_external_csv, is_csv_at, refers_to_csv, calls_csv, flows, is_promised, may_leave, is_between, is_followed, goes_on, next_of, parent_of, branch_of, is_own_distance, is_own_address, jump_by, jump};
 
 use crate::evidence::Evidence;
 use aout_core::{File, Reloc, Segment, Symbol};
@@ -27,30 +27,21 @@ pub(crate) fn reloc_at(file: &File, place: usize) -> Option<Reloc>
     file.text_reloc().get(place).copied()
 }
 
-/// Whether the pc itself is an operand.
 fn is_pc_itself(operand: Option<Operand>) -> bool
     ensures { result ≡ is_pc_itself operand }
 {
-    match operand {
-        Some(Operand::General(Mode::Direct, Register::Pc) | Operand::Register(Register::Pc)) =>
-            true,
-        _ => false,
-    }
+    matches!(
+        operand,
+        Some(Operand::General(Mode::Direct, Register::Pc) | Operand::Register(Register::Pc))
+    )
 }
 
 /// Whether the last operand is only read.
 fn only_reads(operation: Operation) -> bool
     ensures { result ≡ only_reads operation }
 {
-    match operation {
-        Operation::Cmp
-        | Operation::Cmpb
-        | Operation::Bit
-        | Operation::Bitb
-        | Operation::Tst
-        | Operation::Tstb => true,
-        _ => false,
-    }
+    use Operation::*;
+    matches!(operation, Cmp | Cmpb | Bit | Bitb | Tst | Tstb)
 }
 
 /// Whether the pc itself is the last operand, or sp is, with the pc as its second register.
@@ -68,10 +59,10 @@ fn ends_with_pc(first: Option<Operand>, second: Option<Operand>) -> bool
 fn counts_down(operand: Option<Operand>) -> bool
     ensures { result ≡ counts_down operand }
 {
-    match operand {
-        Some(Operand::General(Mode::Decrement | Mode::DecrementDeferred, Register::Pc)) => true,
-        _ => false,
-    }
+    matches!(
+        operand,
+        Some(Operand::General(Mode::Decrement | Mode::DecrementDeferred, Register::Pc))
+    )
 }
 
 /// Whether an instruction may write the pc by an operand.
@@ -88,19 +79,10 @@ fn may_write_pc(instruction: &Instruction) -> bool
 fn passes(operation: Operation, comes_back: bool) -> bool
     ensures { result ≡ passes operation comes_back }
 {
+    use Operation::*;
     match operation {
-        Operation::Jsr => comes_back,
-        Operation::Br
-        | Operation::Jmp
-        | Operation::Rts
-        | Operation::Rti
-        | Operation::Rtt
-        | Operation::Halt
-        | Operation::Mark
-        | Operation::Bpt
-        | Operation::Iot
-        | Operation::Emt
-        | Operation::Sys => false,
+        Jsr => comes_back,
+        Br | Jmp | Rts | Rti | Rtt | Halt | Mark | Bpt | Iot | Emt | Sys => false,
         _ => true,
     }
 }
@@ -122,42 +104,26 @@ fn is_csv(symbol: &Symbol) -> bool
     symbol.name.as_bytes() == b"csv".as_slice()
 }
 
-/// Whether this is a symbol with the name `csv`.
-fn is_some_csv(symbol: Option<&Symbol>) -> bool
-    ensures { result ≡ is_some_csv (option_map (λ s. s.now) symbol.entry) }
-{
-    match symbol {
-        Some(symbol) => is_csv(symbol),
-        None => false,
-    }
-}
-
 /// Whether a relocation word refers to the external `csv`, from the pc.
 fn is_external_csv(file: &File, reloc: Option<Reloc>) -> bool
     ensures { result ≡ is_external_csv file.now reloc }
 {
-    match reloc {
-        Some(reloc) => {
-            reloc.0 % 0o20 == 0o11 && is_some_csv(file.symbols().get(usize::from(reloc.number())))
-        }
+    let Some(reloc) = reloc else {
+        return false;
+    };
+    match file.symbols().get(usize::from(reloc.number())) {
+        Some(symbol) => reloc.0 % 0o20 == 0o11 && is_csv(symbol),
         None => false,
     }
-}
-
-/// Whether `csv` is a symbol of text, and has an address.
-fn is_csv_at(address: u16, symbol: &Symbol) -> bool
-    ensures { result ≡ is_csv_at address symbol.now }
-{
-    symbol.is_of(Segment::TextSeg) && symbol.value == address && is_csv(symbol)
 }
 
 /// Whether `csv` is a symbol of text in a file, and has an address.
 fn has_csv_at(file: &File, address: u16) -> bool
     ensures { result ≡ list_any (is_csv_at address) file.now.symbols }
 {
-    file.symbols()
-        .iter()
-        .any(|symbol| is_csv_at(address, symbol))
+    file.symbols().iter().any(|symbol| {
+        symbol.is_of(Segment::TextSeg) && symbol.value == address && is_csv(symbol)
+    })
 }
 
 /// Whether a word from the pc, before the address `next`, refers to `csv`.
@@ -169,25 +135,20 @@ fn refers_to_csv(file: &File, reloc: Option<Reloc>, next: u32, word: u16) -> boo
     is_external_csv(file, reloc) || (is_own_distance(reloc) && has_csv_at(file, address))
 }
 
-/// Whether a word begins `jsr r5` with a call by mode 67.
-fn calls_by_r5(word: Option<u16>) -> bool
-    ensures { result ≡ calls_by_r5 word }
-{
-    matches!(word, Some(0o4567))
-}
-
 /// Whether `jsr r5,csv` is at a place.
 pub(crate) fn calls_csv(file: &File, place: usize) -> bool
     requires { place < 32768 }
     ensures { result ≡ calls_csv file.now place }
 {
     let words = file.text_words();
-    if !calls_by_r5(words.get(place).copied()) {
-        return false;
-    }
     let word = words.get(place + 1).copied().unwrap_or(0);
-    let reloc = reloc_at(file, place + 1);
-    refers_to_csv(file, reloc, (2 * place + 4) as u32, word)
+    matches!(words.get(place).copied(), Some(0o4567))
+        && refers_to_csv(
+            file,
+            reloc_at(file, place + 1),
+            (2 * place + 4) as u32,
+            word,
+        )
 }
 
 /// Whether control comes for sure to the line after the instruction at a place.
@@ -199,24 +160,11 @@ pub(crate) fn flows(file: &File, place: usize, instruction: &Instruction) -> boo
     !may_write_pc(instruction) && passes(instruction.row.operation, comes_back)
 }
 
-/// Whether a call returns to the line after it for sure.
-fn returns(call: SystemCall) -> bool
-    ensures { result ≡ returns call }
-{
-    !matches!(call, SystemCall::Exit | SystemCall::Indir)
-}
-
 /// Whether all of the text is instructions.
 pub(crate) fn is_promised(evidence: Evidence) -> bool
     ensures { result ≡ is_promised evidence }
 {
     matches!(evidence, Evidence::Promise)
-}
-
-fn is_flow(evidence: Evidence) -> bool
-    ensures { result ≡ is_flow evidence }
-{
-    matches!(evidence, Evidence::Flow)
 }
 
 /// Whether control may leave by an instruction, and never come to the line after it.
@@ -228,21 +176,14 @@ fn may_leave(instruction: &Instruction) -> bool
         || (instruction.row.operation.jumps() && is_pc_itself(instruction.first))
 }
 
-/// Whether a symbol of text has an address between these.
-fn is_between(low: usize, high: usize, symbol: &Symbol) -> bool
-    ensures { result ≡ is_between low high symbol.now }
-{
-    let value = usize::from(symbol.value);
-    symbol.is_of(Segment::TextSeg) && low < value && value < high
-}
-
 /// Whether a symbol of text has an address between these in a file.
 fn has_between(file: &File, low: usize, high: usize) -> bool
     ensures { result ≡ list_any (is_between low high) file.now.symbols }
 {
-    file.symbols()
-        .iter()
-        .any(|symbol| is_between(low, high, symbol))
+    file.symbols().iter().any(|symbol| {
+        let value = usize::from(symbol.value);
+        symbol.is_of(Segment::TextSeg) && low < value && value < high
+    })
 }
 
 /// Whether all of the text is instructions, and no symbol of text is within the line at a place.
@@ -258,14 +199,16 @@ fn goes_on(evidence: Evidence, file: &File, place: usize, line: &UnixLine) -> bo
     requires { place + unix_length line.now < 32768 }
     ensures { result ≡ goes_on evidence file.now place line.now }
 {
+    let is_flow = matches!(evidence, Evidence::Flow);
     match line {
         UnixLine::Machine(Line::Plain(_)) => false,
         UnixLine::Machine(Line::Decoded(instruction, _, _)) => {
-            (!(is_flow(evidence) && may_leave(instruction)) && flows(file, place, instruction))
+            (!(is_flow && may_leave(instruction)) && flows(file, place, instruction))
                 || is_followed(evidence, file, place, line)
         }
         UnixLine::Call(row) => {
-            (!is_flow(evidence) && returns(row.call)) || is_followed(evidence, file, place, line)
+            (!is_flow && !matches!(row.call, SystemCall::Exit | SystemCall::Indir))
+                || is_followed(evidence, file, place, line)
         }
     }
 }
@@ -275,11 +218,7 @@ pub(crate) fn next_of(evidence: Evidence, file: &File, place: usize, line: &Unix
     requires { place + unix_length line.now < 32768 }
     ensures { result ≡ next_of evidence file.now place line.now }
 {
-    if goes_on(evidence, file, place, line) {
-        Some((2 * (place + line.length())) as u16)
-    } else {
-        None
-    }
+    goes_on(evidence, file, place, line).then_some((2 * (place + line.length())) as u16)
 }
 
 /// The address at which the parent goes on, if the call at a place is fork.

@@ -24,7 +24,6 @@ mod branches;
 mod evidence;
 mod finding;
 mod heading;
-mod kind;
 pub mod laws;
 mod leads;
 mod notes;
@@ -43,8 +42,7 @@ mod wrong;
 
 pub use evidence::Evidence;
 pub use finding::{Finding, FindingKind, put_finding_text, put_findings};
-pub use heading::put_header;
-pub use kind::KindText;
+pub use heading::{KindText, put_header};
 pub use notes::Notes;
 pub use odd::odd_of;
 pub use other_files::{OtherForm, header_of, is_of_gnu, likeness, other_form};

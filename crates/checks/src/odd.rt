@@ -173,18 +173,11 @@ fn find_fields(
     );
 }
 
-/// Whether a relocation word refers to the symbol of a number.
-fn refers_to(number: usize, reloc: Reloc) -> bool
-    ensures { result ≡ refers_to number reloc }
-{
-    reloc.0 / 2 % 8 == 4 && usize::from(reloc.number()) == number
-}
-
 /// Whether some relocation word refers to the symbol of a number.
 fn has_reference(relocs: &[Reloc], number: usize) -> bool
     ensures { result ≡ list_any (refers_to number) relocs.now }
 {
-    relocs.iter().any(|reloc| refers_to(number, *reloc))
+    relocs.iter().any(|reloc| reloc.0 / 2 % 8 == 4 && usize::from(reloc.number()) == number)
 }
 
 /// Whether a symbol of an object is undefined, and no word refers to it.
@@ -262,7 +255,6 @@ fn first_alike(
     first_noted(seen, symbol.name, number)
 }
 
-/// Adds what is odd of the symbols.
 fn find_symbols(findings: &mut Findings, source: &Source<'_>)
     ensures { Finds findings.old findings.new
         (odd_symbols source.now.commons source.now.sweep.now source.now.bytes.now 0
@@ -278,7 +270,6 @@ fn find_symbols(findings: &mut Findings, source: &Source<'_>)
     }
 }
 
-/// Adds what is odd of a word of a part.
 fn find_word(findings: &mut Findings, sweep: &Sweep<'_>, part: Part, number: usize)
     requires { number < length (words_of sweep.now part) }
     ensures { Finds findings.old findings.new
@@ -319,7 +310,6 @@ fn find_word(findings: &mut Findings, sweep: &Sweep<'_>, part: Part, number: usi
     }
 }
 
-/// Adds what is odd of the words of a part.
 fn find_words(findings: &mut Findings, sweep: &Sweep<'_>, part: Part)
     ensures { Finds findings.old findings.new
         (flat_map (odd_word sweep.now) (placed_words sweep.now part)) }

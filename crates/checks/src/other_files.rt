@@ -18,7 +18,6 @@ pub fn header_of(bytes: &[u8]) -> Option<Header>
     Some(Header::read(&start))
 }
 
-/// Whether bytes are those of a text.
 fn is_text(bytes: &[u8]) -> bool {
     bytes.iter().all(|byte| {
         (8 <= *byte && *byte <= 13 && *byte != 11) || (b' ' <= *byte && *byte != 127)

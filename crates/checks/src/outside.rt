@@ -1,7 +1,7 @@
 //! Whether an address outside of its segment is a fault for sure.
 ghost use Rattle.std.specs.{Prelude.{◌≡◌, ◌^◌, ◌<◌, length}, List.list_any};
 ghost use Rattle.aout_core.specs.Placed.{words_of};
-ghost use Rattle.checks.specs.Outside.{is_byte, is_far, is_text_outside, is_moved, is_at_address, is_direct_in, is_direct_back, is_direct, is_sure_word, is_sure_value};
+ghost use Rattle.checks.specs.Outside.{is_byte, is_far, is_moved, is_at_address, is_direct_in, is_direct_back, is_direct, is_sure_word, is_sure_value};
 
 use crate::places::{has_address, range_of};
 use aout_core::{File, Header, Part, Reloc, Segment, Symbol};
@@ -29,20 +29,14 @@ fn is_far(header: &Header, segment: Segment, address: u16) -> bool
     }
 }
 
-fn is_text_outside(header: &Header, symbol: &Symbol) -> bool
-    ensures { result ≡ is_text_outside header.now symbol.now }
-{
-    symbol.is_of(Segment::TextSeg) && !has_address(header, Segment::TextSeg, symbol.value)
-}
-
 /// Whether a symbol of text is outside of it.
 fn is_moved(file: &File) -> bool
     ensures { result ≡ is_moved file.now }
 {
     let header = file.header();
-    file.symbols()
-        .iter()
-        .any(|symbol| is_text_outside(header, symbol))
+    file.symbols().iter().any(|symbol| {
+        symbol.is_of(Segment::TextSeg) && !has_address(header, Segment::TextSeg, symbol.value)
+    })
 }
 
 /// Whether an operand is in memory at an address: its mode is 37, 67 or 77.
@@ -52,10 +46,10 @@ fn is_at_address(operand: Option<Operand>) -> bool
     let Some(Operand::General(mode, register)) = operand else {
         return false;
     };
-    match mode.addressing(register) {
-        Some(Addressing::Relative | Addressing::RelativeDeferred | Addressing::Absolute) => true,
-        _ => false,
-    }
+    matches!(
+        mode.addressing(register),
+        Some(Addressing::Relative | Addressing::RelativeDeferred | Addressing::Absolute)
+    )
 }
 
 /// Whether the word at a place is that of such an operand of a line.

@@ -1,5 +1,5 @@
 //! The places of the parts of a file, by the sizes in its header, and their addresses in memory.
-ghost use Rattle.std.specs.Prelude.{◌≡◌, ◌+◌, ◌^◌, ◌<◌, ◌&&◌, nat_le};
+ghost use Rattle.std.specs.Prelude.{◌≡◌, ◌+◌, ◌^◌, ◌<◌};
 ghost use Rattle.aout_core.specs.Encoding.{relocation_at, symbols_at, file_length};
 ghost use Rattle.checks.specs.{Segments.has_address, Odd.symbol_at, Outside.{first_of, last_of}};
 
@@ -64,16 +64,6 @@ pub(crate) struct Range {
     pub(crate) end: u32,
 }
 
-impl Range {
-    /// Whether an address is in the segment, or at its end.
-    fn has(&self, address: u16) -> bool
-        ensures { result ≡ (nat_le self.now.start address && nat_le address self.now.end) }
-    {
-        let address = u32::from(address);
-        self.start <= address && address <= self.end
-    }
-}
-
 /// Where a segment of a file with this header lies; text for one without addresses of its own.
 pub(crate) fn range_of(header: &Header, segment: Segment) -> Range
     ensures start { result.start ≡ first_of header.now segment }
@@ -92,7 +82,6 @@ pub(crate) fn range_of(header: &Header, segment: Segment) -> Range
     Range { start, end }
 }
 
-/// A segment by name.
 pub(crate) fn segment_name(segment: Segment) -> &'static str {
     match segment {
         Segment::DataSeg => "data",
@@ -105,10 +94,10 @@ pub(crate) fn segment_name(segment: Segment) -> &'static str {
 pub(crate) fn has_address(header: &Header, segment: Segment, address: u16) -> bool
     ensures { result ≡ has_address header.now segment address }
 {
-    let range = range_of(header, segment);
+    let (range, at) = (range_of(header, segment), u32::from(address));
     match segment {
         Segment::TextSeg => address <= header.text_size,
-        Segment::DataSeg | Segment::BssSeg => range.has(address),
+        Segment::DataSeg | Segment::BssSeg => range.start <= at && at <= range.end,
         Segment::Undefined | Segment::Absolute | Segment::Other => true,
     }
 }

@@ -3,43 +3,19 @@ ghost use Rattle.std.specs.Prelude.{◌≡◌, ◌<◌, ◌+◌, ◌++◌, ◌�
 ghost use Rattle.instructions.specs.{Modes.counts_from_pc, UnixLines.unix_length, declared.line.Line.TheVariants.Decoded};
 ghost use Rattle.instructions.specs.{declared.unix.UnixLine.TheVariants.Machine, Instructions.word_count_of};
 ghost use Rattle.checks.specs.Reached.{leads_by, leads_to, visited, visited_all, is_still, begins, named, is_distance, has_distance, is_shown_by, shown, shown_from, entry, nameless, evident, spread, reached, is_reached};
-ghost use Rattle.checks.specs.internal.Marks.{AreMarks, is_unmarked};
+ghost use Rattle.checks.specs.internal.Marks.{AreMarks};
 
 use crate::evidence::Evidence;
-use crate::leads::{
-    address_of, branch_of, calls_csv, is_promised, jump, next_of, parent_of, reloc_at,
-};
+use crate::leads::{address_of, branch_of, calls_csv, jump, next_of, parent_of, reloc_at};
 use aout_core::{File, Header, Reloc, Segment, Symbol};
 use disassemblies::Sweep;
 use instructions::{Addressing, Instruction, Line, Operand, UnixLine, is_relocated};
 use std::alloc::{AllocError, Global};
 
-/// Whether a place is marked.
 pub(crate) fn is_marked(marks: &[bool], place: usize) -> bool
     ensures { result ≡ get_or marks.now place false }
 {
     place < marks.len() && marks[place]
-}
-
-/// Whether a word that is not marked has an address.
-fn is_unmarked(marks: &[bool], address: u16) -> bool
-    ensures { result ≡ is_unmarked marks.now address }
-{
-    let place = usize::from(address / 2);
-    address % 2 == 0 && place < marks.len() && !is_marked(marks, place)
-}
-
-/// Notes a place.
-fn note(marks: &mut [bool], found: &mut Vec<usize>, place: usize) -> Result<(), AllocError>
-    requires inside { place < length marks.old }
-    requires marks { AreMarks marks.old found.old.items }
-    ensures found { OnOk result (found.new.items ≡ found.old.items ++ place ∷ []) }
-    ensures marks { OnOk result (AreMarks marks.new found.new.items) }
-    ensures same { length marks.new ≡ length marks.old }
-{
-    found.push(place)?;
-    marks[place] = true;
-    Ok(())
 }
 
 /// Notes the place of an address, if it is new.
@@ -50,12 +26,15 @@ fn visit(marks: &mut [bool], found: &mut Vec<usize>, address: Option<u16>) -> Re
     ensures marks { OnOk result (AreMarks marks.new found.new.items) }
     ensures same { length marks.new ≡ length marks.old }
 {
-    match address {
-        Some(address) if is_unmarked(marks, address) => {
-            note(marks, found, usize::from(address / 2))
-        }
-        _ => Ok(()),
+    let Some(address) = address else {
+        return Ok(());
+    };
+    let place = usize::from(address / 2);
+    if address % 2 == 0 && place < marks.len() && !marks[place] {
+        found.push(place)?;
+        marks[place] = true;
     }
+    Ok(())
 }
 
 /// Notes the places of these addresses.
@@ -76,22 +55,16 @@ fn visit_all(
     Ok(())
 }
 
-/// Whether a word has a relocation word, and is not relocated.
-fn is_still(reloc: Option<Reloc>) -> bool
-    ensures { result ≡ is_still reloc }
-{
-    reloc.is_some() && !is_relocated(reloc)
-}
-
 /// Whether an evidence begins with a place that has the address of a symbol of text.
 fn begins(evidence: Evidence, file: &File, place: usize) -> bool
     requires { place < 32768 }
     ensures { result ≡ begins evidence file.now place }
 {
     let reloc = reloc_at(file, place);
+    let is_still = reloc.is_some() && !is_relocated(reloc);
     match evidence {
-        Evidence::Names => is_still(reloc),
-        Evidence::Flow => is_still(reloc) && calls_csv(file, place),
+        Evidence::Names => is_still,
+        Evidence::Flow => is_still && calls_csv(file, place),
         Evidence::Promise => true,
     }
 }
@@ -100,52 +73,21 @@ fn begins(evidence: Evidence, file: &File, place: usize) -> bool
 fn named(evidence: Evidence, file: &File, symbol: &Symbol) -> Option<u16>
     ensures { result ≡ named evidence file.now symbol.now }
 {
-    if symbol.is_of(Segment::TextSeg) && begins(evidence, file, usize::from(symbol.value / 2)) {
-        Some(symbol.value)
-    } else {
-        None
-    }
+    let begins = symbol.is_of(Segment::TextSeg)
+        && begins(evidence, file, usize::from(symbol.value / 2));
+    begins.then_some(symbol.value)
 }
 
-/// Notes the places that symbols name.
-fn visit_symbols(
-    marks: &mut [bool],
-    found: &mut Vec<usize>,
-    evidence: Evidence,
-    file: &File,
-) -> Result<(), AllocError>
-    requires { AreMarks marks.old found.old.items }
-    ensures found { OnOk result (found.new.items
-        ≡ visited_all (length marks.old) found.old.items (map (named evidence file.now) file.now.symbols)) }
-    ensures marks { OnOk result (AreMarks marks.new found.new.items) }
-    ensures same { length marks.new ≡ length marks.old }
-{
-    let symbols = file.symbols();
-    for symbol in symbols {
-        visit(marks, found, named(evidence, file, symbol))?;
-    }
-    Ok(())
-}
-
-/// Whether an operand word counts from the pc, and is relocated so.
-fn is_distance(reloc: Option<Reloc>, addressing: Option<Addressing>) -> bool
-    ensures { result ≡ is_distance reloc addressing }
-{
-    match (reloc, addressing) {
-        (Some(reloc), Some(addressing)) => {
-            is_relocated(Some(reloc)) && reloc.is_pc() && addressing.counts_from_pc()
-        }
-        _ => false,
-    }
-}
-
-/// Whether an operand has such a word at a place.
+/// Whether an operand has a word at a place that counts from the pc, and is relocated so.
 fn has_distance(file: &File, place: usize, operand: Option<Operand>) -> bool
     ensures { result ≡ has_distance file.now place operand }
 {
-    match operand {
-        Some(Operand::General(mode, register)) => {
-            is_distance(reloc_at(file, place), mode.addressing(register))
+    let Some(Operand::General(mode, register)) = operand else {
+        return false;
+    };
+    match (reloc_at(file, place), mode.addressing(register)) {
+        (Some(reloc), Some(addressing)) => {
+            is_relocated(Some(reloc)) && reloc.is_pc() && addressing.counts_from_pc()
         }
         _ => false,
     }
@@ -179,32 +121,6 @@ fn shown(sweep: &Sweep<'_>, place: usize) -> Option<u16>
     }
 }
 
-/// Notes the places that need no name: of the lines that have such words, or the beginning of a text that is all instructions.
-fn visit_nameless(
-    marks: &mut [bool],
-    found: &mut Vec<usize>,
-    evidence: Evidence,
-    sweep: &Sweep<'_>,
-) -> Result<(), AllocError>
-    requires { AreMarks marks.old found.old.items }
-    ensures found { OnOk result (found.new.items
-        ≡ visited_all (length marks.old) found.old.items (nameless evidence sweep.now)) }
-    ensures marks { OnOk result (AreMarks marks.new found.new.items) }
-    ensures same { length marks.new ≡ length marks.old }
-{
-    if is_promised(evidence) {
-        return visit(marks, found, Some(0));
-    }
-    if evidence != Evidence::Names {
-        return Ok(());
-    }
-    let words = sweep.file().text_words();
-    for (place, _) in words.iter().enumerate() {
-        visit(marks, found, shown(sweep, place))?;
-    }
-    Ok(())
-}
-
 /// The entry point of a linked file.
 fn entry(header: &Header) -> Option<u16>
     ensures { result ≡ entry header.now }
@@ -212,24 +128,39 @@ fn entry(header: &Header) -> Option<u16>
     (header.flag != 0).then_some(header.entry_point)
 }
 
-/// Notes the places with which an evidence begins.
-fn visit_evident(
-    marks: &mut [bool],
-    found: &mut Vec<usize>,
+/// Adds the addresses of the lines that have such words.
+fn put_shown(list: &mut Vec<Option<u16>>, sweep: &Sweep<'_>) -> Result<(), AllocError>
+    ensures { OnOk result
+        (list.new.items ≡ list.old.items ++ shown_from sweep.now 0 sweep.now.text_words) }
+{
+    let words = sweep.file().text_words();
+    for (place, _) in words.iter().enumerate() {
+        list.push(shown(sweep, place))?;
+    }
+    Ok(())
+}
+
+/// The addresses with which an evidence begins: the entry point, those of symbols, and those that need no name.
+fn evident(
+    alloc: Global,
     evidence: Evidence,
     sweep: &Sweep<'_>,
-) -> Result<(), AllocError>
-    requires { AreMarks marks.old found.old.items }
-    ensures found { OnOk result (found.new.items
-        ≡ visited_all (length marks.old) found.old.items (evident evidence sweep.now)) }
-    ensures marks { OnOk result (AreMarks marks.new found.new.items) }
-    ensures same { length marks.new ≡ length marks.old }
+) -> Result<Vec<Option<u16>>, AllocError>
+    ensures { IfOk result (λ list. list.items ≡ evident evidence sweep.now) }
 {
     let file = sweep.file();
-    visit(marks, found, entry(file.header()))?;
-    visit_symbols(marks, found, evidence, file)?;
-    visit_nameless(marks, found, evidence, sweep)?;
-    Ok(())
+    let symbols = file.symbols();
+    let mut list = Vec::new(alloc);
+    list.push(entry(file.header()))?;
+    for symbol in symbols {
+        list.push(named(evidence, file, symbol))?;
+    }
+    match evidence {
+        Evidence::Names => put_shown(&mut list, sweep)?,
+        Evidence::Flow => {}
+        Evidence::Promise => list.push(Some(0))?,
+    }
+    Ok(list)
 }
 
 /// The addresses to which an instruction at a place may lead.
@@ -329,7 +260,8 @@ pub fn reached_places(
 {
     let mut marks = vec![in alloc; false; sweep.file().text_words().len()]?;
     let mut found = Vec::new(alloc);
-    visit_evident(&mut marks, &mut found, evidence, sweep)?;
+    let evident = evident(alloc, evidence, sweep)?;
+    visit_all(&mut marks, &mut found, &evident)?;
     spread(&mut marks, &mut found, evidence, sweep)?;
     Ok(marks)
 }

@@ -3,9 +3,9 @@ ghost use Rattle.std.specs.{Prelude.{◌≡◌, ◌+◌, ◌*◌, ◌^◌, ◌<�
 ghost use Rattle.aout_core.specs.WellFormed.{kind_of};
 ghost use Rattle.checks.specs.{Segments.bss_to, Found.Finds};
 ghost use Rattle.checks.specs.Branches.{word_place};
-ghost use Rattle.checks.specs.Referents.{referent_of, referred, access_by, goes, is_after_text, is_storage, is_stored_at, common_size, wrong_place, wrong_storage, wrong_external, mismatch_of};
+ghost use Rattle.checks.specs.Referents.{referent_of, referred, access_by, goes, is_after_text, is_storage, is_stored_at, common_size, wrong_external, mismatch_of};
 ghost use Rattle.checks.specs.Referents.{is_certain, suspicious_mismatch, suspicious_referent, suspicious_way, suspicious_reference, suspicious_references};
-ghost use Rattle.instructions.specs.{Modes.counts_from_pc, Instructions.{jumps, word_count_of}, Texts.number};
+ghost use Rattle.instructions.specs.{Modes.counts_from_pc, Instructions.{jumps, word_count_of}, Syntax.number};
 
 use crate::finding::{FindingKind, Findings};
 use crate::leads::{is_promised, reloc_at};
@@ -126,7 +126,6 @@ pub(crate) fn bss_to(header: &Header) -> usize
     header.data_start() + usize::from(header.data_size) + usize::from(header.bss_size)
 }
 
-/// Whether an address is after the text.
 fn is_after_text(file: &File, access: Access, address: u16) -> bool
     ensures { result ≡ is_after_text file.now access address }
 {
@@ -143,20 +142,13 @@ fn is_storage(header: &Header, address: u16) -> bool
     header.data_start() <= address && address < bss_to(header)
 }
 
-/// Whether a symbol of data or bss has an address.
-fn is_stored_at(address: u16, symbol: &Symbol) -> bool
-    ensures { result ≡ is_stored_at address symbol.now }
-{
-    (symbol.is_of(Segment::DataSeg) || symbol.is_of(Segment::BssSeg)) && symbol.value == address
-}
-
 /// Whether some symbol of data or bss has an address in a file.
 fn has_stored_at(file: &File, address: u16) -> bool
     ensures { result ≡ list_any (is_stored_at address) file.now.symbols }
 {
-    file.symbols()
-        .iter()
-        .any(|symbol| is_stored_at(address, symbol))
+    file.symbols().iter().any(|symbol| {
+        (symbol.is_of(Segment::DataSeg) || symbol.is_of(Segment::BssSeg)) && symbol.value == address
+    })
 }
 
 /// The bytes of an undefined external.
@@ -167,18 +159,6 @@ fn common_size(symbol: Option<&Symbol>) -> u16
         Some(symbol) if symbol.is_undefined() => symbol.value,
         _ => 0,
     }
-}
-
-fn wrong_place(access: Access, address: u16) -> Option<Mismatch>
-    ensures { result ≡ wrong_place access address }
-{
-    (goes(access) && address % 2 == 1).then_some(Mismatch::OddPlace(address))
-}
-
-fn wrong_storage(access: Access, address: u16) -> Option<Mismatch>
-    ensures { result ≡ wrong_storage access address }
-{
-    goes(access).then_some(Mismatch::DataCalled(address))
 }
 
 /// What is wrong with a word so many bytes beyond an external of so many bytes.
@@ -205,11 +185,13 @@ fn mismatch_of(file: &File, access: Access, referent: Referent) -> Option<Mismat
         Referent::Near(address) if is_after_text(file, access, address) => {
             Some(Mismatch::Unrelocated(address))
         }
-        Referent::Near(address) | Referent::InText(address) => wrong_place(access, address),
+        Referent::Near(address) | Referent::InText(address) => {
+            (goes(access) && address % 2 == 1).then_some(Mismatch::OddPlace(address))
+        }
         Referent::Fixed(address) if is_storage(file.header(), address) => {
             Some(Mismatch::Absolute(address))
         }
-        Referent::InData(address) => wrong_storage(access, address),
+        Referent::InData(address) => goes(access).then_some(Mismatch::DataCalled(address)),
         Referent::External(number, beyond) => {
             let size = common_size(file.symbols().get(usize::from(number)));
             wrong_external(access, beyond, size)
@@ -310,7 +292,7 @@ fn find_reference(
     let Some(addressing) = mode.addressing(register) else {
         return;
     };
-    let file = at.sweep().file();
+    let file = at.lines.sweep.file();
     let Some(reloc) = reloc_at(file, placed.place) else {
         return;
     };

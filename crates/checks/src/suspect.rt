@@ -7,7 +7,6 @@ use crate::finding::{FindingKind, Findings};
 use crate::places::TextAddress;
 use crate::trust::Trust;
 use crate::wrong::put_instruction;
-use disassemblies::Sweep;
 use std::fmt::Display;
 
 /// A line of a file's text: the place at which it begins, how far it is sure that it is an instruction, and the lines that a branch may
@@ -21,26 +20,12 @@ pub(crate) struct Suspect<'a> {
     ghost near: { start < 2 ^ 15 },
 }
 
-impl<'a> Suspect<'a> {
-    /// The file with its lines.
-    pub(crate) fn sweep(&self) -> &'a Sweep<'a>
-        ensures { result.now ≡ self.now.lines.sweep.now }
-    {
-        self.lines.sweep
-    }
-
+impl Suspect<'_> {
     /// The address of the line.
     pub(crate) fn address(&self) -> u16
         ensures { result ≡ 2 * self.now.start }
     {
         (2 * self.start) as u16
-    }
-
-    /// The byte of the file at which the line begins.
-    pub(crate) fn place(&self) -> usize
-        ensures { result ≡ word_place self.now.start }
-    {
-        word_place(self.start)
     }
 
     /// Adds a finding, with the instruction.
@@ -56,7 +41,7 @@ impl<'a> Suspect<'a> {
     {
         let mut text = findings.text();
         text.say(says);
-        put_instruction(&mut text, self.sweep().named(), self.start);
+        put_instruction(&mut text, self.lines.sweep.named(), self.start);
         findings.find_as(is_sure, place, kind, text);
     }
 
@@ -71,7 +56,7 @@ impl<'a> Suspect<'a> {
     )
         ensures { Finds findings.old findings.new (found_as self.now.trust.is_sure true place kind) }
     {
-        let (names, is_sure) = (self.sweep().named().names(), self.trust.is_sure);
+        let (names, is_sure) = (self.lines.sweep.named().names(), self.trust.is_sure);
         let (address, doubt) = (self.address(), doubt_text(is_sure));
         let at = TextAddress { names, address };
         let mut text = findings.text();

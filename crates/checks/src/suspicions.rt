@@ -20,7 +20,7 @@ use crate::odd::odd_of;
 use crate::places::FilePlaces;
 use crate::reached::{is_marked, reached_places};
 use crate::referent::find_references;
-use crate::suspect::{Suspect, doubt_text};
+use crate::suspect::{Suspect, doubt_text, word_place};
 use crate::trust::{Trust, is_sure};
 use crate::uses::find_uses;
 use aout_core::{File, Reloc};
@@ -46,40 +46,6 @@ fn may_begin(file: &File, place: usize) -> bool
     1 < count && !is_relocated(reloc_at(file, place + count - 1))
 }
 
-/// Adds a plain word, if it is relocated.
-fn find_first(findings: &mut Findings, at: &Suspect<'_>)
-    ensures { Finds findings.old findings.new
-        (suspicious_first at.now.lines.sweep.now at.now.trust at.now.start) }
-{
-    let file = at.sweep().file();
-    if is_relocated(reloc_at(file, at.start))
-        && (at.trust.is_reached || may_begin(file, at.start))
-    {
-        at.find_here(
-            findings,
-            reloc_place(file, at.start),
-            FindingKind::RelocatedFirstWord,
-            "the first word of the instruction at",
-            " is relocated",
-        );
-    }
-}
-
-/// Whether a relocation word has a pc bit that does not suit its operand.
-fn is_unsuitable(reloc: Reloc, addressing: Addressing) -> bool
-    ensures { result
-        ≡ (is_relocated (Some reloc) && differ (is_pc_relative reloc) (counts_from_pc addressing)) }
-{
-    is_relocated(Some(reloc)) && reloc.is_pc() != addressing.counts_from_pc()
-}
-
-/// Whether an operand is the word itself.
-fn is_immediate(addressing: Addressing) -> bool
-    ensures { result ≡ is_immediate addressing }
-{
-    matches!(addressing, Addressing::Immediate)
-}
-
 /// Adds an operand whose word, if it has one, is at a place, and has a pc bit that does not suit it.
 fn find_operand(findings: &mut Findings, at: &Suspect<'_>, place: usize, operand: Option<Operand>)
     requires { place < 2 ^ 20 }
@@ -92,12 +58,12 @@ fn find_operand(findings: &mut Findings, at: &Suspect<'_>, place: usize, operand
     let Some(addressing) = mode.addressing(register) else {
         return;
     };
-    let file = at.sweep().file();
+    let file = at.lines.sweep.file();
     let Some(reloc) = reloc_at(file, place) else {
         return;
     };
-    if is_unsuitable(reloc, addressing) {
-        let is_sure = at.trust.is_sure && !is_immediate(addressing);
+    if is_relocated(Some(reloc)) && reloc.is_pc() != addressing.counts_from_pc() {
+        let is_sure = at.trust.is_sure && !matches!(addressing, Addressing::Immediate);
         let what = if reloc.is_pc() {
             "is set, and its operand does not count"
         } else {
@@ -129,7 +95,7 @@ fn find_lack(findings: &mut Findings, at: &Suspect<'_>, word: u16)
     ensures { Finds findings.old findings.new
         (suspicious_lack at.now.trust.is_sure at.now.start word (instruction_of word)) }
 {
-    let place = at.place();
+    let place = word_place(at.start);
     if Instruction::from_first_word(word).is_some() {
         let (before, after) = ("the instruction at", " is cut by the end of the text");
         at.find_here(findings, place, FindingKind::CutInstruction, before, after);
@@ -144,8 +110,17 @@ fn find_plain(findings: &mut Findings, at: &Suspect<'_>, word: u16)
     ensures { Finds findings.old findings.new
         (suspicious_plain at.now.lines.sweep.now at.now.trust at.now.start word) }
 {
-    if is_relocated(reloc_at(at.sweep().file(), at.start)) {
-        find_first(findings, at);
+    let file = at.lines.sweep.file();
+    if is_relocated(reloc_at(file, at.start)) {
+        if at.trust.is_reached || may_begin(file, at.start) {
+            at.find_here(
+                findings,
+                reloc_place(file, at.start),
+                FindingKind::RelocatedFirstWord,
+                "the first word of the instruction at",
+                " is relocated",
+            );
+        }
     } else if at.trust.is_reached {
         find_lack(findings, at, word);
     }
@@ -177,7 +152,7 @@ fn find_at(findings: &mut Findings, at: &Suspect<'_>)
         (suspicious_at at.now.lines.evidence at.now.lines.sweep.now at.now.trust
         at.now.start) }
 {
-    let line = at.sweep().line_at(at.start);
+    let line = at.lines.sweep.line_at(at.start);
     find_line(findings, at, &line);
     find_references(findings, at, &line);
     find_uses(findings, at, &line);

@@ -92,7 +92,7 @@ fn find_odd(
     let Some(Operand::General(mode, register)) = operand else {
         return;
     };
-    let reloc = reloc_at(at.sweep().file(), place);
+    let reloc = reloc_at(at.lines.sweep.file(), place);
     if is_odd(mode.addressing(register), register, word, reloc) {
         let said = "leads to a word of memory at an odd address";
         find_use(findings, at, at.trust.is_sure, place, OddOperand, said);
@@ -106,7 +106,7 @@ fn find_no_end(findings: &mut Findings, at: &Suspect<'_>, instruction: &Instruct
         (length at.now.lines.sweep.now.text_words) && flows at.now.lines.sweep.now at.now.start instruction.now)
         (word_place at.now.start) NoEnd) }
 {
-    let file = at.sweep().file();
+    let file = at.lines.sweep.file();
     if at.start + count == file.text_words().len() && flows(file, at.start, instruction) {
         let said = "is of the last instruction of text, and that goes on";
         find_use(findings, at, false, at.start, NoEnd, said);
@@ -126,7 +126,7 @@ pub(crate) fn find_uses(findings: &mut Findings, at: &Suspect<'_>, line: &UnixLi
         return;
     }
     let (is_sure, place) = (at.trust.is_sure, at.start + 1);
-    let first = at.sweep().file().text_words()[at.start];
+    let first = at.lines.sweep.file().text_words()[at.start];
     if instruction.row.operation.jumps() {
         if leads_nowhere(first) {
             let said = "jumps or calls, and leads to no place of memory";

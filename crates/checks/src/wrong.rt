@@ -17,7 +17,6 @@ use texts::Text;
 /// How many bad relocation words are shown one by one.
 const MOST: usize = 16;
 
-/// Adds the size of a part that is odd.
 fn find_odd_size(findings: &mut Findings, place: usize, part: &str, size: u16)
     ensures { Finds findings.old findings.new (odd_size place size) }
 {
@@ -215,13 +214,6 @@ pub fn put_instruction(text: &mut Text, named: &NamedFile<'_>, place: usize) {
     }
 }
 
-/// Appends the instruction that has a word of text as an operand word, if it is one.
-fn put_owner(text: &mut Text, named: &NamedFile<'_>, starts: &[bool], index: usize) {
-    if let Some(false) = starts.get(index) {
-        put_instruction(text, named, line_start(starts, index));
-    }
-}
-
 /// Adds bad relocation words of a file. An error: out of memory.
 fn find_shown(findings: &mut Findings, file: &File, bad: &[BadWord]) -> Result<(), AllocError>
     ensures { OnOk result (Finds findings.old findings.new (all_bad bad.now)) }
@@ -235,7 +227,9 @@ fn find_shown(findings: &mut Findings, file: &File, bad: &[BadWord]) -> Result<(
     for word in bad {
         let mut text = findings.text();
         put_bad_word(&mut text, file.symbols(), *word);
-        put_owner(&mut text, &named, &starts, word.index);
+        if let Some(false) = starts.get(word.index) {
+            put_instruction(&mut text, &named, line_start(&starts, word.index));
+        }
         findings.find_as(true, word.place, word.kind, text);
     }
     Ok(())
