@@ -1,9 +1,5 @@
 pub mod LeadLemmas
-pub mod LeadingLemmas
 pub mod LinkLemmas
 pub mod PaddedLemmas
 pub mod RecordLemmas
-pub mod RowLemmas
-pub mod SpotLemmas
 pub mod TakingLemmas
-pub mod UseLemmas

@@ -11,4 +11,3 @@ pub mod MapLimits
 pub mod Maps
 pub mod Spots
 pub mod Links
-pub mod internal

@@ -9,7 +9,6 @@ use Rattle.link_maps.specs.{MapLimits.map_limits, Rows.IsOutcome, Rows.bases_of,
 
 -- a map of these objects, what `map_of` gives
 pub record IsMapOf (all : Objects) (forced : List (List ℕ)) (o : Choices) (m : LinkMap) : Type 0 where
-  pub members : m.members.items ≡ map member_of (all_of all)
   pub places : m.places.items ≡ places_from (first_places (bases_of m.outcome)) (map member_of (all_of all))
   pub uses : m.uses.items ≡ uses_in_order forced (objects (all_of all))
   pub made : is_some m.outcome ≡ not (is_some all.refused)
@@ -17,7 +16,7 @@ pub record IsMapOf (all : Objects) (forced : List (List ℕ)) (o : Choices) (m :
 
 -- the records of a map
 pub record AreRecords (all : Objects) (o : Choices) (m : LinkMap) (r : MapRecords) : Type 0 where
-  pub objects : r.objects.items ≡ object_records m.members.items m.places.items
+  pub objects : r.objects.items ≡ object_records (all_of all) m.places.items
   pub names : r.names.items ≡ map (record_of m.outcome all.session) (by_name m.uses.items)
   pub uses : r.uses.items ≡ records_from m.places.items 0 (by_name m.uses.items)
-  pub limits : r.limits.items ≡ map_limits o.relocatable all.session m.members.items m.outcome
+  pub limits : r.limits.items ≡ map_limits o.relocatable all.session (map member_of (all_of all)) m.outcome

@@ -34,8 +34,11 @@ abbrev pub capped : ℕ → ℕ → ℕ
 capped a b = min (a + b) (2 ^ 64 - 1)
 
 -- the addresses of the segments of the first object; if there is no link, they are counted from 0 in each segment
+abbrev pub no_places : Places
+no_places = record { text = 0; «data» = 0; bss = 0 }
+
 abbrev pub first_places : Option Bases → Places
-first_places None = record { text = 0; «data» = 0; bss = 0 }
+first_places None = no_places
 first_places (Some b) = record { text = 0; «data» = b.data_start; bss = b.bss_start }
 
 -- those of the object after this one
@@ -45,6 +48,11 @@ next_places at h = record { text = capped at.text h.text_size; «data» = capped
 abbrev pub places_from : Places → List Member → List Places
 places_from at [] = []
 places_from at (m ∷ ms) = at ∷ places_from (next_places at m.header) ms
+
+-- those after the last of these objects
+abbrev pub places_after : Places → List Member → Places
+places_after at [] = at
+places_after at (m ∷ ms) = places_after (next_places at m.header) ms
 
 -- the address so many bytes after the start of a part
 abbrev pub start_in : Places → Part → ℕ

@@ -6,8 +6,8 @@ use Rattle.std.specs.Prelude.{ℕ, suc, ◌+◌, Bool, not, ◌&&◌, is_some, i
 use Rattle.std.specs.{Prelude.{replicate, zip, bytes_eq, position, slice_get}, List.flat_map}
 use Rattle.aout_core.specs.{Names.padded, declared.symbol.Symbol.Symbol, declared.part.Part.Part, declared.part.Part.TheVariants.Text}
 use Rattle.aout_core.specs.{declared.part.Part.TheVariants.Data}
-use Rattle.link_session.specs.{Labelled.number_or_none, Undo.Kept}
-use Rattle.link_maps.specs.{Members.{Member, capped, start_in}, Uses.{Use, is_common, is_definition, name_of, stays_undefined}}
+use Rattle.link_session.specs.{Labelled.Labelled, Labelled.number_or_none, Undo.Kept}
+use Rattle.link_maps.specs.{Members.{Member, capped, member_of, no_places, start_in}, Uses.{Use, is_common, is_definition, name_of, stays_undefined}}
 use Rattle.link_maps.specs.{declared.outcome.Outcome.Outcome, declared.places.Places.Places, declared.name_records.NameRecord.NameRecord}
 use Rattle.link_maps.specs.{declared.records.ObjectRecord.ObjectRecord, declared.records.UseRecord.UseRecord}
 use Rattle.instructions.specs.declared.reference.Reference.{Reference}
@@ -27,8 +27,8 @@ object_record m at = record {
   bss_size = m.header.bss_size;
 }
 
-abbrev pub object_records : List Member → List Places → List ObjectRecord
-object_records ms ats = map (λ p. object_record p.0 p.1) (zip ms ats)
+abbrev pub object_records : List Labelled → List Places → List ObjectRecord
+object_records xs ats = map (λ p. object_record (member_of p.0) p.1) (zip xs ats)
 
 -- ---- the uses of each name
 
@@ -172,9 +172,6 @@ word_record at object number w = record {
   beyond = beyond_label w.before;
   is_labelled = bit (is_some w.before) 1;
 }
-
-abbrev pub no_places : Places
-no_places = record { text = 0; «data» = 0; bss = 0 }
 
 abbrev pub places_or_none : Option Places → Places
 places_or_none None = no_places

@@ -4,13 +4,13 @@
 -- at its address in the object. The one before a line is that with the largest address up to the line's own; of several at that address,
 -- an external or else the first of the table. In text the labels of functions come first: the other labels count if none of those is before
 -- the line.
-use Rattle.std.specs.Prelude.{ℕ, ◌*◌, ◌/◌, Bool, false, ◌||◌, eqb, nat_lt, if◌then◌else◌, List, [], ◌∷◌, length, filter, Option, None}
+use Rattle.std.specs.Prelude.{ℕ, ◌*◌, ◌/◌, Bool, false, ◌||◌, eqb, List, [], ◌∷◌, filter, Option, None}
 use Rattle.aout_core.specs.{WellFormed.{first_of, is_external}, declared.symbol.Symbol.Symbol}
 use Rattle.aout_core.specs.{declared.symbol.Segment.Segment, declared.symbol.Segment.TheVariants.{TextSeg, DataSeg, BssSeg}}
 use Rattle.aout_core.specs.{Contents.Contents, Words.plus, declared.part.Part.Part}
 use Rattle.aout_core.specs.declared.part.Part.TheVariants.{Text, Data}
-use Rattle.instructions.specs.{declared.reference.Reference.Reference, declared.unix.Decoder.TheVariants.Unix}
-use Rattle.disassemblies.specs.{Lines.line_text_in, Near.nearest_label, Starts.line_start}
+use Rattle.instructions.specs.declared.reference.Reference.{Reference}
+use Rattle.disassemblies.specs.{Near.nearest_label, Starts.line_start}
 use Rattle.link_session.specs.Starts.{own}
 use Rattle.link_maps.specs.declared.references.ReferringWord.{ReferringWord}
 
@@ -42,11 +42,6 @@ label_before symbols _ address = None
 abbrev pub line_of : List Bool → Part → ℕ → ℕ
 line_of starts Text offset = 2 * line_start starts (offset / 2)
 line_of starts Data offset = offset
-
--- the text of a line of text
-abbrev pub text_of_line : Contents → Part → ℕ → List ℕ
-text_of_line o Text line = if nat_lt (line / 2) (length o.text_words) then line_text_in Unix o (line / 2) else []
-text_of_line o Data line = []
 
 -- the address in the object of what is so many bytes after the first of a part
 abbrev pub address_in : Contents → Part → ℕ → ℕ

@@ -1,5 +1,5 @@
 -- What becomes of a link, and the row that its table has for a name. (ld(1))
-use Rattle.std.specs.Prelude.{◌≡◌, ◌≢◌, ◌↔◌, ℕ, ◌<◌, max, cond, Bool, ◌||◌, List, [], ◌∷◌, Option, Some, None, Result, Ok, Err, Vec}
+use Rattle.std.specs.Prelude.{◌≡◌, ◌≢◌, ◌↔◌, ℕ, ◌<◌, max, Bool, ◌||◌, List, [], ◌∷◌, Option, Some, None, Result, Ok, Err, Vec}
 use Rattle.std.specs.{Prelude.{bytes_eq, position, slice_get, IfSome, IsNone}, declared.alloc.Global.Global}
 use Rattle.aout_core.specs.{WellFormed.{kind_of, symbol_number}, declared.symbol.Symbol.Symbol, declared.reloc.Reloc.Reloc}
 use Rattle.aout_core.specs.{declared.reloc.Kind.Kind, declared.reloc.Kind.TheVariants.External, Contents.Contents, Refusals.refused}
@@ -7,7 +7,7 @@ use Rattle.link_session.specs.{Labelled.objects, Mentions.externals, Undo.Kept, 
 use Rattle.tool_options.specs.{NameLists.is_among, Choices.Choices}
 use Rattle.link_out.specs.{declared.linked.Linked.Linked, declared.linked.LinkFault.LinkFault}
 use Rattle.link_out.specs.{declared.linked.LinkFault.TheVariants.Memory, Layouts.Bases, Outcomes.IsLinkOf, function.Link.link}
-use Rattle.link_out.specs.{function.Plans.plan_of, function.Tables.external_row, function.Tables.external_rows}
+use Rattle.link_out.specs.{function.Plans.plan_of, function.Tables.external_rows}
 use Rattle.link_maps.specs.declared.outcome.Outcome.{Outcome}
 
 -- the addresses of the segments, the link or why it is refused, and the rows of the externals, if the link fits
@@ -22,11 +22,6 @@ pub record IsOutcome (o : Outcome) (k : Kept) (choices : Choices) : Type 0 where
 abbrev pub row_at : List Symbol → Option ℕ → Option Symbol
 row_at rows None = None
 row_at rows (Some i) = slice_get rows i
-
--- the row of a name that is an external of the link
-abbrev pub row_of : Kept → Choices → List ℕ → Option Symbol
-row_of k choices name =
-    cond (is_among (externals k.forced (objects k.entries)) name) (Some (external_row (plan_of k choices) name)) None
 
 -- the link, if one is made
 abbrev pub linked_by : Result Linked LinkFault → Option Linked

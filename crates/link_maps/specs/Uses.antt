@@ -3,8 +3,8 @@
 -- Each external symbol of an object is a use of its name, with the words of the object that lead to the symbol. A forced
 -- name is used by no object. The map has the uses in the order of their names; those of one name stay in the order of the
 -- objects, forced ones first.
-use Rattle.std.specs.Prelude.{ℕ, ◌+◌, Bool, false, not, ◌&&◌, eqb, if◌then◌else◌, List, [], ◌∷◌, ◌++◌, map, Option, Some, None, position}
-use Rattle.std.specs.{Prelude.{slice_get, unwrap_or}, List.list_any, Cmp.Lexicographic.slice_cmp, Ordering.{nat_cmp, is_lt}}
+use Rattle.std.specs.Prelude.{ℕ, ◌+◌, Bool, false, not, ◌&&◌, eqb, if◌then◌else◌, List, [], ◌∷◌, ◌++◌, map, Option, Some, None}
+use Rattle.std.specs.{Prelude.slice_get, List.list_any, Cmp.Lexicographic.slice_cmp, Ordering.{nat_cmp, is_lt}}
 use Rattle.aout_core.specs.{declared.symbol.Symbol.Symbol, Contents.Contents, WellFormed.is_external, WellFormed.masked_type}
 use Rattle.instructions.specs.declared.unix.Decoder.TheVariants.{Unix}
 use Rattle.disassemblies.specs.Starts.{starts}
@@ -61,17 +61,6 @@ is_definition u = not (eqb (masked_type u.symbol) 0)
 
 abbrev pub is_common : Use → Bool
 is_common u = eqb (masked_type u.symbol) 0 && not (eqb u.symbol.value 0)
-
--- the place, among the uses of a name, of the first definition, or else of the first common, or else of the first use
-abbrev pub telling_place : List Use → ℕ
-telling_place us = unwrap_or (position is_definition us) (unwrap_or (position is_common us) 0)
-
-abbrev pub symbol_of : Option Use → Option Symbol
-symbol_of None = None
-symbol_of (Some u) = Some u.symbol
-
-abbrev pub telling : List Use → Option Symbol
-telling us = symbol_of (slice_get us (telling_place us))
 
 -- the name is not one that the linker defines
 abbrev pub is_missing_in : Option Use → Bool

@@ -1,7 +1,6 @@
 //! Where the words of an object lead.
 ghost use Rattle.std.specs.Prelude.{◌≡◌, ◌++◌, slice_get, IfOk, OnOk};
 ghost use Rattle.aout_core.specs.WellFormed.{kind_of};
-ghost use Rattle.disassemblies.specs.Naming.{is_at};
 ghost use Rattle.link_maps.specs.Leads.{aim_by, aim_of, branch_by, branch_of, instruction_by, is_from_pc, leads, leads_of, leads_to};
 ghost use Rattle.link_maps.specs.Leads.{operand_at, target_in, text_target, unmoved_aim};
 
@@ -203,21 +202,15 @@ pub(crate) fn leads_in(alloc: Global, file: &File, starts: &[bool]) -> Result<Ve
     Ok(found)
 }
 
-/// Whether a symbol is at an address of a segment.
-pub fn is_at(symbol: &Symbol, segment: Segment, address: u16) -> bool
-    ensures { result ≡ is_at segment address symbol.now }
-{
-    symbol.type_bits % 0o40 == segment.number() && symbol.value == address
-}
-
 impl Aim {
-    /// Whether it is the symbol with a number.
     pub(crate) fn leads_to(&self, number: usize, symbol: &Symbol) -> bool
         ensures { result ≡ leads_to self.now number symbol.now }
     {
         match self {
             Aim::Numbered(one) => usize::from(*one) == number,
-            Aim::Addressed(segment, address) => is_at(symbol, *segment, *address),
+            Aim::Addressed(segment, address) => {
+                symbol.type_bits % 0o40 == segment.number() && symbol.value == *address
+            }
         }
     }
 }

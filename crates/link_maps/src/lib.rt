@@ -18,10 +18,8 @@
 //! ```
 #![tactic(auto)]
 
-mod gather;
 mod groups;
 mod labels;
-mod leading;
 mod leads;
 mod limit_records;
 mod map;
@@ -37,16 +35,15 @@ mod spots;
 mod uses;
 
 pub use labels::is_function;
-pub use leads::is_at;
 pub use limit_records::{LimitRecord, limits_of};
 pub use map::{LinkMap, map_of};
 pub use map_records::{MapRecords, records_of};
-pub use members::{Listed, Member, Objects, Refused};
+pub use members::{Listed, Objects, Refused};
 pub use name_records::NameRecord;
 pub use names::{is_any_definition, stays_undefined, telling};
-pub use outcome::{Outcome, largest_number, row_of};
+pub use outcome::{Outcome, largest_number};
 pub use places::Places;
 pub use records::{ObjectRecord, UseRecord, padded};
-pub use references::{ReferringWord, put_line_of, words_at, words_to};
-pub use spots::{Spot, label_before, spots_at, word_at};
+pub use references::{ReferringWord, put_line_of, word_at, words_at, words_to};
+pub use spots::{Spot, has_address, has_place, is_within, label_before, spots_at};
 pub use uses::Use;

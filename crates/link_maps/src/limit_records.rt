@@ -1,10 +1,12 @@
 //! The limits of a link as records, with what all objects use of each.
-ghost use Rattle.std.specs.Prelude.{◌≡◌, ◌++◌, IfOk, OnOk};
-ghost use Rattle.link_maps.specs.MapLimits.{file_limits, limit, link_limits, map_limits, size_limits, sum_from};
+ghost use Rattle.std.specs.Prelude.{◌≡◌, ◌++◌, map as map_all, IfOk, OnOk};
+ghost use Rattle.link_maps.specs.MapLimits.{file_limits, limit, link_limits, map_limits, size_limits};
+ghost use Rattle.link_maps.specs.Members.{all_of, member_of, no_places, places_after};
 
 use crate::map::LinkMap;
-use crate::members::{Member, Objects};
+use crate::members::{Listed, Objects};
 use crate::outcome::{Outcome, largest_number};
+use crate::places::Places;
 use link_out::{LAST_ADDRESS, LinkFault, Linked, MOST_NUMBER, MOST_ROWS, Options};
 use link_session::{MOST_BYTES, MOST_NAMES, Session};
 use std::alloc::{AllocError, Global};
@@ -20,28 +22,13 @@ pub struct LimitRecord {
     pub kind: u32,
 }
 
-/// The bytes of all objects.
-#[derive(Clone, Copy)]
-struct Sums {
-    text: u64,
-    data: u64,
-    bss: u64,
-}
-
-fn sums_of(members: &[Member]) -> Sums
-    ensures text { result.text ≡ sum_from 0 (λ h. h.text_size) members.now }
-    ensures datas { result.«data» ≡ sum_from 0 (λ h. h.data_size) members.now }
-    ensures bss { result.bss ≡ sum_from 0 (λ h. h.bss_size) members.now }
+/// The bytes of all objects in each segment.
+fn sums_of(all: &[Listed<'_>]) -> Places
+    ensures { result ≡ places_after no_places (map_all member_of all.now) }
 {
-    let mut sums = Sums {
-        text: 0,
-        data: 0,
-        bss: 0,
-    };
-    for member in members {
-        sums.text = sums.text.saturating_add(member.header.text_size as u64);
-        sums.data = sums.data.saturating_add(member.header.data_size as u64);
-        sums.bss = sums.bss.saturating_add(member.header.bss_size as u64);
+    let mut sums = Places::NONE;
+    for object in all {
+        sums = sums.next(object.file.header());
     }
     sums
 }
@@ -53,10 +40,9 @@ fn limit(kind: u32, used: u64, most: u64) -> LimitRecord
 }
 
 /// The limits of segments.
-fn size_limits(alloc: Global, members: &[Member]) -> Result<Vec<LimitRecord>, AllocError>
-    ensures { IfOk result (λ limits. limits.items ≡ size_limits members.now) }
+fn size_limits(alloc: Global, sums: Places) -> Result<Vec<LimitRecord>, AllocError>
+    ensures { IfOk result (λ limits. limits.items ≡ size_limits sums) }
 {
-    let sums = sums_of(members);
     let mut limits = Vec::new(alloc);
     limits.push(limit(1, sums.text, MOST_BYTES as u64))?;
     limits.push(limit(2, sums.data, MOST_BYTES as u64))?;
@@ -114,9 +100,9 @@ pub fn limits_of(
     options: &Options,
 ) -> Result<Vec<LimitRecord>, AllocError>
     ensures { IfOk result (λ limits. limits.items ≡ map_limits options.now.relocatable
-        objects.now.session map.now.members.items map.now.outcome) }
+        objects.now.session (map_all member_of (all_of objects.now)) map.now.outcome) }
 {
-    let mut limits = size_limits(alloc, &map.members)?;
+    let mut limits = size_limits(alloc, sums_of(&objects.all(alloc)?))?;
     put_link(
         &mut limits,
         options.is_relocatable(),

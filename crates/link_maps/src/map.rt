@@ -5,12 +5,11 @@ ghost use Rattle.link_maps.specs.{Uses.uses_in_order, Members.{all_of, first_pla
 ghost use Rattle.link_maps.specs.{Groups.groups_of, Rows.{IsOutcome, bases_of, is_multiple_in, linked_in, reserved_by, row_among, rows_in}};
 ghost use Rattle.tool_options.specs.NameLists.{is_among};
 
-use crate::gather::{Gathered, gather};
 use crate::groups::by_name;
-use crate::members::{Member, Objects};
-use crate::outcome::{Outcome, outcome_of, row_of};
+use crate::members::Objects;
+use crate::outcome::{Outcome, outcome_of, row_at};
 use crate::places::{Places, places_of};
-use crate::uses::Use;
+use crate::uses::{Use, uses_of};
 use aout_core::{Name, Symbol};
 use link_out::{Bases, Linked, Options};
 use link_session::{Forced, Session};
@@ -19,9 +18,7 @@ use std::alloc::{AllocError, Global};
 /// The map of a link.
 #[derive(Drop)]
 pub struct LinkMap {
-    /// The objects, in order.
-    pub members: Vec<Member>,
-    /// Where the segments of each object lie.
+    /// Where the segments of each object lie, in the order of `Objects::all`.
     pub places: Vec<Places>,
     /// The uses of all names, in the order of the names; those of one name in the order of the objects, forced ones first.
     pub uses: Vec<Use>,
@@ -96,7 +93,7 @@ impl LinkMap {
     pub fn row(&self, session: &Session, name: &Name) -> Option<Symbol>
         ensures { result ≡ row_among (rows_in self.now.outcome) session.now name.now }
     {
-        row_of(session, self.rows(), name)
+        row_at(self.rows(), session.find(name))
     }
 
     /// Whether the report of the link of a session has a name among those multiply defined.
@@ -132,7 +129,6 @@ pub fn map_of(
     forced: &Forced,
     options: &Options,
 ) -> Result<LinkMap, AllocError>
-    ensures members { IfOk result (λ m. m.members.items ≡ map member_of (all_of all.now)) }
     ensures places { IfOk result (λ m. m.places.items
         ≡ places_from (first_places (bases_of m.outcome)) (map member_of (all_of all.now))) }
     ensures uses { IfOk result (λ m.
@@ -142,12 +138,10 @@ pub fn map_of(
         IfSome m.outcome (λ o. IsOutcome o all.now.session options.now)) }
 {
     let outcome = outcome_unless_refused(alloc, all, options)?;
-    let Gathered { members, uses } = gather(alloc, all, forced)?;
-    let places = places_of(alloc, bases_of(&outcome), &members)?;
+    let listed = all.all(alloc)?;
     Ok(LinkMap {
-        members,
-        places,
-        uses,
+        places: places_of(alloc, bases_of(&outcome), &listed)?,
+        uses: uses_of(alloc, forced.names(), &listed)?,
         outcome,
     })
 }

@@ -1,5 +1,6 @@
 //! The whole map as records.
 ghost use Rattle.std.specs.Prelude.{◌≡◌, map, IfOk};
+ghost use Rattle.link_maps.specs.Members.{all_of, member_of};
 ghost use Rattle.link_maps.specs.{MapLimits.map_limits, Records.{by_name, object_records, record_of, records_from}};
 
 use crate::limit_records::{LimitRecord, limits_of};
@@ -31,17 +32,17 @@ pub fn records_of(
     options: &Options,
 ) -> Result<MapRecords, AllocError>
     ensures objects { IfOk result (λ r.
-        r.objects.items ≡ object_records whole.now.members.items whole.now.places.items) }
+        r.objects.items ≡ object_records (all_of objects.now) whole.now.places.items) }
     ensures names { IfOk result (λ r.
         r.names.items ≡ map (record_of whole.now.outcome objects.now.session) (by_name whole.now.uses.items)) }
     ensures uses { IfOk result (λ r.
         r.uses.items ≡ records_from whole.now.places.items 0 (by_name whole.now.uses.items)) }
     ensures limits { IfOk result (λ r. r.limits.items ≡ map_limits options.now.relocatable
-        objects.now.session whole.now.members.items whole.now.outcome) }
+        objects.now.session (map member_of (all_of objects.now)) whole.now.outcome) }
 {
     let groups = whole.by_name(alloc)?;
     Ok(MapRecords {
-        objects: object_records(alloc, &whole.members, &whole.places)?,
+        objects: object_records(alloc, &objects.all(alloc)?, &whole.places)?,
         names: name_records(alloc, whole, &objects.session, &groups)?,
         uses: use_records(alloc, &whole.places, &groups)?,
         limits: limits_of(alloc, whole, objects, options)?,

@@ -1,9 +1,9 @@
 //! The objects of a link: those that a session takes, and those that are left if it refuses one.
-ghost use Rattle.std.specs.Prelude.{◌≡◌, ◌++◌, ◌∷◌, [], None, IfOk, IsOk, OnOk};
+ghost use Rattle.std.specs.Prelude.{◌≡◌, [], None, IfOk, IsOk, OnOk};
 ghost use Rattle.link_session.specs.Sessions.{labelled, nothing_kept};
-ghost use Rattle.link_maps.specs.{Members.{all_of, cause_of, left_of, member_of}, Taking.{split_of, split_with, with_object}};
+ghost use Rattle.link_maps.specs.{Members.{all_of, left_of}, Taking.{split_of, split_with, with_object}};
 
-use aout_core::{File, Header, Object};
+use aout_core::{File, Object};
 use link_session::{AddFault, Forced, Session};
 use std::alloc::{AllocError, Global};
 use std::marker::Model;
@@ -149,39 +149,4 @@ impl<'a> Model for Listed<'a> {
     ghost Value = { Labelled };
 
     ghost view = { λ l. record { label = l.label.now; object = l.file.now } };
-}
-
-/// An object: its label, and what its header and its table tell.
-#[derive(Debug, Drop)]
-pub struct Member {
-    pub label: String,
-    pub header: Header,
-    /// How many symbols it has.
-    pub symbols: usize,
-}
-
-impl Model for Member {
-    ghost use Rattle.link_maps.specs.Members as spec;
-
-    ghost Value = { spec.Member };
-
-    ghost use Rattle.std.specs.Prelude.{string_bytes};
-
-    ghost view = { λ a. record { label = string_bytes a.label; header = a.header; symbols = a.symbols } };
-}
-
-/// Appends an object.
-pub(crate) fn put_member(
-    alloc: Global,
-    members: &mut Vec<Member>,
-    object: &Listed<'_>,
-) -> Result<(), AllocError>
-    ensures { OnOk result (members.new.items ≡ members.old.items ++ member_of object.now ∷ []) }
-{
-    members.push(Member {
-        label: String::from_str(alloc, object.label)?,
-        header: *object.file.header(),
-        symbols: object.file.symbols().len(),
-    })?;
-    Ok(())
 }

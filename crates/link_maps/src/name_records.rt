@@ -1,13 +1,13 @@
 //! The names of a map as records.
 ghost use Rattle.std.specs.Prelude.{◌≡◌, map as mapped, position, slice_get, IfOk};
-ghost use Rattle.link_maps.specs.Records.{after, bit, definer, first_user, is_user, name_in, name_state, next_definer, object_at, record_of, type_shown, value_shown};
+ghost use Rattle.link_maps.specs.Records.{after, bit, definer, first_user, is_user, name_in, name_state, next_definer, object_at, record_of};
 ghost use Rattle.link_maps.specs.Groups.{groups_of};
 
 use crate::map::LinkMap;
 use crate::names::{first_definition, stays_undefined};
 use crate::records::{number_or_none, padded};
 use crate::uses::Use;
-use aout_core::{Name, Symbol};
+use aout_core::Name;
 use link_session::Session;
 use std::alloc::{AllocError, Global};
 
@@ -31,7 +31,6 @@ pub struct NameRecord {
     pub value: u16,
 }
 
-/// The object of the use at a place.
 fn object_at(uses: &[Use], place: Option<usize>) -> usize
     ensures { result ≡ object_at uses.now place }
 {
@@ -51,7 +50,6 @@ fn definer(uses: &[Use]) -> usize
     object_at(uses, first_definition(uses))
 }
 
-/// The uses after one at a place.
 fn after(uses: &[Use], place: Option<usize>) -> &[Use]
     ensures { result.now ≡ after uses.now place }
 {
@@ -88,24 +86,6 @@ fn first_user(uses: &[Use]) -> usize
     object_at(uses, user_place(uses))
 }
 
-fn type_shown(row: &Option<Symbol>) -> u16
-    ensures { result ≡ type_shown row.now }
-{
-    match row {
-        Some(row) => row.type_bits,
-        None => 0,
-    }
-}
-
-fn value_shown(row: &Option<Symbol>) -> u16
-    ensures { result ≡ value_shown row.now }
-{
-    match row {
-        Some(row) => row.value,
-        None => 0,
-    }
-}
-
 fn bit(is_set: bool, number: u32) -> u32
     ensures { result ≡ bit is_set number }
 {
@@ -118,7 +98,6 @@ fn name_state(is_placed: bool, is_multiple: bool, uses: &[Use]) -> u32
     bit(is_placed, 1) + (bit(stays_undefined(uses), 2) + bit(is_multiple, 4))
 }
 
-/// The name of some uses.
 fn name_in(uses: &[Use]) -> Name
     ensures { result ≡ name_in (slice_get uses.now 0) }
 {
@@ -128,20 +107,23 @@ fn name_in(uses: &[Use]) -> Name
     }
 }
 
-/// The record of the name of some uses.
 fn name_record(map: &LinkMap, session: &Session, uses: &[Use]) -> NameRecord
     ensures { result ≡ record_of map.now.outcome session.now uses.now }
 {
     let name = &name_in(uses);
     let row = map.row(session, name);
+    let (type_bits, value) = match &row {
+        Some(row) => (row.type_bits, row.value),
+        None => (0, 0),
+    };
     NameRecord {
         name: padded(name),
         definer: definer(uses),
         next_definer: next_definer(uses),
         user: first_user(uses),
         state: name_state(row.is_some(), map.is_multiple(session, name), uses),
-        type_bits: type_shown(&row),
-        value: value_shown(&row),
+        type_bits,
+        value,
     }
 }
 

@@ -1,6 +1,6 @@
 //! What the uses of a name say of it.
 ghost use Rattle.std.specs.{Prelude.{◌≡◌, position, slice_get}, List.list_any};
-ghost use Rattle.link_maps.specs.Uses.{is_definition, is_common, telling_place, telling, is_missing_in, stays_undefined};
+ghost use Rattle.link_maps.specs.Uses.{is_definition, is_common, is_missing_in, stays_undefined};
 
 use crate::uses::Use;
 use aout_core::{Segment, Symbol};
@@ -29,27 +29,11 @@ pub(crate) fn first_definition(uses: &[Use]) -> Option<usize>
     uses.iter().position(|used| used.is_definition())
 }
 
-fn first_common(uses: &[Use]) -> Option<usize>
-    ensures { result ≡ position is_common uses.now }
-{
-    uses.iter().position(|used| used.is_common())
-}
-
-/// The place of the use that says most of a name.
-fn telling_place(uses: &[Use]) -> usize
-    ensures { result ≡ telling_place uses.now }
-{
-    first_definition(uses).unwrap_or(first_common(uses).unwrap_or(0))
-}
-
 /// The symbol that says most of a name among its uses: the first definition, or else the first common, or else the first symbol. (ld(1))
-pub fn telling(uses: &[Use]) -> Option<Symbol>
-    ensures { result ≡ telling uses.now }
-{
-    match uses.get(telling_place(uses)) {
-        Some(used) => Some(used.symbol),
-        None => None,
-    }
+pub fn telling(uses: &[Use]) -> Option<Symbol> {
+    let common = uses.iter().position(|used| used.is_common());
+    let place = first_definition(uses).or(common).unwrap_or(0);
+    Some(uses.get(place)?.symbol)
 }
 
 /// Whether an object defines the name of these uses.

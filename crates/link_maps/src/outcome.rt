@@ -1,13 +1,11 @@
 //! What becomes of a link: its file and its report, or why it is refused; and the rows of its externals.
-ghost use Rattle.std.specs.Prelude.{◌≡◌, ◌≢◌, Err, bytes_eq, position, IfOk};
+ghost use Rattle.std.specs.Prelude.{◌≡◌, ◌≢◌, Err, IfOk};
 ghost use Rattle.aout_core.specs.Refusals.{refused};
-ghost use Rattle.link_session.specs.{Labelled.objects, Mentions.externals};
-ghost use Rattle.tool_options.specs.Choices.{Choices};
+ghost use Rattle.link_session.specs.Labelled.{objects};
 ghost use Rattle.link_out.specs.{declared.linked.LinkFault.TheVariants.Memory, Outcomes.IsLinkOf, function.Link.link};
-ghost use Rattle.link_out.specs.{function.Plans.plan_of, function.Tables.external_rows};
-ghost use Rattle.link_maps.specs.Rows.{IsOutcome, row_at, row_of, number_in, largest_in, largest_number};
+ghost use Rattle.link_maps.specs.Rows.{IsOutcome, row_at, number_in, largest_in, largest_number};
 
-use aout_core::{File, Kind, Name, Reloc, Symbol};
+use aout_core::{File, Kind, Reloc, Symbol};
 use link_out::{Bases, LinkFault, Linked, Options, finish, link_bases, link_externals};
 use link_session::Session;
 use std::alloc::{AllocError, Global};
@@ -56,25 +54,13 @@ pub(crate) fn outcome_of(
     })
 }
 
-/// The row with an index, if it has one.
-fn row_at(rows: &[Symbol], index: Option<u16>) -> Option<Symbol>
+pub(crate) fn row_at(rows: &[Symbol], index: Option<u16>) -> Option<Symbol>
     ensures { result ≡ row_at rows.now index }
 {
     match index {
         Some(index) => rows.get(index as usize).copied(),
         None => None,
     }
-}
-
-/// The row of a name, among the rows of a session's externals by first mention; none for a name that nothing mentions. (ld(1))
-pub fn row_of(session: &Session, rows: &[Symbol], name: &Name) -> Option<Symbol>
-    ensures place { result ≡ row_at rows.now (position (bytes_eq name.now)
-        (externals session.now.forced (objects session.now.entries))) }
-    ensures planned { (o : Choices) → rows.now ≡ external_rows (plan_of session.now o)
-        → (result ≡ row_of session.now o name.now) }
-{
-    let index = session.find(name);
-    row_at(rows, index)
 }
 
 /// The symbol number of a relocation word, or 0 if it refers to no symbol.

@@ -1,8 +1,8 @@
 //! Where the segments of objects lie, and the words in them.
-ghost use Rattle.std.specs.Prelude.{◌≡◌, Option, IfOk};
-ghost use Rattle.link_maps.specs.Members.{capped, first_places, next_places, places_from, start_in};
+ghost use Rattle.std.specs.Prelude.{◌≡◌, map, IfOk};
+ghost use Rattle.link_maps.specs.Members.{capped, first_places, member_of, next_places, places_from, start_in};
 
-use crate::members::Member;
+use crate::members::Listed;
 use aout_core::{Header, Part};
 use link_out::Bases;
 use std::alloc::{AllocError, Global};
@@ -17,7 +17,7 @@ pub struct Places {
 }
 
 /// Where the segments of the first object lie.
-fn first_places(bases: Option<Bases>) -> Places
+pub(crate) fn first_places(bases: Option<Bases>) -> Places
     ensures { result ≡ first_places bases }
 {
     match bases {
@@ -26,17 +26,20 @@ fn first_places(bases: Option<Bases>) -> Places
             data: bases.data_start,
             bss: bases.bss_start,
         },
-        None => Places {
-            text: 0,
-            data: 0,
-            bss: 0,
-        },
+        None => Places::NONE,
     }
 }
 
 impl Places {
+    /// At 0.
+    pub(crate) const NONE: Places = Places {
+        text: 0,
+        data: 0,
+        bss: 0,
+    };
+
     /// Where the segments of the object after one with this header lie.
-    fn next(&self, header: &Header) -> Places
+    pub(crate) fn next(&self, header: &Header) -> Places
         ensures { result ≡ next_places self.now header.now }
     {
         Places {
@@ -62,15 +65,16 @@ impl Places {
 pub(crate) fn places_of(
     alloc: Global,
     bases: Option<Bases>,
-    members: &[Member],
+    all: &[Listed<'_>],
 ) -> Result<Vec<Places>, AllocError>
-    ensures { IfOk result (λ places. places.items ≡ places_from (first_places bases) members.now) }
+    ensures { IfOk result (λ places.
+        places.items ≡ places_from (first_places bases) (map member_of all.now)) }
 {
     let mut places = Vec::new(alloc);
     let mut at = first_places(bases);
-    for member in members {
+    for object in all {
         places.push(at)?;
-        at = at.next(&member.header);
+        at = at.next(object.file.header());
     }
     Ok(places)
 }

@@ -3,9 +3,9 @@ ghost use Rattle.std.specs.{Prelude.{◌≡◌, ◌++◌, map, IfOk, OnOk}, List
 ghost use Rattle.aout_core.specs.Names.{padded};
 ghost use Rattle.link_session.specs.Labelled.{number_or_none};
 ghost use Rattle.link_maps.specs.Records.{object_record, object_records, places_in, records_from, use_kind, use_record, use_records, word_kind, word_record};
-ghost use Rattle.link_maps.specs.Groups.{groups_of};
+ghost use Rattle.link_maps.specs.{Groups.groups_of, Members.member_of};
 
-use crate::members::Member;
+use crate::members::Listed;
 use crate::places::Places;
 use crate::references::ReferringWord;
 use crate::uses::Use;
@@ -69,32 +69,32 @@ pub(crate) fn number_or_none(object: Option<usize>) -> usize
     }
 }
 
-fn object_record(member: &Member, at: &Places) -> ObjectRecord
-    ensures { result ≡ object_record member.now at.now }
+fn object_record(object: &Listed<'_>, at: &Places) -> ObjectRecord
+    ensures { result ≡ object_record (member_of object.now) at.now }
 {
+    let header = object.file.header();
     ObjectRecord {
         text: at.text,
         data: at.data,
         bss: at.bss,
-        symbols: member.symbols,
-        text_size: member.header.text_size,
-        data_size: member.header.data_size,
-        bss_size: member.header.bss_size,
+        symbols: object.file.symbols().len(),
+        text_size: header.text_size,
+        data_size: header.data_size,
+        bss_size: header.bss_size,
     }
 }
 
 /// The objects. An error: out of memory.
 pub(crate) fn object_records(
     alloc: Global,
-    members: &[Member],
+    all: &[Listed<'_>],
     places: &[Places],
 ) -> Result<Vec<ObjectRecord>, AllocError>
-    ensures { IfOk result (λ records. records.items ≡ object_records members.now places.now) }
+    ensures { IfOk result (λ records. records.items ≡ object_records all.now places.now) }
 {
-    members
-        .iter()
+    all.iter()
         .zip(places)
-        .map(|(member, at)| object_record(member, at))
+        .map(|(object, at)| object_record(object, at))
         .collect(alloc)
 }
 
@@ -162,14 +162,9 @@ fn word_record(at: &Places, object: usize, number: usize, word: &ReferringWord) 
 fn places_in(places: &[Places], object: Option<usize>) -> Places
     ensures { result ≡ places_in places.now object }
 {
-    let none = Places {
-        text: 0,
-        data: 0,
-        bss: 0,
-    };
     match object {
-        Some(number) => *places.get(number).unwrap_or(&none),
-        None => none,
+        Some(number) => *places.get(number).unwrap_or(&Places::NONE),
+        None => Places::NONE,
     }
 }
 
@@ -201,8 +196,7 @@ fn put_use(
         (records.new.items ≡ records.old.items ++ use_records places.now number used.now) }
 {
     records.push(use_record(number, used))?;
-    let at = places_in(places, used.object);
-    put_words(records, &at, number, used)
+    put_words(records, &places_in(places, used.object), number, used)
 }
 
 /// Appends the uses of a name.

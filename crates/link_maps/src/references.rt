@@ -1,14 +1,13 @@
 //! The words of an object that lead to a symbol, each with its line and the label before that.
-ghost use Rattle.std.specs.{Prelude.{◌≡◌, ◌++◌, ◌∷◌, [], filter, IfOk, OnOk}, List.flat_map, List.Sorted.IsSortedBy};
-ghost use Rattle.texts.specs.Texts.{Puts};
+ghost use Rattle.std.specs.Prelude.{◌≡◌, ◌++◌, ◌∷◌, [], filter, IfOk, OnOk};
 ghost use Rattle.disassemblies.specs.Starts.{starts};
 ghost use Rattle.instructions.specs.declared.unix.Decoder.TheVariants.{Unix};
 ghost use Rattle.link_maps.specs.Leads.{reference_if, references_to};
-ghost use Rattle.link_maps.specs.References.{address_in, before_line, is_function, line_of, reference_at, segment_of_part, text_of_line};
+ghost use Rattle.link_maps.specs.References.{address_in, before_line, is_function, line_of, reference_at, segment_of_part};
 
 use crate::labels::{Labels, functions_in};
-use crate::leading::Leading;
 use crate::leads::{Lead, leads_in, linked_target};
+use crate::spots::label_before;
 use aout_core::{File, Part, Segment, Symbol};
 use disassemblies::{NamedFile, line_start, line_starts, put_line_text};
 use instructions::{Decoder, Reference};
@@ -29,7 +28,7 @@ pub struct ReferringWord {
     pub before: Option<Reference>,
 }
 
-pub(crate) fn segment_of(part: Part) -> Segment
+fn segment_of(part: Part) -> Segment
     ensures { result ≡ segment_of_part part }
 {
     match part {
@@ -60,29 +59,20 @@ pub(crate) fn line_of(starts: &[bool], part: Part, offset: u16) -> u16
 
 /// Appends the text of the line that has a word of text: an instruction or a plain word, with the names of the object. For a
 /// word of data it appends nothing.
-pub fn put_line_of(text: &mut Text, named: &NamedFile<'_>, reference: &ReferringWord)
-    ensures { Puts text.old text.new
-        (text_of_line named.now reference.now.part reference.now.line) }
-{
+pub fn put_line_of(text: &mut Text, named: &NamedFile<'_>, reference: &ReferringWord) {
     let place = usize::from(reference.line / 2);
-    match reference.part {
-        Part::Text if place < named.file().text_words().len() => put_line_text(
-            text,
-            Decoder::Unix,
-            named,
-            place,
-        ),
-        _ => {},
+    if matches!(reference.part, Part::Text) && place < named.file().text_words().len() {
+        put_line_text(text, Decoder::Unix, named, place);
     }
 }
 
-/// An object whose lines are found by the words in them, its labels by their addresses, and its words by where they lead.
+/// An object whose lines are found by the words in them, its labels by their addresses, and its words that lead somewhere.
 #[derive(Drop)]
 pub(crate) struct LinedFile<'a> {
     file: &'a File,
     line_starts: Vec<bool>,
     labels: Labels<'a>,
-    leading: Leading,
+    all_leads: Vec<Lead>,
 }
 
 impl<'a> Model for LinedFile<'a> {
@@ -97,7 +87,7 @@ impl<'a> Model for LinedFile<'a> {
     ghost view = { λ l. l.file.now };
 
     ghost invariant = { λ l. (l.line_starts.items ≡ starts Unix l.file.now) × (l.labels.names.symbols.now ≡ l.file.now.symbols)
-        × (l.leading.all.items ≡ leads (starts Unix l.file.now) l.file.now) };
+        × (l.all_leads.items ≡ leads (starts Unix l.file.now) l.file.now) };
 }
 
 impl<'a> LinedFile<'a> {
@@ -110,13 +100,13 @@ impl<'a> LinedFile<'a> {
         requires { functions.now ≡ filter is_function file.now.symbols }
         ensures { IfOk result (λ l. l ≡ file.now) }
     {
-        let starts = line_starts(alloc, Decoder::Unix, file)?;
-        let leading = Leading::new(alloc, leads_in(alloc, file, &starts)?)?;
+        let line_starts = line_starts(alloc, Decoder::Unix, file)?;
+        let all_leads = leads_in(alloc, file, &line_starts)?;
         Ok(LinedFile {
             file,
-            line_starts: starts,
+            line_starts,
             labels: Labels::new(alloc, file.symbols(), functions)?,
-            leading,
+            all_leads,
         })
     }
 
@@ -128,16 +118,21 @@ impl<'a> LinedFile<'a> {
             .before(segment_of(part), address_in(self.file, part, offset))
     }
 
-    /// Appends a word that leads somewhere.
-    fn put_word(&self, found: &mut Vec<ReferringWord>, lead: &Lead) -> Result<(), AllocError>
+    /// Appends the word of a part so many bytes after the first.
+    fn put_word(
+        &self,
+        found: &mut Vec<ReferringWord>,
+        part: Part,
+        offset: u16,
+    ) -> Result<(), AllocError>
         ensures { OnOk result (found.new.items ≡ found.old.items
-            ++ reference_at (starts Unix self.now) self.now lead.now.part lead.now.offset ∷ []) }
+            ++ reference_at (starts Unix self.now) self.now part offset ∷ []) }
     {
-        let line = line_of(&self.line_starts, lead.part, lead.offset);
-        let before = self.before(lead.part, line);
+        let line = line_of(&self.line_starts, part, offset);
+        let before = self.before(part, line);
         found.push(ReferringWord {
-            part: lead.part,
-            offset: lead.offset,
+            part,
+            offset,
             line,
             before,
         })?;
@@ -158,24 +153,23 @@ impl<'a> LinedFile<'a> {
         if !lead.aim.leads_to(number, symbol) {
             return Ok(());
         }
-        self.put_word(found, lead)
+        self.put_word(found, lead.part, lead.offset)
     }
 
-    /// Appends those of these words that lead to the symbol with a number.
-    fn put_words(
+    /// Appends a word of the text of a linked file, if it leads to an address of a segment.
+    fn put_linked(
         &self,
         found: &mut Vec<ReferringWord>,
-        leading: &[Lead],
-        number: usize,
-        symbol: &Symbol,
-    ) -> Result<(), AllocError>
-        ensures { OnOk result (found.new.items ≡ found.old.items
-            ++ flat_map (reference_if (starts Unix self.now) self.now number symbol.now) leading.now) }
-    {
-        for lead in leading {
-            self.put_if(found, number, symbol, lead)?;
+        segment: Segment,
+        address: u16,
+        offset: u16,
+        value: u16,
+    ) -> Result<(), AllocError> {
+        let line = line_of(&self.line_starts, Part::Text, offset);
+        if linked_target(self.file, segment, line, offset, value) != Some(address) {
+            return Ok(());
         }
-        Ok(())
+        self.put_word(found, Part::Text, offset)
     }
 
     /// The words of the object that lead to the symbol with a number, in the order of their places, text before data.
@@ -191,8 +185,9 @@ impl<'a> LinedFile<'a> {
             words.items ≡ references_to (starts Unix self.now) self.now number symbol.now) }
     {
         let mut found = Vec::new(alloc);
-        let leading = self.leading.to_symbol(number, symbol);
-        self.put_words(&mut found, leading, number, symbol)?;
+        for lead in &self.all_leads {
+            self.put_if(&mut found, number, symbol, lead)?;
+        }
         Ok(found)
     }
 }
@@ -228,21 +223,31 @@ pub fn words_at(
     ) {
         return Ok(found);
     }
-    let starts = line_starts(alloc, Decoder::Unix, file)?;
     let functions = functions_in(alloc, file.symbols())?;
-    let labels = Labels::new(alloc, file.symbols(), &functions)?;
+    let lined = LinedFile::new(alloc, file, &functions)?;
     let mut offset = 0u16;
-    for word in file.text_words() {
-        let line = line_of(&starts, Part::Text, offset);
-        if linked_target(file, segment, line, offset, *word) == Some(address) {
-            found.push(ReferringWord {
-                part: Part::Text,
-                offset,
-                line,
-                before: labels.before(Segment::TextSeg, line),
-            })?;
-        }
+    for value in file.text_words() {
+        lined.put_linked(&mut found, segment, address, offset, *value)?;
         offset = offset.wrapping_add(2);
     }
     Ok(found)
+}
+
+/// The word of a part of an object so many bytes after the first, with its line and the label before that.
+///
+/// An error: out of memory.
+pub fn word_at(
+    alloc: Global,
+    file: &File,
+    part: Part,
+    offset: u16,
+) -> Result<ReferringWord, AllocError> {
+    let line = line_of(&line_starts(alloc, Decoder::Unix, file)?, part, offset);
+    let address = address_in(file, part, line);
+    Ok(ReferringWord {
+        part,
+        offset,
+        line,
+        before: label_before(alloc, file.symbols(), segment_of(part), address)?,
+    })
 }

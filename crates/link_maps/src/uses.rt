@@ -1,11 +1,13 @@
 //! The uses of names: the symbols that define a name or want it, and the words that lead to it.
-ghost use Rattle.std.specs.Prelude.{◌≡◌, ◌++◌, map, OnOk};
+ghost use Rattle.std.specs.Prelude.{◌≡◌, ◌++◌, map, IfOk, OnOk};
 ghost use Rattle.disassemblies.specs.Starts.{starts};
 ghost use Rattle.instructions.specs.declared.unix.Decoder.TheVariants.{Unix};
 ghost use Rattle.symtools.specs.NmLists.{in_order};
-ghost use Rattle.link_maps.specs.Uses.{forced_use, is_before, use_by, uses_in};
+ghost use Rattle.link_session.specs.Labelled.{objects};
+ghost use Rattle.link_maps.specs.Uses.{forced_use, is_before, use_by, uses_from, uses_in, uses_in_order};
 
 use crate::labels::functions_in;
+use crate::members::Listed;
 use crate::references::{LinedFile, ReferringWord};
 use aout_core::{File, Name, Symbol};
 use std::alloc::{AllocError, Global};
@@ -47,12 +49,7 @@ fn forced_use(alloc: Global, name: Name) -> Use
     }
 }
 
-/// Appends the uses of forced names.
-pub(crate) fn put_forced(
-    alloc: Global,
-    uses: &mut Vec<Use>,
-    names: &[Name],
-) -> Result<(), AllocError>
+fn put_forced(alloc: Global, uses: &mut Vec<Use>, names: &[Name]) -> Result<(), AllocError>
     ensures { OnOk result (uses.new.items ≡ uses.old.items ++ map forced_use names.now) }
 {
     for name in names {
@@ -84,8 +81,7 @@ fn put_use(
     Ok(())
 }
 
-/// Appends the uses in an object. An error: out of memory.
-pub(crate) fn put_uses(
+fn put_uses(
     alloc: Global,
     uses: &mut Vec<Use>,
     object: usize,
@@ -101,9 +97,33 @@ pub(crate) fn put_uses(
     Ok(())
 }
 
+fn put_objects(alloc: Global, uses: &mut Vec<Use>, all: &[Listed<'_>]) -> Result<(), AllocError>
+    ensures { OnOk result (uses.new.items ≡ uses.old.items ++ uses_from 0 (objects all.now)) }
+{
+    for (object, listed) in all.iter().enumerate() {
+        put_uses(alloc, uses, object, listed.file)?;
+    }
+    Ok(())
+}
+
 /// Sorts by name; uses of one name keep their order.
-pub(crate) fn sort_by_name(uses: &mut Vec<Use>) -> Result<(), AllocError>
+fn sort_by_name(uses: &mut Vec<Use>) -> Result<(), AllocError>
     ensures { OnOk result (uses.new.items ≡ in_order is_before uses.old.items) }
 {
     uses.sort_by_key(|used| used.symbol.name)
+}
+
+/// The uses of forced names and of the names in objects, in the order of the names. An error: out of memory.
+pub(crate) fn uses_of(
+    alloc: Global,
+    forced: &[Name],
+    all: &[Listed<'_>],
+) -> Result<Vec<Use>, AllocError>
+    ensures { IfOk result (λ uses. uses.items ≡ uses_in_order forced.now (objects all.now)) }
+{
+    let mut uses = Vec::new(alloc);
+    put_forced(alloc, &mut uses, forced)?;
+    put_objects(alloc, &mut uses, all)?;
+    sort_by_name(&mut uses)?;
+    Ok(uses)
 }

@@ -8,7 +8,7 @@ use Rattle.surroundings.specs.{Answer.Answer, Answers.Ends, Answers.Stops, Event
 use Rattle.surroundings.specs.Sources.{EndsReading}
 use Rattle.surroundings.specs.declared.answer.Fault.TheVariants as faults
 use Rattle.explanations.specs.declared.file_kind.FileKind.{FileKind}
-use Rattle.v7_explain.specs.{Files.{GivesOr, IsRow, IsSaid, IsUnnamed, joined, nothing_said}, Walks.{Folders, Found, kind_in, path_found}}
+use Rattle.v7_explain.specs.{Files.{GivesOr, IsSaid, IsShown, IsUnnamed, joined, nothing_said}, Walks.{Folders, Found, kind_in, path_found}}
 use Rattle.v7_explain.specs.Runs.{Explains, ExplainsFound, ExplainsNamed, IsExplaining, IsKind, ReadsFor}
 use Rattle.v7_explain.specs.{declared.explaining.Mode.TheVariants.{Listing, Show, Check, Inventory}, declared.explaining.Mode.Mode}
 
@@ -53,13 +53,13 @@ pub ruleset by_mode = (kind_asked, no_kind)
 module _ (folders : Option Folders) (mode : Mode) (path : List ℕ) (found : Option FileKind) where
   -- it has a kind, and its line
   pub kind_said : (kind : FileKind) (h : History) (answer : Answer) → found ≡ Some kind → IsKind folders mode path found →
-      IsRow answer → ExplainsNamed folders mode h h path (Ok answer)
+      IsShown 0 answer → ExplainsNamed folders mode h h path (Ok answer)
   kind_said kind h answer is asked row = (Some kind, subst (IsKind folders mode path) is asked, (refl, row))
 
   -- there is no memory for its line
   pub kind_out : (kind : FileKind) (h : History) (result : Result Answer Fault) → found ≡ Some kind → IsKind folders mode path found →
       result ≡ Err (faults.Memory refused) → ExplainsNamed folders mode h h path result
-  kind_out kind h result is asked memory = (Some kind, subst (IsKind folders mode path) is asked, (refl, gives_out IsRow result memory))
+  kind_out kind h result is asked memory = (Some kind, subst (IsKind folders mode path) is asked, (refl, gives_out (IsShown 0) result memory))
 
   -- it is explained
   pub file_said : (old new : History) (result : Result Answer Fault) → found ≡ None → IsKind folders mode path found →

@@ -17,7 +17,7 @@ use Rattle.surroundings.specs.{Answer.Answer, Answers.EndsOr, Events.History, Pr
 use Rattle.surroundings.specs.declared.answer.Fault.TheVariants as faults
 use Rattle.tool_options.specs.Choices.{Choices}
 use Rattle.v7_explain.specs.Maps.{AreTaken, HaveObjects, IsMap, IsMapCall, IsMapping, IsTaking, MapsCall, link_words, nothing_taken}
-use Rattle.v7_explain.specs.Maps.{status_asked, status_linked}
+use Rattle.v7_explain.specs.{Asked.has_absent, Maps.status_linked, Maps.status_with}
 use Rattle.v7_explain.specs.internal.Takes.{IsMapAnswer, KeepsSplit, TakesAll, status_made}
 use Rattle.v7_explain.proofs.TakingLemmas.{taking_memory}
 
@@ -114,9 +114,8 @@ maps_all asked forced choices inputs n a taken (m, map, same) =
       m,
       taken,
       map,
-      shows,
       a,
-      record { no_errors = same.no_errors; has_status = same.has_status ∙ ap (status_asked asked n m) status },
+      record { no_errors = same.no_errors; has_status = same.has_status ∙ ap (status_with (has_absent m forced (all_of n) asked)) status },
       refl,
     )
 

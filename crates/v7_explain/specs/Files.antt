@@ -3,14 +3,15 @@
 --
 -- What goes to standard output comes with lines for standard error and a status: 1 if there is something to report. A listing reads back as
 -- its file. What else is said of a file, and in which words, is in no definition.
-use Rattle.std.specs.Prelude.{◌≡◌, ℕ, ◌+◌, ◌-◌, max, nat_le, nat_lt, Bool, false, ◌&&◌, ◌||◌, if◌then◌else◌, List, [], ◌++◌, take}
+use Rattle.std.specs.Prelude.{◌≡◌, ℕ, ◌+◌, max, Bool, false, ◌&&◌, ◌||◌, if◌then◌else◌, List, [], ◌++◌, take}
 use Rattle.std.specs.{Prelude.{Option, Some, None, Result, Ok, Err}, List.list_any}
 use Rattle.aout_core.specs.{Contents.Contents, Decoding.decode, Addresses.data_start_in, Names.before_nul, WellFormed.first_object_fault}
 use Rattle.aout_core.specs.{Refusals.refused, declared.file.ReadFault.ReadFault, declared.header.Header.Header}
 use Rattle.aout_core.specs.declared.object.ObjectFault.{ObjectFault}
 use Rattle.checks.specs.{Found.Found, Wrong.is_damaged}
+use Rattle.link_maps.specs.{Spots.has_place, declared.places.Places.Places}
 use Rattle.listings.specs.{Reading.read, declared.draft.Addresses.TheVariants.Compared}
-use Rattle.surroundings.specs.{Answer.Answer, Answers.only_errors, Programs.{Quietly, Reads, Step, Then}, declared.answer.Fault.Fault}
+use Rattle.surroundings.specs.{Answer.Answer, Answers.{Ends, only_errors}, Programs.{Quietly, Reads, Step, Then}, declared.answer.Fault.Fault}
 use Rattle.surroundings.specs.declared.answer.Fault.TheVariants as faults
 use Rattle.checks.specs.{Suspicions.all_odd, declared.evidence.Evidence.Evidence}
 use Rattle.v7_explain.specs.{Asked.{is_named, octal_number}, declared.explaining.Mode.Mode}
@@ -53,15 +54,10 @@ pub record IsListing (is_reported : Bool) (c : Contents) (refused : Option Objec
   pub has_status : a.status ≡ status_in refused
   pub untold : (is_reported && is_damaged refused) ≡ false → a.errors ≡ []
 
--- a file in a view
-pub record IsView (c : Contents) (a : Answer) : Type 0 where
-  pub has_status : a.status ≡ status_in (first_object_fault c)
+-- what is shown of a file in another form, with this status
+pub record IsShown (status : ℕ) (a : Answer) : Type 0 where
+  pub has_status : a.status ≡ status
   pub no_errors : a.errors ≡ []
-
--- why bytes are not an object
-pub record IsNoObject (a : Answer) : Type 0 where
-  pub has_status : a.status ≡ 1
-  pub no_output : a.output ≡ []
 
 -- what is odd in an object, but for commons of odd sizes
 pub record IsOdd (found : List Found) (a : Answer) : Type 0 where
@@ -72,13 +68,9 @@ pub record IsOdd (found : List Found) (a : Answer) : Type 0 where
 -- why a file is not an object, if it is not; or what is odd in it
 abbrev pub IsCheck : Evidence → List ℕ → Contents → Option ObjectFault → Answer → Type 0
 IsCheck e bytes c None a = IsOdd (all_odd e false bytes c) a
-IsCheck e bytes c (Some fault) a = IsNoObject a
+IsCheck e bytes c (Some fault) a = Ends 1 a
 
 -- ---- a line of an inventory
-
-pub record IsRow (a : Answer) : Type 0 where
-  pub has_status : a.status ≡ 0
-  pub no_errors : a.errors ≡ []
 
 -- a path that can't be opened, since a name in it is not UTF-8
 abbrev pub IsUnnamed : Answer → Type 0
@@ -90,34 +82,29 @@ IsUnnamed a = a.status ≡ 2
 abbrev pub IsSaid : Mode → List ℕ → Result Contents ReadFault → Answer → Type 0
 IsSaid (Listing is_reported) bytes (Ok c) a = IsListing is_reported c (first_object_fault c) a
 IsSaid (Listing is_reported) bytes (Err fault) a = IsRefused is_reported a
-IsSaid (Show view) bytes (Ok c) a = IsView c a
+IsSaid (Show view) bytes (Ok c) a = IsShown (status_in (first_object_fault c)) a
 IsSaid (Show view) bytes (Err fault) a = IsRefused false a
 IsSaid (Check e) bytes (Ok c) a = IsCheck e bytes c (first_object_fault c) a
-IsSaid (Check e) bytes (Err fault) a = IsNoObject a
-IsSaid Inventory bytes read a = IsRow a
+IsSaid (Check e) bytes (Err fault) a = Ends 1 a
+IsSaid Inventory bytes read a = IsShown 0 a
 
 -- ---- what a file is asked for: a symbol, by its name up to the eighth byte, or else an address in octal digits
 
-abbrev pub is_within : ℕ → ℕ → ℕ → Bool
-is_within start size address = nat_le start address && nat_lt (address - start) size
+abbrev pub places_in : Header → Places
+places_in h = record { text = 0; «data» = data_start_in h; bss = data_start_in h + h.data_size }
 
 -- text, data or bss has the address
 abbrev pub has_address : Header → Option ℕ → Bool
 has_address h None = false
-has_address h (Some a) =
-    is_within 0 h.text_size a || (is_within (data_start_in h) h.data_size a || is_within (data_start_in h + h.data_size) h.bss_size a)
+has_address h (Some address) = has_place h (places_in h) address
 
 -- 1 if neither a symbol of this name nor this address is there
 abbrev pub answer_status : Contents → List ℕ → ℕ
 answer_status c what =
     if is_named c.symbols (take 8 (before_nul what)) || has_address c.header (octal_number what) then 0 else 1
 
-pub record IsAnswer (what : List ℕ) (c : Contents) (a : Answer) : Type 0 where
-  pub has_status : a.status ≡ answer_status c what
-  pub no_errors : a.errors ≡ []
-
 abbrev pub IsAnswered : List ℕ → Result Contents ReadFault → Answer → Type 0
-IsAnswered what (Ok c) a = IsAnswer what c a
+IsAnswered what (Ok c) a = IsShown (answer_status c what) a
 IsAnswered what (Err fault) a = IsRefused false a
 
 -- the file at a path is read and asked

@@ -10,7 +10,7 @@ use Rattle.surroundings.specs.Programs.{AnswersGiven, CallsOr, Quietly, Reads, S
 use Rattle.surroundings.specs.{Sources.{ReadsAt, ReadsFront, ReadsNone}, Answer.Answer, Nodes.ChecksOutput, declared.answer.Fault.Fault}
 use Rattle.surroundings.specs.declared.answer.Fault.TheVariants as faults
 use Rattle.v7_explain.specs.{Calls.{Call, ask, asked_in, explain, map_link, mapping, store, walk}, Maps.IsMapCall}
-use Rattle.v7_explain.specs.Files.{AnswersAt, GivesOr, IsRow, IsSaid, IsUnnamed, joined, nothing_said}
+use Rattle.v7_explain.specs.Files.{AnswersAt, GivesOr, IsSaid, IsShown, IsUnnamed, joined, nothing_said}
 use Rattle.v7_explain.specs.declared.explaining.Mode.TheVariants.{Listing, Inventory}
 use Rattle.v7_explain.specs.{Walks.{AreWalked, Folders, Found, kind_in, path_found}, declared.explaining.Mode.Mode}
 
@@ -34,7 +34,7 @@ IsKind folders _ path kind = kind ≡ None
 
 abbrev pub ExplainsBy : Option FileKind → Mode → History → History → List ℕ → Result Answer Fault → Type 0
 ExplainsBy None mode old new path result = Explains mode old new path result
-ExplainsBy (Some kind) mode old new path result = (new ≡ old) × GivesOr IsRow result
+ExplainsBy (Some kind) mode old new path result = (new ≡ old) × GivesOr (IsShown 0) result
 
 abbrev pub ExplainsNamed : Option Folders → Mode → History → History → List ℕ → Result Answer Fault → Type 0
 ExplainsNamed folders mode old new path result =

@@ -1,10 +1,11 @@
 //! What a map is asked for: names, objects and addresses, and what the link does not have. Only tested: its text.
 ghost use Rattle.std.specs.{Prelude.{◌≡◌, if◌then◌else◌, true, map, option_map, IfOk, OnOk, string_bytes}, List.list_any};
-ghost use Rattle.v7_explain.specs.Asked.{has_absent, has_path, has_use, is_absent, is_in_any, is_name, is_named, octal_number};
+ghost use Rattle.tool_options.specs.NameLists.{is_among};
+ghost use Rattle.v7_explain.specs.Asked.{has_absent, has_path, is_absent, is_in_any, is_name, is_named, octal_number};
 ghost use Rattle.v7_explain.specs.{Calls.mapping_after, internal.Asked.{asks_of_map, mapping_with}};
 
 use aout_core::{Name, Symbol};
-use link_maps::{LinkMap, Listed, Spot, Use, spots_at};
+use link_maps::{LinkMap, Listed, Spot, has_address, spots_at};
 use std::alloc::{AllocError, Global};
 use std::marker::Model;
 
@@ -38,7 +39,6 @@ pub(crate) fn take_asked<'a>(
     Ok(Some(rest))
 }
 
-/// Whether one of these symbols has a name.
 pub(crate) fn is_named(symbols: &[Symbol], name: &Name) -> bool
     ensures { result ≡ is_named symbols.now name.now }
 {
@@ -53,18 +53,17 @@ fn is_in_any(all: &[Listed<'_>], name: &Name) -> bool
         .any(|object| is_named(object.file.symbols(), name))
 }
 
-/// Whether one of these uses is of a name.
-fn has_use(uses: &[Use], name: &Name) -> bool
-    ensures { result ≡ has_use uses.now name.now }
+fn is_forced(forced: &[Name], name: &Name) -> bool
+    ensures { result ≡ is_among forced.now name.now }
 {
-    uses.iter().any(|used| used.symbol.name == *name)
+    forced.iter().any(|known| name == known)
 }
 
-/// Whether a name is one of a link, or a local of one of its objects.
-fn is_name(link: &LinkMap, all: &[Listed<'_>], name: &Name) -> bool
-    ensures { result ≡ is_name link.now all.now name.now }
+/// Whether a name is a forced one of a link, or one of a symbol of its objects.
+fn is_name(forced: &[Name], all: &[Listed<'_>], name: &Name) -> bool
+    ensures { result ≡ is_name forced.now all.now name.now }
 {
-    has_use(&link.uses, name) || is_in_any(all, name)
+    is_forced(forced, name) || is_in_any(all, name)
 }
 
 /// Whether an object has a path.
@@ -122,14 +121,15 @@ impl Asked {
         &mut self,
         alloc: Global,
         link: &LinkMap,
+        forced: &[Name],
         all: &[Listed<'_>],
         argument: &str,
     ) -> Result<(), AllocError>
         ensures { OnOk result
-            (self.new ≡ (if is_absent link.now all.now argument.now then true else self.old)) }
+            (self.new ≡ (if is_absent link.now forced.now all.now argument.now then true else self.old)) }
     {
         let name = Name::from_bytes(argument.as_bytes());
-        if is_name(link, all, &name) {
+        if is_name(forced, all, &name) {
             self.names.push(name)?;
             return Ok(());
         }
@@ -138,11 +138,11 @@ impl Asked {
             self.paths.push(copy)?;
             return Ok(());
         }
-        if let Some(address) = octal_number(argument.as_bytes()) {
-            let spots = spots_at(alloc, link, address)?;
-            if !spots.is_empty() {
-                return self.spots.extend_from_slice(&spots);
-            }
+        if let Some(address) = octal_number(argument.as_bytes())
+            && has_address(link, all, address)
+        {
+            let spots = spots_at(alloc, link, all, address)?;
+            return self.spots.extend_from_slice(&spots);
         }
         self.absent.push(copy)?;
         Ok(())
@@ -154,10 +154,12 @@ impl Asked {
     pub(crate) fn of(
         alloc: Global,
         link: &LinkMap,
+        forced: &[Name],
         all: &[Listed<'_>],
         arguments: &[String],
     ) -> Result<Asked, AllocError>
-        ensures { IfOk result (λ a. a ≡ has_absent link.now all.now (map string_bytes arguments.now)) }
+        ensures { IfOk result (λ a. a
+            ≡ has_absent link.now forced.now all.now (map string_bytes arguments.now)) }
     {
         let mut asked = Asked {
             names: Vec::new(alloc),
@@ -166,7 +168,7 @@ impl Asked {
             absent: Vec::new(alloc),
         };
         for argument in arguments {
-            asked.put(alloc, link, all, argument.as_str())?;
+            asked.put(alloc, link, forced, all, argument.as_str())?;
         }
         Ok(asked)
     }

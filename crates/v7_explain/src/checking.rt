@@ -2,7 +2,8 @@
 ghost use Rattle.std.specs.{Prelude.{◌≡◌, None, IfOk}, List.list_any};
 ghost use Rattle.aout_core.specs.WellFormed.{first_object_fault};
 ghost use Rattle.checks.specs.Found.{all_found};
-ghost use Rattle.v7_explain.specs.Files.{IsCheck, IsNoObject, status_of};
+ghost use Rattle.surroundings.specs.Answers.{Ends};
+ghost use Rattle.v7_explain.specs.Files.{IsCheck, status_of};
 
 use crate::explaining::nothing_said;
 use crate::source::{
@@ -23,7 +24,7 @@ pub(crate) fn check_refused(
     source: Source<'_>,
     fault: ReadFault,
 ) -> Result<Answer, AllocError>
-    ensures { IfOk result (λ answer. IsNoObject answer) }
+    ensures { IfOk result (λ answer. Ends 1 answer) }
 {
     let wrong = wrong_bytes(alloc, source.bytes, fault)?;
     let mut lines = Text::new(alloc);
@@ -43,18 +44,11 @@ fn is_any_sure(found: &[Finding]) -> bool
     found.iter().any(|finding| finding.is_sure)
 }
 
-/// Whether one of these findings is sure.
-fn has_sure(found: &[Finding]) -> bool
-    ensures { result ≡ list_any (λ finding. finding.is_sure) (all_found found.now) }
-{
-    is_any_sure(found)
-}
-
 /// The status after findings: 1 if one is sure.
 fn status_of(found: &[Finding]) -> u8
     ensures { result ≡ status_of (all_found found.now) }
 {
-    if has_sure(found) { 1 } else { 0 }
+    if is_any_sure(found) { 1 } else { 0 }
 }
 
 /// What is odd in an object.

@@ -70,7 +70,6 @@ pub(crate) fn explain(alloc: Global, mode: Mode, source: Source<'_>) -> Result<A
 /// How many bytes the largest core file has, which is larger than any a.out file: 1,024 bytes and 131,070 blocks of 64.
 pub(crate) const MOST_BYTES: u32 = 8_389_504;
 
-/// The bytes of a file by which it is explained.
 fn bytes_for<O: Office>(
     alloc: Global,
     office: &mut O,
@@ -121,7 +120,6 @@ fn kind_for<F: Folders>(folders: &F, mode: Mode, path: &str) -> Option<FileKind>
     }
 }
 
-/// What is said of what is at a path.
 #[tactic(auto, using(crate::proofs::ExplainingLemmas::by_kind))]
 fn explain_named<O: Office, F: Folders>(
     alloc: Global,
@@ -181,7 +179,6 @@ fn explain_each<O: Office, F: Folders, P: Explainable>(
     Ok(said)
 }
 
-/// What is said of each file at these paths.
 #[tactic(auto, using(crate::proofs::ExplainingLemmas::all_explained))]
 pub(crate) fn explain_all<O: Office, F: Folders>(
     alloc: Global,

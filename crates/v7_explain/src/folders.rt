@@ -114,7 +114,6 @@ impl Folder {
     }
 }
 
-/// The path of a name in a folder.
 pub(crate) fn path_in(alloc: Global, folder: &str, name: &str) -> Result<String, AllocError>
     ensures { IfOk result (λ path. string_bytes path ≡ path_in folder.now name.now) }
 {
@@ -126,7 +125,6 @@ pub(crate) fn path_in(alloc: Global, folder: &str, name: &str) -> Result<String,
     Ok(path)
 }
 
-/// Adds a path.
 fn add(alloc: Global, path: &str, is_named: bool, found: &mut Vec<Found>) -> Result<(), AllocError>
     ensures { OnOk result (found.new.items
         ≡ found.old.items ++ (record { path = path.now; is_named = is_named } ∷ [])) }

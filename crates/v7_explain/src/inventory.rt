@@ -1,6 +1,6 @@
 //! Files in an inventory, a line each. Only tested: the lines.
 ghost use Rattle.std.specs.Prelude.{IfOk};
-ghost use Rattle.v7_explain.specs.Files.{IsRow, IsUnnamed};
+ghost use Rattle.v7_explain.specs.Files.{IsShown, IsUnnamed};
 
 use crate::source::{Source, put_text_line};
 use aout_core::{File, FileFault, ReadFault, object_fault};
@@ -12,7 +12,7 @@ use texts::Text;
 
 /// The line for a path. Its status is 0, whatever the file is.
 pub(crate) fn take_row(alloc: Global, path: &str, row: &InventoryRow) -> Result<Answer, AllocError>
-    ensures { IfOk result (λ answer. IsRow answer) }
+    ensures { IfOk result (λ answer. IsShown 0 answer) }
 {
     let mut text = Text::new(alloc);
     put_row(&mut text, row, path);
@@ -29,7 +29,7 @@ pub(crate) fn take_inventory(
     source: Source<'_>,
     read: &Result<File, ReadFault>,
 ) -> Result<Answer, AllocError>
-    ensures { IfOk result (λ answer. IsRow answer) }
+    ensures { IfOk result (λ answer. IsShown 0 answer) }
 {
     let bytes = source.bytes;
     let row = match read {

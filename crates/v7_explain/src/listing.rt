@@ -2,7 +2,7 @@
 //! and what is shown but for a listing.
 ghost use Rattle.std.specs.Prelude.{IfOk};
 ghost use Rattle.aout_core.specs.WellFormed.{first_object_fault};
-ghost use Rattle.v7_explain.specs.Files.{IsListing, IsView};
+ghost use Rattle.v7_explain.specs.Files.{IsListing, IsShown, status_in};
 
 use crate::source::{GNU_NOTE, Source, by_cause, front_notes, put_odd, reported, status_in};
 use aout_core::{File, object_fault};
@@ -38,7 +38,8 @@ pub(crate) fn show_file(
     view: View,
     file: &File,
 ) -> Result<Answer, AllocError>
-    ensures { IfOk result (λ answer. IsView file.now answer) }
+    ensures { IfOk result (λ answer.
+        IsShown (status_in (first_object_fault file.now)) answer) }
 {
     let refused = object_fault(file);
     let wrong = wrong_in(alloc, file, refused)?;

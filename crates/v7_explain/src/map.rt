@@ -48,7 +48,7 @@ fn map_answer(
 {
     let map = map_of(alloc, objects, forced, options)?;
     let all = objects.all(alloc)?;
-    let asked = Asked::of(alloc, &map, &all, arguments)?;
+    let asked = Asked::of(alloc, &map, forced.names(), &all, arguments)?;
     let mapped = Mapped::new(alloc, objects, &all, &map, &asked)?;
     Ok(Answer {
         output: mapped.text(alloc, options, arguments.is_empty())?,

@@ -5,8 +5,8 @@ use aout_core::{Header, Name, Part, Segment, Symbol};
 use disassemblies::NamedFile;
 use instructions::Reference;
 use link_maps::{
-    Places, ReferringWord, Use, is_any_definition, is_at, put_line_of, stays_undefined, telling,
-    word_at, words_to,
+    Places, ReferringWord, Use, is_any_definition, put_line_of, stays_undefined, telling, word_at,
+    words_to,
 };
 use std::alloc::AllocError;
 use std::collections::BTreeMap;
@@ -45,9 +45,9 @@ fn is_idle(mapped: &Mapped<'_>, name: &Name, uses: &[Use]) -> bool {
     let (Some(linked), Some(row)) = (mapped.map.linked(), mapped.row(name)) else {
         return false;
     };
-    is_any_definition(uses)
-        && !uses.iter().any(|used| is_mention(used))
-        && !is_at(&row, Segment::TextSeg, linked.file.header().entry_point)
+    let is_entry = row.segment() == Segment::TextSeg
+        && row.value == linked.file.header().entry_point;
+    is_any_definition(uses) && !uses.iter().any(|used| is_mention(used)) && !is_entry
 }
 
 /// Whether a part has the name of these uses.
@@ -78,7 +78,6 @@ pub(crate) fn put_place(text: &mut Text, segment: &str, address: u64, before: &O
     }
 }
 
-/// The name of a part.
 fn label_of(part: Part) -> &'static str {
     match part {
         Part::Text => "text",
@@ -86,9 +85,9 @@ fn label_of(part: Part) -> &'static str {
     }
 }
 
-/// Adds the rest of the line of a word at an address: of text the instruction.
+/// Adds what follows the place of a word: of text the instruction.
 fn put_rest(text: &mut Text, file: &NamedFile<'_>, address: u64, word: &ReferringWord) {
-    if matches!(word.part, Part::Text) {
+    if word.part == Part::Text {
         if word.before.is_none() {
             let line = address.saturating_sub(u64::from(word.offset.saturating_sub(word.line)));
             text.say(format_args!("  {line:06o}"));
@@ -99,7 +98,7 @@ fn put_rest(text: &mut Text, file: &NamedFile<'_>, address: u64, word: &Referrin
     text.put("\n");
 }
 
-/// Adds the line of the word of a part so many bytes after its first, which is at an address.
+/// Adds the line of the word of a part so many bytes after its first.
 pub(crate) fn put_word(
     text: &mut Text,
     file: &NamedFile<'_>,

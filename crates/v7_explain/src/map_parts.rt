@@ -2,7 +2,7 @@
 use crate::map_names::{self, Section};
 use crate::mapped::Mapped;
 use aout_core::Header;
-use link_maps::{LimitRecord, LinkMap, Member, Places, limits_of};
+use link_maps::{LimitRecord, LinkMap, Listed, Places, limits_of};
 use link_out::Options;
 use std::alloc::AllocError;
 use texts::{Printable, Text};
@@ -16,7 +16,7 @@ const MEMBERS: &str = "\nObjects\n    text  bytes    data  bytes     bss  bytes\
 
 /// Adds how many objects there are, and what becomes of the link.
 pub(crate) fn put_head(text: &mut Text, mapped: &Mapped<'_>) {
-    let count = mapped.map.members.len();
+    let count = mapped.all.len();
     let s = if count == 1 { "" } else { "s" };
     text.say(format_args!("Link of {count} object{s}: "));
     if let Some(refused) = &mapped.objects.refused {
@@ -72,27 +72,27 @@ pub(crate) fn put_limits(
         text.say(format_args!("  {label:<14}{used:>8}{most:>8}{left:>8}{over}\n"));
     }
     if mapped.map.linked().is_none() {
-        put_largest(text, &mapped.map.members)?;
+        put_largest(text, mapped.all)?;
     }
     Ok(())
 }
 
 /// Adds the largest objects, the largest first; those of one size keep their order.
-fn put_largest(text: &mut Text, members: &[Member]) -> Result<(), AllocError> {
+fn put_largest(text: &mut Text, all: &[Listed<'_>]) -> Result<(), AllocError> {
     let mut sized = Vec::new(text.allocator());
-    for member in members {
-        let header = &member.header;
+    for object in all {
+        let header = object.file.header();
         let bytes = u32::from(header.text_size) + u32::from(header.data_size);
-        sized.push((bytes + u32::from(header.bss_size), member))?;
+        sized.push((bytes + u32::from(header.bss_size), object))?;
     }
     sized.sort_by(|one, other| other.0.cmp(&one.0))?;
     sized.truncate(LARGEST);
     text.put("\nLargest objects\n     text    data     bss     all  symbols\n");
-    for (bytes, member) in &sized {
-        let header = &member.header;
+    for (bytes, object) in &sized {
+        let (header, count) = (object.file.header(), object.file.symbols().len());
         let (words, data, bss) = (header.text_size, header.data_size, header.bss_size);
         text.say(format_args!("  {words:>7}{data:>8}{bss:>8}"));
-        text.say(format_args!("{:>8}{:>9}  {}\n", *bytes, member.symbols, member.label));
+        text.say(format_args!("{:>8}{count:>9}  {}\n", *bytes, object.label));
     }
     Ok(())
 }
@@ -116,35 +116,33 @@ pub(crate) fn put_segments(text: &mut Text, map: &LinkMap) {
 }
 
 /// Adds the line of an object: where its segments lie, and its path; a long path has a line of its own.
-fn put_member(text: &mut Text, member: &Member, at: &Places) {
-    let header = &member.header;
+fn put_member(text: &mut Text, object: &Listed<'_>, at: &Places) {
+    let header = object.file.header();
     text.say(format_args!("  {:06o}{:>7}", at.text, header.text_size));
     text.say(format_args!("  {:06o}{:>7}", at.data, header.data_size));
     text.say(format_args!("  {:06o}{:>7}", at.bss, header.bss_size));
-    text.put(if PATH < member.label.len() {
+    text.put(if PATH < object.label.len() {
         "\n    "
     } else {
         "  "
     });
-    text.say(format_args!("{}\n", member.label));
+    text.say(format_args!("{}\n", object.label));
 }
 
 /// Adds the objects.
-pub(crate) fn put_members(text: &mut Text, map: &LinkMap) {
+pub(crate) fn put_members(text: &mut Text, mapped: &Mapped<'_>) {
     text.put(MEMBERS);
-    for (member, at) in map.members.iter().zip(&map.places) {
-        put_member(text, member, at);
+    for (object, at) in mapped.all.iter().zip(&mapped.map.places) {
+        put_member(text, object, at);
     }
 }
 
 /// Adds the objects that have a path: where each lies, what it defines, and what it needs.
 pub(crate) fn put_objects(text: &mut Text, mapped: &Mapped<'_>, path: &str) {
-    for (number, member) in mapped.map.members.iter().enumerate() {
-        if member.label.as_str() == path {
+    for (number, (object, at)) in mapped.all.iter().zip(&mapped.map.places).enumerate() {
+        if object.label == path {
             text.put(MEMBERS);
-            if let Some(at) = mapped.map.places.get(number) {
-                put_member(text, member, at);
-            }
+            put_member(text, object, at);
             map_names::put(text, mapped, Section::Defined(number), "\nDefines\n");
             map_names::put(text, mapped, Section::Needed(number), "\nNeeds\n");
         }

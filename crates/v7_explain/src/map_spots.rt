@@ -33,12 +33,11 @@ fn put_spot(text: &mut Text, mapped: &Mapped<'_>, spot: &Spot) -> Result<(), All
             let value = (address % 65536) as u16;
             return put_byte(text, mapped.map.rows(), "commons", address, value);
         }
-        Spot::Word {
+        Spot::Object {
             object,
             part,
             offset,
-        } => (object, offset, Some(part)),
-        Spot::Bss { object, offset } => (object, offset, None),
+        } => (object, offset, part),
     };
     let path = mapped.path(Some(object));
     text.say(format_args!("    in          {path}\n{INDENT}"));

@@ -16,6 +16,7 @@ use texts::Text;
 pub(crate) struct Mapped<'a> {
     pub(crate) map: &'a LinkMap,
     pub(crate) objects: &'a Objects,
+    pub(crate) all: &'a [Listed<'a>],
     pub(crate) asked: &'a Asked,
     /// The uses of each name.
     pub(crate) groups: Vec<&'a [Use]>,
@@ -28,7 +29,7 @@ impl<'a> Mapped<'a> {
     pub(crate) fn new(
         alloc: Global,
         objects: &'a Objects,
-        all: &[Listed<'a>],
+        all: &'a [Listed<'a>],
         map: &'a LinkMap,
         asked: &'a Asked,
     ) -> Result<Mapped<'a>, AllocError> {
@@ -39,6 +40,7 @@ impl<'a> Mapped<'a> {
         Ok(Mapped {
             map,
             objects,
+            all,
             asked,
             groups: map.by_name(alloc)?,
             files,
@@ -52,8 +54,8 @@ impl<'a> Mapped<'a> {
 
     /// The path of an object; empty for a forced name.
     pub(crate) fn path(&self, object: Option<usize>) -> &'a str {
-        match self.map.members.get(object.unwrap_or(usize::MAX)) {
-            Some(member) => member.label.as_str(),
+        match self.all.get(object.unwrap_or(usize::MAX)) {
+            Some(listed) => listed.label,
             None => "",
         }
     }
@@ -76,7 +78,7 @@ impl<'a> Mapped<'a> {
             if !options.is_relocatable() {
                 map_names::put(&mut text, self, Section::Unused, "\nUnused\n");
             }
-            put_members(&mut text, self.map);
+            put_members(&mut text, self);
             map_names::put(&mut text, self, Section::All, "\nExternals\n");
         } else {
             let asked = self.asked;

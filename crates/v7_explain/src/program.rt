@@ -19,7 +19,6 @@ use surroundings::{
 /// The name of the program.
 pub(crate) const NAME: &str = "v7-explain";
 
-/// Does a call.
 #[tactic(auto, using(crate::proofs::AskedLemmas::call_done))]
 fn do_call<O: Office, F: Folders>(
     alloc: Global,

@@ -1,7 +1,7 @@
 //! What a file has under a name or at an address. Only tested: the text. Proved: whether what is asked is absent.
 ghost use Rattle.std.specs.Prelude.{◌≡◌, IfOk};
 ghost use Rattle.aout_core.specs.Decoding.{decode};
-ghost use Rattle.v7_explain.specs.Files.{AnswersAt, IsAnswered, IsAnswer, has_address, is_within, answer_status};
+ghost use Rattle.v7_explain.specs.Files.{AnswersAt, IsAnswered, answer_status, has_address, places_in};
 
 use crate::asked::{is_named, octal_number};
 use crate::explaining::MOST_BYTES;
@@ -12,33 +12,30 @@ use crate::source::{Source, refuse};
 use aout_core::{File, Header, Name, Part, Segment, decode_file};
 use disassemblies::{NamedFile, put_disassembly};
 use instructions::Decoder;
-use link_maps::{Places, is_function, label_before, words_at, words_to};
+use link_maps::{Places, has_place, is_function, is_within, label_before, words_at, words_to};
 use std::alloc::{AllocError, Global};
 use surroundings::{Answer, Fault, Office, read_whole};
 use texts::{Printable, Text};
 
-/// Whether an address is in a segment.
-fn is_within(start: u64, size: u16, address: u64) -> bool
-    ensures { result ≡ is_within start size address }
+/// Where the segments of a file lie.
+fn places_in(header: &Header) -> Places
+    ensures { result ≡ places_in header.now }
 {
-    start <= address && address - start < u64::from(size)
+    let data = header.data_start() as u64;
+    Places {
+        text: 0,
+        data,
+        bss: data + u64::from(header.data_size),
+    }
 }
 
-/// Whether a file has an address.
 fn has_address(header: &Header, address: Option<u64>) -> bool
     ensures { result ≡ has_address header.now address }
 {
-    let Some(address) = address else {
-        return false;
-    };
-    let start = header.data_start() as u64;
-    is_within(0, header.text_size, address)
-        || is_within(start, header.data_size, address)
-        || is_within(
-            start + u64::from(header.data_size),
-            header.bss_size,
-            address,
-        )
+    match address {
+        Some(address) => has_place(header, &places_in(header), address),
+        None => false,
+    }
 }
 
 /// The status of an answer: 1 if a file has neither a symbol of this name nor this address in octal digits.
@@ -52,19 +49,16 @@ fn answer_status(file: &File, what: &str) -> u8
 
 /// Adds what a file has at an address, in each segment that has it.
 fn put_address(text: &mut Text, named: &NamedFile<'_>, address: u64) -> Result<(), AllocError> {
-    let header = named.file().header();
-    let symbols = named.file().symbols();
-    let value = (address % 65536) as u16;
-    let start = header.data_start() as u64;
-    let end = start + u64::from(header.data_size);
-    if is_within(0, header.text_size, address) {
+    let (file, header) = (named.file(), named.file().header());
+    let (at, value) = (places_in(header), (address % 65536) as u16);
+    if is_within(at.text, header.text_size, address) {
         put_word(text, named, Part::Text, value, address)?;
     }
-    if is_within(start, header.data_size, address) {
-        put_byte(text, symbols, "data", address, value)?;
+    if is_within(at.data, header.data_size, address) {
+        put_byte(text, file.symbols(), "data", address, value)?;
     }
-    if is_within(end, header.bss_size, address) {
-        put_byte(text, symbols, "bss", address, value)?;
+    if is_within(at.bss, header.bss_size, address) {
+        put_byte(text, file.symbols(), "bss", address, value)?;
     }
     Ok(())
 }
@@ -73,11 +67,6 @@ fn put_address(text: &mut Text, named: &NamedFile<'_>, address: u64) -> Result<(
 fn put_named(text: &mut Text, named: &NamedFile<'_>, name: &Name) -> Result<(), AllocError> {
     let file = named.file();
     let header = file.header();
-    let places = Places {
-        text: 0,
-        data: header.data_start() as u64,
-        bss: 0,
-    };
     for (number, symbol) in file.symbols().iter().enumerate() {
         if symbol.name == *name {
             put_line(text, Some(*symbol), symbol);
@@ -86,7 +75,7 @@ fn put_named(text: &mut Text, named: &NamedFile<'_>, name: &Name) -> Result<(), 
             } else {
                 words_at(text.allocator(), file, symbol.segment(), symbol.value)?
             };
-            put_words(text, named, &places, &words);
+            put_words(text, named, &places_in(header), &words);
         }
     }
     Ok(())
@@ -178,24 +167,6 @@ fn put_answer(
     Ok(())
 }
 
-/// What a file has of what is asked.
-fn answer_of(
-    alloc: Global,
-    what: &str,
-    shows_function: bool,
-    file: &File,
-) -> Result<Answer, AllocError>
-    ensures { IfOk result (λ answer. IsAnswer what.now file.now answer) }
-{
-    let mut text = Text::new(alloc);
-    put_answer(&mut text, file, what, shows_function)?;
-    Ok(Answer {
-        output: text.finish()?,
-        errors: Vec::new(alloc),
-        status: answer_status(file, what),
-    })
-}
-
 /// What the bytes of a file have of what is asked.
 fn answer_bytes(
     alloc: Global,
@@ -205,10 +176,17 @@ fn answer_bytes(
 ) -> Result<Answer, AllocError>
     ensures { IfOk result (λ answer. IsAnswered what.now (decode source.entry.bytes.now) answer) }
 {
-    match decode_file(alloc, source.bytes)? {
-        Ok(file) => answer_of(alloc, what, shows_function, &file),
-        Err(fault) => refuse(alloc, None, source, false, fault),
-    }
+    let file = match decode_file(alloc, source.bytes)? {
+        Ok(file) => file,
+        Err(fault) => return refuse(alloc, None, source, false, fault),
+    };
+    let mut text = Text::new(alloc);
+    put_answer(&mut text, &file, what, shows_function)?;
+    Ok(Answer {
+        output: text.finish()?,
+        errors: Vec::new(alloc),
+        status: answer_status(&file, what),
+    })
 }
 
 /// What the file at a path has of what is asked: a symbol of this name, or this address; with its instructions, if a function is to be

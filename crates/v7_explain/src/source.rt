@@ -34,7 +34,6 @@ pub(crate) struct Source<'a> {
     pub(crate) bytes: &'a [u8],
 }
 
-/// The status of a file.
 pub(crate) fn status_in(refused: Option<ObjectFault>) -> u8
     ensures { result ≡ status_in refused }
 {
@@ -54,7 +53,6 @@ pub(crate) fn put_front(lines: &mut Text, path: &str) {
     lines.say(format_args!("{NAME}: {path}: "));
 }
 
-/// Puts a line with a text on a file.
 pub(crate) fn put_text_line<D: Display + Drop>(lines: &mut Text, path: &str, text: D) {
     lines.say(format_args!("{NAME}: {path}: {text}\n"));
 }
@@ -154,7 +152,6 @@ pub(crate) fn reported(
     lines.finish()
 }
 
-/// Adds what is odd as notes.
 pub(crate) fn put_odd(notes: &mut Notes, odd: &[Finding]) {
     let (first, more) = shown(odd);
     put_findings(notes, "odd", first);

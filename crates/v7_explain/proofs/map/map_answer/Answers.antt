@@ -5,9 +5,7 @@ pub returns : goal.returns
 returns c = (
   c.in_ok-map.map,
   record {
-    members = c.in_ok-map.ensures.members;
     places = c.in_ok-map.ensures.places;
-    uses = c.in_ok-map.ensures.uses;
     made = c.in_ok-map.ensures.made;
     outcome = c.in_ok-map.ensures.outcome;
   },

@@ -5,5 +5,5 @@ use Rattle.v7_explain.proofs.asked.Asked.of.Given as goal
 -- the arguments that are left come after those that are in
 abbrev pub invariant-loop-argument : goal.invariant-loop-argument
 invariant-loop-argument l =
-    has_absent_after l.link l.all l.asked (map string_bytes (drop l.argument-index l.arguments))
-    ≡ has_absent l.link l.all (map string_bytes l.arguments)
+    has_absent_after l.link l.forced l.all l.asked (map string_bytes (drop l.argument-index l.arguments))
+    ≡ has_absent l.link l.forced l.all (map string_bytes l.arguments)
