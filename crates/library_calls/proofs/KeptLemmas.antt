@@ -1,19 +1,19 @@
 -- The object that a session adds or withdraws.
 use Rattle.std.proofs.Common.{◌≡◌, ℕ, List, [], ◌∷◌, ◌++◌, Option, Some, None, Result, Ok, Err, refl, inl, inr, sym, ap, ◌∙◌, subst}
 use Rattle.std.proofs.lemmas.List.{map-append}
-use Rattle.std.specs.Prelude.{◌⊎◌, IsOk}
+use Rattle.std.specs.Prelude.{◌⊎◌, IsOk, ok_or}
 use Rattle.aout_core.specs.Contents.{Contents}
 use Rattle.link_session.specs.{declared.entry.AddFault.AddFault, Edits.last_of, Labelled.Labelled, Labelled.objects, Limits.refusal}
 use Rattle.link_session.specs.{Sessions.Withdraws, Undo.Kept}
 use Rattle.link_session.proofs.EditLemmas.{last_of-put_last}
 use Rattle.link_out.specs.Steps.{and_then, unless}
-use Rattle.library_calls.specs.KeptAnswers.{AddsBytes, MayRunOutToAdd, TakesLast, found_last, taken_in}
-use Rattle.library_calls.specs.{declared.cause.Cause.Cause, declared.cause.Cause.TheVariants.NotAdded, FileAnswers.object_in}
+use Rattle.library_calls.specs.KeptAnswers.{AddsBytes, MayRunOutToAdd, TakesLast, taken_in}
+use Rattle.library_calls.specs.{declared.cause.Cause.Cause, declared.cause.Cause.TheVariants.{NotAdded, NothingKept}, FileAnswers.object_in}
 use Rattle.library_calls.specs.{MemoryWanted.HasBody, internal.Taken.with_first, internal.Taken.with_object}
 
 pub taken_last : (old new : Kept) (e : Labelled) → Withdraws old new e → TakesLast old new
 taken_last old new e takes =
-    record { last = e; found = ap found_last (ap last_of takes.entries ∙ last_of-put_last new.entries e); takes = takes }
+    record { last = e; found = ap (λ (last : Option Labelled). ok_or last NothingKept) (ap last_of takes.entries ∙ last_of-put_last new.entries e); takes = takes }
 
 -- ---- an addition, by the objects alone
 

@@ -12,6 +12,5 @@ pub mod PlaceLemmas
 pub mod RemarkLemmas
 pub mod KeptLemmas
 pub mod ItemLemmas
-pub mod PutLemmas
 mod ReportCountLemmas
 pub mod SizeLemmas

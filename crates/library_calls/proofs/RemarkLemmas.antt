@@ -5,7 +5,7 @@ use Rattle.aout_core.specs.{Contents.Contents, Decoding.decode, WellFormed.first
 use Rattle.aout_core.specs.declared.header.Header.{Header}
 use Rattle.checks.specs.{Found.Found, Found.all_found, Wrong.wrong_bytes, Wrong.wrong_in, declared.finding.Finding.Finding}
 use Rattle.checks.specs.{Suspicions.all_odd, declared.evidence.Evidence.TheVariants.Flow}
-use Rattle.library_calls.specs.RemarkAnswers.{IsRemarked, IsRemarkedBy, Output, header_by, odd_by, remarked_by, remarks_in, wrong_by}
+use Rattle.library_calls.specs.RemarkAnswers.{IsRemarked, IsRemarkedBy, IsRemarkedOf, Output, remarked_by, remarks_in}
 use Rattle.library_calls.specs.{declared.remarks_call.RemarkRecord.RemarkRecord, declared.remarks_call.Remarks.Remarks}
 
 pub by_findings : (h : Option Header) (wrong odd : List Finding) (found more : List Found) (r : Result Remarks AllocError) →
@@ -14,16 +14,13 @@ pub by_findings : (h : Option Header) (wrong odd : List Finding) (found more : L
 by_findings h wrong odd found more (Ok x) a b e = record { wrong = wrong; odd = odd; are_wrong = a; are_odd = b; remarked = e }
 by_findings h wrong odd found more (Err error) a b e = tt
 
-abbrev By : List ℕ → Output RemarkRecord → Result Contents ReadFault → Type 0
-By bytes x read = IsRemarkedBy (header_by read) (wrong_by bytes read) (odd_by bytes read) x
-
 -- the bytes begin with a file, or do not
 pub file_remarked : (bytes : List ℕ) (c : Contents) (x : Output RemarkRecord) → decode bytes ≡ Ok c →
     IsRemarkedBy (Some c.header) (wrong_in (first_object_fault c) c) (all_odd Flow true bytes c) x → IsRemarked bytes x
-file_remarked bytes c x is h = subst (By bytes x) (sym is) h
+file_remarked bytes c x is h = subst (λ (read : Result Contents ReadFault). IsRemarkedOf bytes read x) (sym is) h
 
 pub bytes_remarked : (bytes : List ℕ) (fault : ReadFault) (x : Output RemarkRecord) → decode bytes ≡ Err fault →
     IsRemarkedBy None (wrong_bytes fault bytes) [] x → IsRemarked bytes x
-bytes_remarked bytes fault x is h = subst (By bytes x) (sym is) h
+bytes_remarked bytes fault x is h = subst (λ (read : Result Contents ReadFault). IsRemarkedOf bytes read x) (sym is) h
 
 pub ruleset by_decoding = (file_remarked, bytes_remarked)

@@ -2,8 +2,8 @@
 use Rattle.std.proofs.Common.{◌≡◌, ℕ, suc, ◌+◌, ◌≤◌, Bool, true, false, cond, not, List, [], ◌∷◌, ◌++◌, map, length, Option, Some, None}
 use Rattle.std.proofs.Common.{refl, ap, ◌∙◌, subst, arith, rules, append_assoc, length-append}
 use Rattle.std.proofs.{lemmas.List.length-map, lemmas.List.map-append, lemmas.Slice.Eq.bytes_eq-Decides}
-use Rattle.std.specs.Prelude.{bytes_eq, filter}
-use Rattle.aout_core.specs.{WellFormed.first_of, Contents.Contents}
+use Rattle.std.specs.Prelude.{bytes_eq, filter, option_to_list}
+use Rattle.aout_core.specs.{WellFormed.first_of, Contents.Contents, Names.padded}
 use Rattle.tool_options.specs.NameLists.{is_among, new_names}
 use Rattle.link_session.specs.{declared.state.State.State, Mentions.Mention, Mentions.names_by_first_mention, Mentions.names_of}
 use Rattle.link_session.specs.declared.state.State.TheVariants.{Defined, Wanted}
@@ -12,8 +12,8 @@ use Rattle.link_session.proofs.{AgreementLemmas.own_again, StateLemmas.first_def
 use Rattle.link_out.specs.function.Reports.{is_missing, is_undefined, report_of, reserved_names, reserved_taken, undefined_names}
 use Rattle.link_out.specs.{function.Plans.Plan, Results.ReportNames}
 use Rattle.library_calls.specs.RunAnswers.{findings_if, places_if}
-use Rattle.library_calls.specs.{FindingPlaces.{name_count, named_by_entry}, LinkAnswers.{entry_findings, finding_of}}
-use Rattle.library_calls.proofs.CountLemmas.{places_most}
+use Rattle.library_calls.specs.{LinkAnswers.{of_kind, reported_names}, declared.reported.ReportedName.ReportedName}
+use Rattle.library_calls.proofs.CountLemmas.{each_has_a_place}
 
 filter_most : {A : Type 0} (p : A → Bool) (xs : List A) → length (filter p xs) ≤ length xs
 filter_most p [] = omega arith
@@ -65,12 +65,10 @@ counted_once front (m ∷ back) =
 undefined_most : (b : Bool) (names : List (List ℕ)) → length (cond b [] names) ≤ length names
 undefined_most b names = search rules
 
-entry_most : (entry : Option (List ℕ)) → named_by_entry entry ≤ 1
-entry_most entry = search rules
-
-pub reported_most : (p : Plan) → name_count (report_of p) ≤ length p.mentions + 4
+pub reported_most : (p : Plan) → length (reported_names (report_of p)) ≤ length p.mentions + 4
 reported_most p =
     let ms = p.mentions in
+    let f = report_of p in
     let once : CountedOnce ms [] ms = counted_once [] ms in
     let reserved : length (reserved_taken ms) ≤ 3 = filter_most (λ n. not (is_undefined (state ms n))) reserved_names in
     omega (
@@ -80,30 +78,29 @@ reported_most p =
       length-map (filter (λ m. differs (first_definition ms m.name) m.says) ms) (λ (m : Mention). m.name),
       undefined_most p.choices.relocatable (undefined_names ms),
       filter_most (λ n. is_missing n (state ms n)) (names_by_first_mention ms),
-      entry_most (report_of p).entry_bad,
-    )
-
--- what the list has of them
-pub findings_most : (b : Bool) (f : ReportNames) → length (findings_if b f) ≤ name_count f
-findings_most false f = omega arith
-findings_most true f =
-    let multiples = map (finding_of 1) f.multiples in
-    let reserved = map (finding_of 2) f.reserved in
-    omega (
-      arith,
-      length-append ((multiples ++ reserved) ++ entry_findings f.entry_bad) (map (finding_of 4) f.undefined),
-      length-append (multiples ++ reserved) (entry_findings f.entry_bad),
-      length-append multiples reserved,
-      length-map f.multiples (finding_of 1),
-      length-map f.reserved (finding_of 2),
-      length-map f.undefined (finding_of 4),
-      by_entry f.entry_bad,
+      entry_most f.entry_bad,
+      length-append ((of_kind 1 f.multiples ++ of_kind 2 f.reserved) ++ of_kind 3 (option_to_list f.entry_bad)) (of_kind 4 f.undefined),
+      length-append (of_kind 1 f.multiples ++ of_kind 2 f.reserved) (of_kind 3 (option_to_list f.entry_bad)),
+      length-append (of_kind 1 f.multiples) (of_kind 2 f.reserved),
+      of_kind_length 1 f.multiples,
+      of_kind_length 2 f.reserved,
+      of_kind_length 4 f.undefined,
     )
   where
-    by_entry : (entry : Option (List ℕ)) → length (entry_findings entry) ≡ named_by_entry entry
-    by_entry None = refl
-    by_entry (Some name) = refl
+    entry_most : (entry : Option (List ℕ)) → length (of_kind 3 (option_to_list entry)) ≤ 1
+    entry_most entry = search rules
 
-pub given_places : (b : Bool) (forced : List (List ℕ)) (os : List Contents) (f : ReportNames) → length (places_if b forced os f) ≤ name_count f
+    of_kind_length : (kind : ℕ) (names : List (List ℕ)) → length (of_kind kind names) ≡ length names
+    of_kind_length kind names = length-map names (λ name. (kind, name))
+
+abbrev finding : ℕ × List ℕ → ReportedName
+finding r = record { name = padded r.1; kind = r.0 }
+
+-- what the list has of them, and the places
+pub findings_most : (b : Bool) (f : ReportNames) → length (findings_if b f) ≤ length (reported_names f)
+findings_most false f = omega arith
+findings_most true f = omega (arith, length-map (reported_names f) finding)
+
+pub given_places : (b : Bool) (forced : List (List ℕ)) (os : List Contents) (f : ReportNames) → length (places_if b forced os f) ≤ length (reported_names f)
 given_places false forced os f = omega arith
-given_places true forced os f = places_most forced os f
+given_places true forced os f = omega (arith, each_has_a_place forced os f)

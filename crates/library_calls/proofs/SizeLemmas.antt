@@ -24,7 +24,7 @@ use Rattle.link_out.specs.Inputs as inputs
 use Rattle.link_out.proofs.OutcomeLemmas.{made_file, made_report}
 use Rattle.library_calls.specs.LinkRequests.{choices_in, forced_in, name_of, with_names}
 use Rattle.library_calls.specs.RunAnswers.{RunOutput, link_run, output_with, run_output, no_run, parts_run, places_if, results_of}
-use Rattle.library_calls.specs.{FindingPlaces.name_count, declared.places.FindingPlace.FindingPlace}
+use Rattle.library_calls.specs.{LinkAnswers.reported_names, declared.places.FindingPlace.FindingPlace}
 use Rattle.library_calls.specs.Sizes.{IsWithin, IsMostOfMaps, IsMostOfRuns, IsMostOfSessions, bytes_in_all, most_of}
 use Rattle.library_calls.specs.MapAnswers.{IsMapAnswer, linked_run, map_asked, map_of_all, objects_each, run_shown}
 use Rattle.library_calls.specs.{declared.cause.Refusal.Refusal, declared.run_call.Wants.Wants, declared.map_call.LinkOutput.LinkOutput}
@@ -216,13 +216,13 @@ file_most forced os o =
     )
 
 report_most : (forced : List (List ℕ)) (os : List Contents) (o : Choices) →
-    12 * name_count (report_of (plan forced os o)) ≤ room forced (bytes_in_all os) + 32
+    12 * length (reported_names (report_of (plan forced os o))) ≤ room forced (bytes_in_all os) + 32
 report_most forced os o =
     omega (arith, reported_most (plan forced os o), mentions_counted forced os, objects_size o.keep os)
 
 -- a link that gives no more
 abbrev Within : ℕ → Outcome → Type 0
-Within n x = (length (encoding x.file) ≤ n) × (12 * name_count x.report ≤ n + 32)
+Within n x = (length (encoding x.file) ≤ n) × (12 * length (reported_names x.report) ≤ n + 32)
 
 widened : (m n : ℕ) (x : Outcome) → m ≤ n → Within m x → Within n x
 widened m n x fewer within = (omega (arith, fewer, within.0), omega (arith, fewer, within.1))
@@ -232,11 +232,11 @@ link_most : (forced : List (List ℕ)) (os : List Contents) (o : Choices) (x : O
 link_most forced os o x h =
     let p : Plan = plan forced os o in (
       subst (λ (c : Contents). length (encoding c) ≤ room forced (bytes_in_all os)) (made_file p os x h) (file_most forced os o),
-      subst (λ (f : ReportNames). 12 * name_count f ≤ room forced (bytes_in_all os) + 32) (made_report p os x h) (report_most forced os o),
+      subst (λ (f : ReportNames). 12 * length (reported_names f) ≤ room forced (bytes_in_all os) + 32) (made_report p os x h) (report_most forced os o),
     )
 
 -- what the caller wants of a link
-given_within : (w : Wants) (places : List FindingPlace) (x : Outcome) (n : ℕ) → Within n x → length places ≤ name_count x.report →
+given_within : (w : Wants) (places : List FindingPlace) (x : Outcome) (n : ℕ) → Within n x → length places ≤ length (reported_names x.report) →
     IsWithin n (output_with w places x)
 given_within w places x n within few = record {
   file = within.0;

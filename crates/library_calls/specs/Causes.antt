@@ -41,11 +41,14 @@ cause_of_input (inputs.not_added fault) = NotAdded fault
 abbrev pub first_mistake : Mistakes → Refusal
 first_mistake mistakes = record { cause = BadListing mistakes.first; place = mistakes.first.line }
 
-abbrev pub object_number : ObjectFault → ℕ
-object_number objects.NotAnObject = 21
-object_number objects.NoRelocation = 22
-object_number (objects.BadRelocation index) = 23
-object_number (objects.BadSymbolNumber index) = 24
+-- ---- the number of a cause, and with it a number that is in it: the index of a bad word, the number of a part that is too long, a
+-- column, or what a refusal of an object in GNU's form has, of two the first
+
+abbrev pub object_code : ObjectFault → ℕ × ℕ
+object_code objects.NotAnObject = (21, 0)
+object_code objects.NoRelocation = (22, 0)
+object_code (objects.BadRelocation index) = (23, index)
+object_code (objects.BadSymbolNumber index) = (24, index)
 
 abbrev pub reason_number : Reason → ℕ
 reason_number reasons.Missing = 61
@@ -69,57 +72,6 @@ reason_number reasons.StrayByte = 78
 reason_number reasons.AfterEnd = 79
 reason_number reasons.NoEnd = 80
 
--- what an object in GNU's form has in common with a file has the number of that
-abbrev pub gnu_number : gnu.Refusal → ℕ
-gnu_number refusals.ShortHeader = 11
-gnu_number (refusals.BadMagic magic) = 12
-gnu_number (refusals.OddSize size) = 13
-gnu_number refusals.Truncated = 14
-gnu_number (refusals.BadWord fault) = object_number fault
-gnu_number (refusals.TooManySymbols count) = 42
-gnu_number (refusals.Memory refused) = 0
-gnu_number refusals.BadStrings = 81
-gnu_number (refusals.Overlay n) = 82
-gnu_number (refusals.BadPlace n) = 83
-gnu_number (refusals.Stab n) = 84
-gnu_number (refusals.Description n) = 85
-gnu_number (refusals.Linked entry) = 86
-gnu_number (refusals.AlikeNames n m) = 87
-gnu_number (refusals.StabWord n) = 88
-gnu_number (refusals.LocalWord n m) = 89
-
-abbrev pub number_of : Cause → ℕ
-number_of NoOption = 1
-number_of Excluded = 2
-number_of LongName = 3
-number_of CutNames = 4
-number_of ManyNames = 5
-number_of (TooLong part) = 6
-number_of ShortStruct = 7
-number_of NoSession = 8
-number_of NoWant = 9
-number_of SessionOpen = 10
-number_of (BadFile reads.ShortHeader) = 11
-number_of (BadFile reads.BadMagic) = 12
-number_of (BadFile reads.OddSize) = 13
-number_of (BadFile reads.Truncated) = 14
-number_of (BadFile _) = 0
-number_of (BadObject fault) = object_number fault
-number_of (NotAdded adds.TextFull) = 31
-number_of (NotAdded adds.DataFull) = 32
-number_of (NotAdded adds.BssFull) = 33
-number_of (NotAdded adds.NamesFull) = 34
-number_of (NotAdded _) = 0
-number_of NothingKept = 35
-number_of NotKept = 36
-number_of (NotLinked links.DoesNotFit) = 41
-number_of (NotLinked links.TooManySymbols) = 42
-number_of (NotLinked links.SymbolNumber) = 43
-number_of (NotLinked _) = 0
-number_of (BadListing fault) = reason_number fault.reason
-number_of (NotConverted refusal) = gnu_number refusal
-number_of (Memory refused) = 50
-
 -- 2^32 - 1 for all columns that are further
 abbrev pub column_word : ℕ → ℕ
 column_word column = if nat_lt column 4294967296 then column else 4294967295
@@ -130,37 +82,65 @@ size_number DataSize = 2
 size_number BssSize = 3
 size_number SymbolSize = 4
 
-abbrev pub object_word : ObjectFault → ℕ
-object_word (objects.BadRelocation index) = index
-object_word (objects.BadSymbolNumber index) = index
-object_word _ = 0
+-- what an object in GNU's form has in common with a file has the number of that
+abbrev pub gnu_code : gnu.Refusal → ℕ × ℕ
+gnu_code refusals.ShortHeader = (11, 0)
+gnu_code (refusals.BadMagic magic) = (12, magic)
+gnu_code (refusals.OddSize size) = (13, size_number size)
+gnu_code refusals.Truncated = (14, 0)
+gnu_code (refusals.BadWord fault) = object_code fault
+gnu_code (refusals.TooManySymbols count) = (42, count)
+gnu_code (refusals.Memory refused) = (0, 0)
+gnu_code refusals.BadStrings = (81, 0)
+gnu_code (refusals.Overlay n) = (82, n)
+gnu_code (refusals.BadPlace n) = (83, n)
+gnu_code (refusals.Stab n) = (84, n)
+gnu_code (refusals.Description n) = (85, n)
+gnu_code (refusals.Linked entry) = (86, entry)
+gnu_code (refusals.AlikeNames n m) = (87, n)
+gnu_code (refusals.StabWord n) = (88, n)
+gnu_code (refusals.LocalWord n m) = (89, n)
 
--- the number that the refusal has, of two the first
-abbrev pub gnu_word : gnu.Refusal → ℕ
-gnu_word (refusals.BadMagic magic) = magic
-gnu_word (refusals.OddSize size) = size_number size
-gnu_word (refusals.Overlay n) = n
-gnu_word (refusals.BadPlace n) = n
-gnu_word (refusals.Stab n) = n
-gnu_word (refusals.Description n) = n
-gnu_word (refusals.Linked entry) = entry
-gnu_word (refusals.TooManySymbols count) = count
-gnu_word (refusals.AlikeNames n m) = n
-gnu_word (refusals.StabWord n) = n
-gnu_word (refusals.LocalWord n m) = n
-gnu_word (refusals.BadWord fault) = object_word fault
-gnu_word _ = 0
+abbrev pub code_of : Cause → ℕ × ℕ
+code_of NoOption = (1, 0)
+code_of Excluded = (2, 0)
+code_of LongName = (3, 0)
+code_of CutNames = (4, 0)
+code_of ManyNames = (5, 0)
+code_of (TooLong parts.Text) = (6, 1)
+code_of (TooLong parts.Data) = (6, 2)
+code_of (TooLong parts.Bss) = (6, 3)
+code_of (TooLong parts.Symbols) = (6, 4)
+code_of ShortStruct = (7, 0)
+code_of NoSession = (8, 0)
+code_of NoWant = (9, 0)
+code_of SessionOpen = (10, 0)
+code_of (BadFile reads.ShortHeader) = (11, 0)
+code_of (BadFile reads.BadMagic) = (12, 0)
+code_of (BadFile reads.OddSize) = (13, 0)
+code_of (BadFile reads.Truncated) = (14, 0)
+code_of (BadFile _) = (0, 0)
+code_of (BadObject fault) = object_code fault
+code_of (NotAdded adds.TextFull) = (31, 0)
+code_of (NotAdded adds.DataFull) = (32, 0)
+code_of (NotAdded adds.BssFull) = (33, 0)
+code_of (NotAdded adds.NamesFull) = (34, 0)
+code_of (NotAdded _) = (0, 0)
+code_of NothingKept = (35, 0)
+code_of NotKept = (36, 0)
+code_of (NotLinked links.DoesNotFit) = (41, 0)
+code_of (NotLinked links.TooManySymbols) = (42, 0)
+code_of (NotLinked links.SymbolNumber) = (43, 0)
+code_of (NotLinked _) = (0, 0)
+code_of (BadListing fault) = (reason_number fault.reason, column_word fault.column)
+code_of (NotConverted refusal) = gnu_code refusal
+code_of (Memory refused) = (50, 0)
 
--- the index of the bad word, the number of the part that is too long, the column of a mistake, or the number in a refusal
+abbrev pub number_of : Cause → ℕ
+number_of cause = (code_of cause).0
+
 abbrev pub word_of : Cause → ℕ
-word_of (TooLong parts.Text) = 1
-word_of (TooLong parts.Data) = 2
-word_of (TooLong parts.Bss) = 3
-word_of (TooLong parts.Symbols) = 4
-word_of (BadObject fault) = object_word fault
-word_of (BadListing fault) = column_word fault.column
-word_of (NotConverted refusal) = gnu_word refusal
-word_of _ = 0
+word_of cause = (code_of cause).1
 
 -- a cause that is in the object, or the name, of this number
 abbrev pub at : {A : Type 0} → ℕ → Result A Cause → Result A Refusal

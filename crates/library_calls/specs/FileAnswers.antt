@@ -1,11 +1,9 @@
 -- What a call answers for one file, by its bytes. (strip(1), nm(1), size(1); instructions and the refusals: own choice)
 --
 -- The file is the one that the bytes begin with; what follows it is ignored.
-use Rattle.std.specs.Prelude.{ℕ, ◌%◌, ◌/◌, Bool, false, eqb, nat_lt, if◌then◌else◌, List, [], ◌∷◌, Result, Ok, Err}
+use Rattle.std.specs.Prelude.{◌≡◌, ℕ, ◌%◌, ◌/◌, Bool, false, eqb, nat_lt, if◌then◌else◌, List, [], ◌∷◌, Result, Ok, Err}
 use Rattle.aout_core.specs.Encoding.{file_length, encoding}
 use Rattle.aout_core.specs.{Contents.Contents, Decoding.decode, Strip.stripped, WellFormed.first_object_fault}
-use Rattle.instructions.specs.declared.unix.Decoder.TheVariants.{Pdp11}
-use Rattle.disassemblies.specs.Columns.{disassembly, plain_disassembly}
 use Rattle.link_out.specs.Steps.{and_then, refused_as, unless}
 use Rattle.link_out.specs.Inputs as inputs
 use Rattle.tool_options.specs.declared.nm_options.NmOptions.{NmOptions}
@@ -35,31 +33,28 @@ stripped_in bytes = and_then (file_in bytes) (λ c. Ok (encoding (stripped c)))
 abbrev pub sizes_in : List ℕ → Result (List ℕ) Cause
 sizes_in bytes = and_then (file_in bytes) (λ c. Ok (size_text (([], c) ∷ [])))
 
--- the text as instructions
-abbrev pub disassembled_in : List ℕ → Result (List ℕ) Cause
-disassembled_in bytes = and_then (file_in bytes) (λ c. Ok (disassembly Pdp11 c))
+-- a text of what there is, of which this holds
+abbrev pub IsTextOf : {A : Type 0} → (A → List ℕ → Type 0) → Result A Cause → List ℕ → Type 0
+IsTextOf {A} Is found text = (x : A) × (found ≡ Ok x) × Is x text
 
--- words alone as instructions, the first of them at this address
-abbrev pub words_shown : ℕ → List ℕ → Result (List ℕ) Cause
-words_shown address words = Ok (plain_disassembly address words)
+-- any text
+abbrev pub IsAny : {A : Type 0} → A → List ℕ → Type 0
+IsAny x text = Unit {0}
 
 -- the bit at a place, of value 1, 2, 4 ..
 abbrev pub has_bit : ℕ → ℕ → Bool
 has_bit bits place = eqb (bits / place % 2) 1
 
 -- 1: -g, 2: -n, 4: -p, 8: -r, 16: -u
-abbrev pub nm_options_of : ℕ → NmOptions
-nm_options_of bits = record {
+abbrev pub nm_options_in : ℕ → Result NmOptions Cause
+nm_options_in bits = if nat_lt 31 bits then Err NoOption else Ok (record {
   external = has_bit bits 1;
   by_value = has_bit bits 2;
   each_line = false;
   table_order = has_bit bits 4;
   reverse = has_bit bits 8;
   undefined = has_bit bits 16;
-}
-
-abbrev pub nm_options_in : ℕ → Result NmOptions Cause
-nm_options_in bits = if nat_lt 31 bits then Err NoOption else Ok (nm_options_of bits)
+})
 
 -- the lines of nm, without a path
 abbrev pub names_in : ℕ → List ℕ → Result (List ℕ) Cause

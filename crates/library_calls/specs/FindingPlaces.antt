@@ -4,11 +4,11 @@
 -- else of the first that has a symbol of it. A name is multiply defined once for each definition that differs from the first, and each
 -- has the object of this further definition too.
 use Rattle.std.specs.Prelude.{ℕ, zero, suc, ◌+◌, ◌-◌, Bool, true, false, not, ◌&&◌, ◌||◌, eqb, if◌then◌else◌, bytes_eq, List, [], ◌∷◌, ◌++◌}
-use Rattle.std.specs.{Prelude.{length, map, replicate, take, zip, Option, Some, None}, List.list_any}
+use Rattle.std.specs.{Prelude.{length, replicate, slice_get, take, Option, Some, None}, List.list_any}
 use Rattle.aout_core.specs.{WellFormed.{first_of, is_external, masked_type}, declared.symbol.Symbol.Symbol, Contents.Contents}
-use Rattle.link_session.specs.{Labelled.no_object, Labelled.number_or_none, Mentions.mentions, States.multiple_names}
+use Rattle.link_session.specs.{Labelled.number_or_none, Mentions.mentions, States.multiple_names}
 use Rattle.link_out.specs.Results.{ReportNames}
-use Rattle.library_calls.specs.declared.places.FindingPlace.{FindingPlace}
+use Rattle.library_calls.specs.{Items.each, LinkAnswers.reported_names, declared.places.FindingPlace.FindingPlace}
 
 -- ---- the first object of a name
 
@@ -25,12 +25,9 @@ first_from definitions name number [] = None
 first_from definitions name number (o ∷ os) =
     if list_any (shows definitions name) o.symbols then Some number else first_from definitions name (number + 1) os
 
-abbrev pub first_object : Bool → List ℕ → List Contents → Option ℕ
-first_object definitions name os = first_from definitions name 0 os
-
 -- the number of the first object that defines the name, or else of the first that has a symbol of it
 abbrev pub first_number : List Contents → List ℕ → ℕ
-first_number os name = number_or_none (first_of (first_object true name os) (first_object false name os))
+first_number os name = number_or_none (first_of (first_from true name 0 os) (first_from false name 0 os))
 
 -- ---- the objects of further definitions
 
@@ -49,33 +46,13 @@ further_objects forced os = further_among forced os (length os)
 
 -- ---- the names of a report, in the order of its lines
 
--- by the number of the object that a name is said to be of
-module _ (first : List ℕ → ℕ) where
-  abbrev pub place_with : List ℕ → ℕ → FindingPlace
-  place_with name further = record { first = first name; further = further }
+-- by the number of the object that a name is said to be of; the first names have further objects, with these numbers
+module _ (first : List ℕ → ℕ) (numbers : List ℕ) where
+  abbrev pub place_at : ℕ → List ℕ → FindingPlace
+  place_at i name = record { first = first name; further = number_or_none (slice_get numbers i) }
 
-  abbrev pub place_of : List ℕ → FindingPlace
-  place_of name = place_with name no_object
-
-  abbrev pub further_places : List (List ℕ) → List ℕ → List FindingPlace
-  further_places names numbers = map (λ p. place_with p.0 p.1) (zip names numbers)
-
-  abbrev pub entry_places : Option (List ℕ) → List FindingPlace
-  entry_places None = []
-  entry_places (Some name) = place_of name ∷ []
-
-  abbrev pub places_with : List ℕ → ReportNames → List FindingPlace
-  places_with numbers f =
-      ((further_places f.multiples numbers ++ map place_of f.reserved) ++ entry_places f.entry_bad) ++ map place_of f.undefined
+  abbrev pub places_with : List (ℕ × List ℕ) → List FindingPlace
+  places_with names = each (λ i r. place_at i r.1 ∷ []) names
 
 abbrev pub finding_places : List (List ℕ) → List Contents → ReportNames → List FindingPlace
-finding_places forced os f = places_with (first_number os) (further_objects forced os) f
-
--- ---- how many names a report has
-
-abbrev pub named_by_entry : Option (List ℕ) → ℕ
-named_by_entry None = 0
-named_by_entry (Some name) = 1
-
-abbrev pub name_count : ReportNames → ℕ
-name_count f = ((length f.multiples + length f.reserved) + named_by_entry f.entry_bad) + length f.undefined
+finding_places forced os f = places_with (first_number os) (further_objects forced os) (reported_names f)

@@ -9,14 +9,11 @@ use Rattle.library_calls.specs.declared.cause.Cause.TheVariants.{NoOption, NotCo
 use Rattle.library_calls.specs.{declared.cause.Cause.Cause, declared.cause.Refusal.Refusal, Causes.at, FileAnswers.has_bit}
 
 -- 1: -S, 2: -X, 4: -x, which wins over -X
-abbrev pub conversion_of : ℕ → Options
-conversion_of bits = record {
+abbrev pub conversion_in : ℕ → Result Options Cause
+conversion_in bits = if nat_lt 7 bits then Err NoOption else Ok (record {
   drops_debugger = has_bit bits 1;
   locals = if has_bit bits 4 then KeepNone else (if has_bit bits 2 then KeepNeeded else KeepAll);
-}
-
-abbrev pub conversion_in : ℕ → Result Options Cause
-conversion_in bits = if nat_lt 7 bits then Err NoOption else Ok (conversion_of bits)
+})
 
 -- a refusal, at its byte
 abbrev pub refused_in : List ℕ → gnu.Refusal → Refusal

@@ -1,13 +1,13 @@
 -- What the calls of a session that is kept do to it, and what they give. (own choice)
 --
 -- A call that is refused leaves the session as it was. The objects have no labels.
-use Rattle.std.specs.Prelude.{◌≡◌, ◌⊎◌, ℕ, zero, suc, List, [], Option, Some, None, Result, Ok, Err, IsOk, IsOkAnd}
+use Rattle.std.specs.Prelude.{◌≡◌, ◌⊎◌, ℕ, zero, suc, List, [], ok_or, Result, Ok, Err, IsOk, IsOkAnd}
 use Rattle.aout_core.specs.Contents.{Contents}
 use Rattle.link_session.specs.{Edits.last_of, Labelled.Labelled, Labelled.objects, Limits.refusal, Undo.Kept, Undo.IsJournal}
 use Rattle.link_session.specs.Sessions.{Adds, Withdraws, nothing_kept}
 use Rattle.link_out.specs.{function.Link.link, Steps.and_then, Steps.refused_as, Steps.unless}
 use Rattle.tool_options.specs.Choices.{Choices}
-use Rattle.library_calls.specs.{StateJson.state_json, StateLines.state_lines}
+use Rattle.library_calls.specs.{Shown.shown_text, declared.shown.Form.TheVariants.{Lines, Json}}
 use Rattle.library_calls.specs.{declared.cause.Cause.TheVariants.{NoOption, NotAdded, NotLinked, NothingKept}, declared.cause.Cause.Cause}
 use Rattle.library_calls.specs.{declared.cause.Refusal.Refusal, FileAnswers.object_in, LinkRequests.{choices_in, forced_in}}
 use Rattle.library_calls.specs.{MemoryWanted.HasBody, RunAnswers.{RunOutput, output_with}, declared.run_call.Wants.Wants}
@@ -30,13 +30,9 @@ pub record AddsBytes (bytes : List ℕ) (old new : Kept) : Type 0 where
 abbrev pub MayRunOutToAdd : List ℕ → Kept → Type 0
 MayRunOutToAdd bytes k = HasBody bytes ⊎ IsOk (taken_in bytes k)
 
-abbrev pub found_last : Option Labelled → Result Labelled Cause
-found_last None = Err NothingKept
-found_last (Some last) = Ok last
-
 -- the object that was added last
 abbrev pub last_in : Kept → Result Labelled Cause
-last_in k = found_last (last_of k.entries)
+last_in k = ok_or (last_of k.entries) NothingKept
 
 -- it was taken away
 pub record TakesLast (old new : Kept) : Type 0 where
@@ -61,6 +57,6 @@ HasJournal k = IsJournal k.forced (objects k.entries) k.journal
 
 -- what the session shows, in this form: 0, lines; 1, JSON
 abbrev pub shown_in : ℕ → Kept → Result (List ℕ) Cause
-shown_in zero k = Ok (state_lines k)
-shown_in (suc zero) k = Ok (state_json k)
+shown_in zero k = Ok (shown_text Lines k)
+shown_in (suc zero) k = Ok (shown_text Json k)
 shown_in (suc (suc n)) k = Err NoOption

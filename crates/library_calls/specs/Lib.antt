@@ -7,9 +7,7 @@ pub mod ObjectParts
 pub mod MemoryWanted
 pub mod RunAnswers
 pub mod Items
-pub mod StateLines
-pub mod Json
-pub mod StateJson
+pub mod Shown
 pub mod KeptAnswers
 pub mod MapAnswers
 pub mod Sizes

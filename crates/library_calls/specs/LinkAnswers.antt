@@ -2,7 +2,7 @@
 --
 -- The link is that of files, by `linked`: each part is an input, labelled by its number. The bytes after an object in its part are
 -- ignored, as by ld.
-use Rattle.std.specs.Prelude.{ℕ, ◌+◌, List, [], ◌∷◌, ◌++◌, map, Option, Some, None, Result, Ok}
+use Rattle.std.specs.Prelude.{ℕ, ◌+◌, List, [], ◌∷◌, ◌++◌, map, option_to_list, Result, Ok}
 use Rattle.aout_core.specs.{Contents.Contents, Names.padded}
 use Rattle.link_session.specs.Labelled.{Labelled, objects}
 use Rattle.tool_options.specs.Choices.{Choices}
@@ -42,16 +42,13 @@ parts_linked forced o parts = refused_as refusal_of (linked forced (numbered 0 p
 
 -- ---- the report as a list
 
--- 1: multiply defined, 2: a reserved name that is defined or a common, 3: an entry point that is not in text, 4: undefined
-abbrev pub finding_of : ℕ → List ℕ → ReportedName
-finding_of kind name = record { name = padded name; kind = kind }
+abbrev pub of_kind : ℕ → List (List ℕ) → List (ℕ × List ℕ)
+of_kind kind names = map (λ name. (kind, name)) names
 
-abbrev pub entry_findings : Option (List ℕ) → List ReportedName
-entry_findings None = []
-entry_findings (Some name) = finding_of 3 name ∷ []
+-- the names in the order of the lines, each with its kind. 1: multiply defined, 2: a reserved name that is defined or a common, 3: an
+-- entry point that is not in text, 4: undefined
+abbrev pub reported_names : ReportNames → List (ℕ × List ℕ)
+reported_names f = ((of_kind 1 f.multiples ++ of_kind 2 f.reserved) ++ of_kind 3 (option_to_list f.entry_bad)) ++ of_kind 4 f.undefined
 
--- in the order of the lines
 abbrev pub all_findings : ReportNames → List ReportedName
-all_findings f =
-    ((map (finding_of 1) f.multiples ++ map (finding_of 2) f.reserved) ++ entry_findings f.entry_bad)
-    ++ map (finding_of 4) f.undefined
+all_findings f = map (λ r. record { name = padded r.1; kind = r.0 }) (reported_names f)

@@ -5,6 +5,7 @@
 use Rattle.std.specs.Prelude.{ℕ, zero, suc, ◌+◌, ◌%◌, ◌/◌, cond, eqb, nat_lt, if◌then◌else◌, List, [], ◌∷◌, take, drop, length, Option}
 use Rattle.std.specs.Prelude.{Some, None, ok_or, Result, Ok, Err}
 use Rattle.aout_core.specs.Names.{before_nul}
+use Rattle.link_out.specs.Steps.{and_then}
 use Rattle.tool_options.specs.{ForcedNames.takes, ForcedNames.with_name, declared.flags.Flags.Flags, Choices.Choices, Flags.choices_of}
 use Rattle.library_calls.specs.declared.cause.Cause.TheVariants.{NoOption, Excluded, LongName, CutNames, ManyNames}
 use Rattle.library_calls.specs.{declared.cause.Cause.Cause, declared.cause.Refusal.Refusal, FileAnswers.has_bit}
@@ -29,14 +30,11 @@ abbrev pub entry_of : List ℕ → Option (List ℕ)
 entry_of [] = None
 entry_of (b ∷ bs) = Some (name_of (b ∷ bs))
 
-abbrev pub unless_long : List ℕ → Result Choices Cause → Result Choices Cause
-unless_long entry (Ok o) = if nat_lt 8 (length entry) then Err LongName else Ok o
-unless_long entry (Err cause) = Err cause
-
 -- first the bits, then options that exclude each other, then the name
 abbrev pub choices_in : ℕ → List ℕ → Result Choices Cause
 choices_in bits entry =
-    if nat_lt 127 bits then Err NoOption else unless_long entry (ok_or (choices_of (flags_in bits) (entry_of entry)) Excluded)
+    if nat_lt 127 bits then Err NoOption
+    else and_then (ok_or (choices_of (flags_in bits) (entry_of entry)) Excluded) (λ o. if nat_lt 8 (length entry) then Err LongName else Ok o)
 
 -- so many names of eight bytes each appended to those before them, if they are not there already; the next one has this number
 abbrev pub with_names : ℕ → ℕ → List (List ℕ) → List ℕ → Result (List (List ℕ)) Refusal

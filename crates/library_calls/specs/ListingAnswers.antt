@@ -1,20 +1,13 @@
 -- What a call answers for listings: the listing of a file, and the file of a listing. (own choice)
 use Rattle.std.specs.Prelude.{◌≡◌, ◌⊎◌, ℕ, List, [], Result, Ok, IsOk}
 use Rattle.aout_core.specs.{Contents.Contents, Encoding.encoding}
-use Rattle.disassemblies.specs.Starts.{starts}
-use Rattle.explanations.specs.Said.{explained}
-use Rattle.instructions.specs.declared.unix.Decoder.TheVariants.{Unix}
 use Rattle.link_out.specs.Steps.{and_then, refused_as}
-use Rattle.listings.specs.{declared.draft.Addresses.TheVariants.Compared, Listing.listing, MemoryWanted.ListingMayRunOut, Reading.read}
-use Rattle.library_calls.specs.{declared.cause.Cause.Cause, declared.cause.Refusal.Refusal, Causes.first_mistake, FileAnswers.file_in}
+use Rattle.listings.specs.{declared.draft.Addresses.TheVariants.Compared, MemoryWanted.ListingMayRunOut, Reading.read}
+use Rattle.library_calls.specs.{declared.cause.Refusal.Refusal, Causes.first_mistake}
 
--- the listing with explanations, and without notes
-abbrev pub listed : Contents → List ℕ
-listed c = listing (explained (starts Unix c) c [] []) c
-
--- the listing of the file that the bytes begin with
-abbrev pub listed_in : List ℕ → Result (List ℕ) Cause
-listed_in bytes = and_then (file_in bytes) (λ c. Ok (listed c))
+-- a listing of a file: reading it gives that file
+abbrev pub IsListingOf : Contents → List ℕ → Type 0
+IsListingOf c text = read Compared text ≡ Ok c
 
 -- the bytes of the file that a listing describes, or its first mistake
 abbrev pub described_in : List ℕ → Result (List ℕ) Refusal

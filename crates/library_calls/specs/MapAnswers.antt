@@ -7,6 +7,8 @@ use Rattle.link_out.specs.{declared.linked.Linked.Linked, declared.linked.LinkFa
 use Rattle.link_out.specs.{function.Reports.status_of, Steps.and_then, Steps.refused_as}
 use Rattle.link_maps.specs.{Links.ShowsLink, Links.read_inputs, Maps.AreRecords, Maps.IsMapOf}
 use Rattle.link_maps.specs.{declared.map.LinkMap.LinkMap, declared.members.Objects.Objects, declared.outcome.Outcome.Outcome}
+use Rattle.link_maps.specs.{declared.limit_records.LimitRecord.LimitRecord, declared.name_records.NameRecord.NameRecord}
+use Rattle.link_maps.specs.{declared.records.ObjectRecord.ObjectRecord, declared.records.UseRecord.UseRecord}
 use Rattle.link_maps.specs.{Members.all_of, Members.cause_of, Records.bit, Records.no_label, Taking.split, Taking.split_of}
 use Rattle.library_calls.specs.{declared.cause.Refusal.Refusal, declared.map_call.MapHead.MapHead, declared.map_call.LinkOutput.LinkOutput}
 use Rattle.library_calls.specs.{declared.cause.Cause.TheVariants.{NotAdded, NotLinked}, LinkRequests.{choices_in, forced_in}}
@@ -25,30 +27,31 @@ pub record AreTaken (forced : List (List ℕ)) (os : List Contents) (all : Objec
 
 -- ---- what becomes of the link
 
--- where the segments lie; the object that is refused, and why there is no link; and what a link that is made has
-abbrev pub head : Bases → ℕ → ℕ → ℕ → ℕ → ℕ → List ℕ → MapHead
-head b place fault state magic entry_point entry_name = record {
+abbrev pub no_head : MapHead
+no_head = record {
+  text_end = 0;
+  data_start = 0;
+  data_end = 0;
+  bss_start = 0;
+  bss_end = 0;
+  place = 0;
+  fault = 0;
+  state = 0;
+  magic = 0;
+  entry_point = 0;
+  entry_name = no_label;
+}
+
+-- where the segments lie, and why there is no link
+abbrev pub placed_head : Bases → ℕ → MapHead
+placed_head b fault = record no_head {
   text_end = b.text_end;
   data_start = b.data_start;
   data_end = b.data_end;
   bss_start = b.bss_start;
   bss_end = b.bss_end;
-  place = place;
   fault = fault;
-  state = state;
-  magic = magic;
-  entry_point = entry_point;
-  entry_name = entry_name;
 }
-
-abbrev pub no_bases : Bases
-no_bases = record { text_end = 0; data_start = 0; data_end = 0; bss_start = 0; bss_end = 0 }
-
-abbrev pub no_head : MapHead
-no_head = head no_bases 0 0 0 0 0 no_label
-
-abbrev pub refused_head : AddFault → ℕ → MapHead
-refused_head cause place = head no_bases place (number_of (NotAdded cause)) 0 0 0 no_label
 
 abbrev pub name_or_none : Option (List ℕ) → List ℕ
 name_or_none None = no_label
@@ -56,25 +59,22 @@ name_or_none (Some name) = padded name
 
 -- 1 for a link that has something to report, 2 for an entry point that is not in text
 abbrev pub made_head : Bases → Linked → MapHead
-made_head b l =
-    head b 0 0 (status_of (outcome_of l).report + bit (is_some l.report.entry_bad) 2) l.file.header.magic l.file.header.entry_point
-    (name_or_none l.report.entry_bad)
-
--- the addresses of the segments, and a fault
-abbrev pub placed_head : Bases → ℕ → MapHead
-placed_head b fault = head b 0 fault 0 0 0 no_label
+made_head b l = record (placed_head b 0) {
+  state = status_of (outcome_of l).report + bit (is_some l.report.entry_bad) 2;
+  magic = l.file.header.magic;
+  entry_point = l.file.header.entry_point;
+  entry_name = name_or_none l.report.entry_bad;
+}
 
 abbrev pub linked_head : Bases → Result Linked LinkFault → MapHead
 linked_head b (Ok l) = made_head b l
 linked_head b (Err fault) = placed_head b (number_of (NotLinked fault))
 
-abbrev pub outcome_head : Option Outcome → MapHead
-outcome_head None = no_head
-outcome_head (Some x) = linked_head x.bases x.linked
-
+-- the object that is refused, or what becomes of the link of all
 abbrev pub head_by : Option AddFault → ℕ → Option Outcome → MapHead
-head_by (Some cause) place outcome = refused_head cause place
-head_by None place outcome = outcome_head outcome
+head_by (Some cause) place outcome = record no_head { place = place; fault = number_of (NotAdded cause) }
+head_by None place None = no_head
+head_by None place (Some x) = linked_head x.bases x.linked
 
 -- the options, then the forced names, then the objects: the first refusal, or what the map is of
 pub record MapOf : Type 0 where
@@ -119,13 +119,25 @@ abbrev pub IsMapAnswer : Wants → Result MapOf Refusal → LinkOutput → Type 
 IsMapAnswer w (Ok asked) x = IsMapped w asked x
 IsMapAnswer w (Err r) x = ⊥
 
--- no map is given
-pub record HasNoMap (x : LinkOutput) : Type 0 where
-  pub head : x.head ≡ no_head
-  pub objects : x.records.objects.items ≡ []
-  pub names : x.records.names.items ≡ []
-  pub uses : x.records.uses.items ≡ []
-  pub limits : x.records.limits.items ≡ []
+-- what is given of a map
+pub record MapGiven : Type 0 where
+  pub head : MapHead
+  pub objects : List ObjectRecord
+  pub names : List NameRecord
+  pub uses : List UseRecord
+  pub limits : List LimitRecord
+
+abbrev pub map_given : LinkOutput → MapGiven
+map_given x = record {
+  head = x.head;
+  objects = x.records.objects.items;
+  names = x.records.names.items;
+  uses = x.records.uses.items;
+  limits = x.records.limits.items;
+}
+
+abbrev pub no_map : MapGiven
+no_map = record { head = no_head; objects = []; names = []; uses = []; limits = [] }
 
 -- ---- memory
 

@@ -2,12 +2,15 @@
 --
 -- What is made of parts has magic 0407, its relocation, and 0 for the entry point and the word without a meaning, at neither of which
 -- a link looks. A name is eight bytes, filled up with NULs, as in a file.
-use Rattle.std.specs.{Prelude.{ℕ, ◌*◌, ◌%◌, eqb, nat_lt, if◌then◌else◌, List, map, length, Result, Ok, Err}, List.zip}
+use Rattle.std.specs.Prelude.{ℕ, ◌*◌, ◌%◌, eqb, nat_lt, if◌then◌else◌, List, map, length, Result, Ok, Err, option_map, unwrap_or}
 use Rattle.aout_core.specs.{declared.header.Header.Header, declared.reloc.Reloc.Reloc, declared.symbol.Symbol.Symbol}
 use Rattle.aout_core.specs.{declared.file.ReadFault.TheVariants.OddSize, Names.padded, Contents.Contents, Encoding.encoding}
+use Rattle.aout_core.specs.{Placed.placed_words, declared.part.Part.Part, declared.placed.PlacedWord.PlacedWord}
+use Rattle.aout_core.specs.declared.part.Part.TheVariants as parts
 use Rattle.link_out.specs.Steps.{and_then}
 use Rattle.library_calls.specs.{declared.parts.FileLists.FileLists, declared.parts.ObjectWord.ObjectWord}
-use Rattle.library_calls.specs.{declared.parts.SymbolRow.SymbolRow, declared.parts.PartLists.PartLists, declared.cause.Cause.Cause}
+use Rattle.library_calls.specs.{declared.parts.ObjectParts.ObjectParts, declared.parts.PartLists.PartLists}
+use Rattle.library_calls.specs.{declared.parts.SymbolRow.SymbolRow, declared.cause.Cause.Cause}
 use Rattle.library_calls.specs.{declared.cause.LongPart.TheVariants.{Text, Data, Bss, Symbols}, FileAnswers.{file_in, object_in, object_of}}
 use Rattle.library_calls.specs.{declared.cause.Cause.TheVariants.{TooLong, BadFile}, LinkRequests.name_of}
 
@@ -19,6 +22,9 @@ pub record Pieces : Type 0 where
 
 abbrev pub pieces : List ObjectWord → List ObjectWord → ℕ → List SymbolRow → Pieces
 pieces text datas bss symbols = record { text = text; «data» = datas; bss = bss; symbols = symbols }
+
+abbrev pub pieces_for : ObjectParts → Pieces
+pieces_for p = pieces p.text.now p.«data».now p.bss p.symbols.now
 
 -- ---- parts made into an object
 
@@ -69,25 +75,18 @@ made_of p = and_then (file_for p) (λ c. and_then (object_of c) (λ o. Ok (encod
 
 -- ---- a file taken apart
 
--- each word with its relocation word
-abbrev pub words_with : List ℕ → List Reloc → List ObjectWord
-words_with ws rs = map (λ p. record { value = p.0; reloc = p.1.0 }) (zip ws rs)
+-- a word with its relocation word, or with 0 if that was stripped
+abbrev pub object_word : PlacedWord → ObjectWord
+object_word w = record { value = w.word; reloc = unwrap_or (option_map (λ (r : Reloc). r.0) w.reloc) 0 }
 
--- each word with a relocation word of 0
-abbrev pub words_alone : List ℕ → List ObjectWord
-words_alone ws = map (λ w. record { value = w; reloc = 0 }) ws
-
--- relocation words are there if the flag is 0
-abbrev pub words_of : Header → List ℕ → List Reloc → List ObjectWord
-words_of h ws rs = if eqb h.flag 0 then words_with ws rs else words_alone ws
+abbrev pub object_words : Contents → Part → List ObjectWord
+object_words c part = map object_word (placed_words c part)
 
 abbrev pub row_of : Symbol → SymbolRow
 row_of s = record { name = padded s.name; type_bits = s.type_bits; value = s.value }
 
 abbrev pub pieces_of : Contents → Pieces
-pieces_of c =
-    pieces (words_of c.header c.text_words c.text_reloc) (words_of c.header c.data_words c.data_reloc) c.header.bss_size
-    (map row_of c.symbols)
+pieces_of c = pieces (object_words c parts.Text) (object_words c parts.Data) c.header.bss_size (map row_of c.symbols)
 
 -- the parts of the object that the bytes begin with
 abbrev pub parts_in : List ℕ → Result Pieces Cause

@@ -19,18 +19,14 @@ elsewhere = record { part = 0; word = 0 }
 abbrev pub at_word : Header → ℕ → Located
 at_word h index = record { part = if nat_lt index (h.text_size / 2) then 1 else 2; word = index }
 
--- a relocation word is where the word is to which it belongs; 4 is the symbol table
-abbrev pub located_in : Header → ℕ → Located
-located_in h place =
+-- a relocation word is where the word is to which it belongs; 4 is the symbol table. Bytes that do not begin with a file have no parts
+abbrev pub located_in : Option Header → ℕ → Located
+located_in None place = elsewhere
+located_in (Some h) place =
     if nat_lt place 16 || nat_le (file_length h) place then elsewhere
     else (if nat_le (symbols_at h) place then record { part = 4; word = (place - symbols_at h) / 12 }
     else (if nat_le (relocation_at h) place then at_word h ((place - relocation_at h) / 2)
     else at_word h ((place - 16) / 2)))
-
--- bytes that do not begin with a file have no parts
-abbrev pub located_if : Option Header → ℕ → Located
-located_if None place = elsewhere
-located_if (Some h) place = located_in h place
 
 -- the texts, one after another
 abbrev pub texts_of : List Finding → List ℕ
@@ -44,23 +40,11 @@ records_from h at (f ∷ fs) = record {
   text = at;
   text_size = length f.text.items;
   kind = kind_number f.kind;
-  part = (located_if h f.place).part;
-  word = (located_if h f.place).word;
+  part = (located_in h f.place).part;
+  word = (located_in h f.place).word;
 } ∷ records_from h (at + length f.text.items) fs
 
 -- ---- what is remarked
-
-abbrev pub wrong_by : List ℕ → Result Contents ReadFault → List Found
-wrong_by bytes (Err fault) = wrong_bytes fault bytes
-wrong_by bytes (Ok c) = wrong_in (first_object_fault c) c
-
-abbrev pub header_by : Result Contents ReadFault → Option Header
-header_by (Err fault) = None
-header_by (Ok c) = Some c.header
-
-abbrev pub odd_by : List ℕ → Result Contents ReadFault → List Found
-odd_by bytes (Err fault) = []
-odd_by bytes (Ok c) = all_odd Flow true bytes c
 
 -- a status, bytes, and a list of records
 pub record Output (A : Type 0) : Type 0 where
@@ -88,9 +72,13 @@ pub record IsRemarkedBy (h : Option Header) (found more : List Found) (x : Outpu
   pub are_odd : all_found odd ≡ more
   pub remarked : x ≡ remarked_by h wrong odd
 
--- what is wrong in the bytes, and then what is odd in the file that they begin with
+-- what is wrong in the bytes, and then what is odd in the file that they begin with, if it is that
+abbrev pub IsRemarkedOf : List ℕ → Result Contents ReadFault → Output RemarkRecord → Type 0
+IsRemarkedOf bytes (Err fault) x = IsRemarkedBy None (wrong_bytes fault bytes) [] x
+IsRemarkedOf bytes (Ok c) x = IsRemarkedBy (Some c.header) (wrong_in (first_object_fault c) c) (all_odd Flow true bytes c) x
+
 abbrev pub IsRemarked : List ℕ → Output RemarkRecord → Type 0
-IsRemarked bytes x = IsRemarkedBy (header_by (decode bytes)) (wrong_by bytes (decode bytes)) (odd_by bytes (decode bytes)) x
+IsRemarked bytes x = IsRemarkedOf bytes (decode bytes) x
 
 abbrev pub remarks_in : Remarks → Output RemarkRecord
 remarks_in x = record { status = x.status; bytes = x.texts.items; records = x.records.items }

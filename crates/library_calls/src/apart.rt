@@ -2,61 +2,38 @@
 ghost use Rattle.std.specs.Prelude.{◌≡◌, ◌≢◌, ◌⊎◌, map, Ok, Err, IsOk, IfOk, IfErr};
 ghost use Rattle.aout_core.specs.Refusals.{refused};
 ghost use Rattle.library_calls.specs.MemoryWanted.{HasBody};
-ghost use Rattle.library_calls.specs.ObjectParts.{parts_in, pieces_in, pieces_of, row_of, whole_in, whole_of, words_alone, words_of, words_with};
+ghost use Rattle.library_calls.specs.ObjectParts.{object_word, object_words, parts_in, pieces_in, pieces_of, row_of, whole_in, whole_of};
 ghost use Rattle.library_calls.specs.declared.cause.Cause.TheVariants.{Memory};
 
 use crate::cause::Cause;
 use crate::first::{first_file, first_object};
 use crate::parts::{FileLists, ObjectWord, PartLists, SymbolRow};
-use aout_core::{File, Header, Reloc, Symbol};
+use aout_core::{File, Part, PlacedWord, Symbol};
 use link_maps::padded;
 use std::alloc::{AllocError, Global};
 
-/// Each word with its relocation word.
-fn words_with(
-    alloc: Global,
-    values: &[u16],
-    relocs: &[Reloc],
-) -> Result<Vec<ObjectWord>, AllocError>
-    ensures { IfOk result (λ words. words.items ≡ words_with values.now relocs.now) }
+/// A word with its relocation word, or with 0 if that was stripped.
+fn object_word(placed: PlacedWord) -> ObjectWord
+    ensures { result ≡ object_word placed }
 {
-    values
-        .iter()
-        .zip(relocs)
-        .map(|(value, reloc)| ObjectWord {
-            value: *value,
-            reloc: reloc.0,
-        })
-        .collect(alloc)
-}
-
-/// Each word with a relocation word of 0.
-fn words_alone(alloc: Global, values: &[u16]) -> Result<Vec<ObjectWord>, AllocError>
-    ensures { IfOk result (λ words. words.items ≡ words_alone values.now) }
-{
-    values
-        .iter()
-        .map(|value| ObjectWord {
-            value: *value,
-            reloc: 0,
-        })
-        .collect(alloc)
-}
-
-/// Each word with its relocation word, or with 0 if relocation was stripped.
-fn words_of(
-    alloc: Global,
-    header: &Header,
-    values: &[u16],
-    relocs: &[Reloc],
-) -> Result<Vec<ObjectWord>, AllocError>
-    ensures { IfOk result (λ words. words.items ≡ words_of header.now values.now relocs.now) }
-{
-    if header.flag == 0 {
-        words_with(alloc, values, relocs)
-    } else {
-        words_alone(alloc, values)
+    ObjectWord {
+        value: placed.word,
+        reloc: match placed.reloc {
+            Some(reloc) => reloc.0,
+            None => 0,
+        },
     }
+}
+
+fn object_words(alloc: Global, file: &File, part: Part) -> Result<Vec<ObjectWord>, AllocError>
+    ensures { IfOk result (λ words. words.items ≡ object_words file.now part) }
+{
+    let count = file.words_of(part).len();
+    let mut words = Vec::with_capacity(alloc, count)?;
+    for number in 0..count {
+        words.push(object_word(file.placed_word(part, number)))?;
+    }
+    Ok(words)
 }
 
 fn row_of(symbol: &Symbol) -> SymbolRow
@@ -75,20 +52,14 @@ fn rows_of(alloc: Global, symbols: &[Symbol]) -> Result<Vec<SymbolRow>, AllocErr
     symbols.iter().map(|symbol| row_of(symbol)).collect(alloc)
 }
 
-/// The parts of a file.
 fn parts_of(alloc: Global, file: &File) -> Result<PartLists, AllocError>
     ensures { IfOk result (λ parts. pieces_in parts ≡ pieces_of file.now) }
 {
-    let header = file.header();
-    let text = words_of(alloc, header, file.text_words(), file.text_reloc())?;
-    let data = words_of(alloc, header, file.data_words(), file.data_reloc())?;
-    let bss = header.bss_size;
-    let symbols = rows_of(alloc, file.symbols())?;
     Ok(PartLists {
-        text,
-        data,
-        bss,
-        symbols,
+        text: object_words(alloc, file, Part::Text)?,
+        data: object_words(alloc, file, Part::Data)?,
+        bss: file.header().bss_size,
+        symbols: rows_of(alloc, file.symbols())?,
     })
 }
 

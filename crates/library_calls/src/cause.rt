@@ -1,11 +1,10 @@
 //! Why a call has no answer.
 ghost use Rattle.std.specs.Prelude.{◌≡◌};
 ghost use Rattle.aout_core.specs.Refusals.{refused};
-ghost use Rattle.library_calls.specs.Causes.{cause_of_addition, cause_of_link, column_word, gnu_number, gnu_word, number_of, object_word, reason_number, size_number, word_of};
+ghost use Rattle.library_calls.specs.Causes.{cause_of_addition, cause_of_link, code_of, column_word, gnu_code, number_of, object_code, reason_number, word_of};
 ghost use Rattle.library_calls.specs.declared.cause.Cause.TheVariants.{Memory};
 
 use aout_core::{ObjectFault, ReadFault, Refused};
-use gnu_objects::Size;
 use link_out::LinkFault;
 use link_session::AddFault;
 use listings::{Fault, Reason};
@@ -143,14 +142,15 @@ impl From<Refused> for Refusal {
     }
 }
 
-fn object_number(fault: ObjectFault) -> u32
-    ensures { result ≡ number_of (Cause.BadObject fault) }
+/// The number of a fault, and the index of the word that has it.
+fn object_code(fault: ObjectFault) -> (u32, u32)
+    ensures { result ≡ object_code fault }
 {
     match fault {
-        ObjectFault::NotAnObject => 21,
-        ObjectFault::NoRelocation => 22,
-        ObjectFault::BadRelocation(_) => 23,
-        ObjectFault::BadSymbolNumber(_) => 24,
+        ObjectFault::NotAnObject => (21, 0),
+        ObjectFault::NoRelocation => (22, 0),
+        ObjectFault::BadRelocation(index) => (23, u32::from(index)),
+        ObjectFault::BadSymbolNumber(index) => (24, u32::from(index)),
     }
 }
 
@@ -181,28 +181,30 @@ fn reason_number(reason: Reason) -> u32
     }
 }
 
-fn gnu_number(refusal: gnu_objects::Refusal) -> u32
-    ensures { result ≡ gnu_number refusal }
+/// The number of a refusal, and the number in it, of two the first.
+fn gnu_code(refusal: gnu_objects::Refusal) -> (u32, u32)
+    ensures { result ≡ gnu_code refusal }
 {
-    match refusal {
-        gnu_objects::Refusal::ShortHeader => 11,
-        gnu_objects::Refusal::BadMagic(_) => 12,
-        gnu_objects::Refusal::OddSize(_) => 13,
-        gnu_objects::Refusal::Truncated => 14,
-        gnu_objects::Refusal::BadWord(fault) => object_number(fault),
-        gnu_objects::Refusal::TooManySymbols(_) => 42,
+    let (number, word) = match refusal {
+        gnu_objects::Refusal::ShortHeader => (11, 0),
+        gnu_objects::Refusal::BadMagic(magic) => (12, magic),
+        gnu_objects::Refusal::OddSize(size) => (13, size as u16 + 1),
+        gnu_objects::Refusal::Truncated => (14, 0),
+        gnu_objects::Refusal::BadWord(fault) => return object_code(fault),
+        gnu_objects::Refusal::TooManySymbols(count) => (42, count),
         // the cause is `Cause::Memory` then
-        gnu_objects::Refusal::Memory(_) => 0,
-        gnu_objects::Refusal::BadStrings => 81,
-        gnu_objects::Refusal::Overlay(_) => 82,
-        gnu_objects::Refusal::BadPlace(_) => 83,
-        gnu_objects::Refusal::Stab(_) => 84,
-        gnu_objects::Refusal::Description(_) => 85,
-        gnu_objects::Refusal::Linked(_) => 86,
-        gnu_objects::Refusal::AlikeNames(_, _) => 87,
-        gnu_objects::Refusal::StabWord(_) => 88,
-        gnu_objects::Refusal::LocalWord(_, _) => 89,
-    }
+        gnu_objects::Refusal::Memory(_) => (0, 0),
+        gnu_objects::Refusal::BadStrings => (81, 0),
+        gnu_objects::Refusal::Overlay(number) => (82, number),
+        gnu_objects::Refusal::BadPlace(number) => (83, number),
+        gnu_objects::Refusal::Stab(number) => (84, number),
+        gnu_objects::Refusal::Description(number) => (85, number),
+        gnu_objects::Refusal::Linked(entry) => (86, entry),
+        gnu_objects::Refusal::AlikeNames(number, _) => (87, number),
+        gnu_objects::Refusal::StabWord(number) => (88, number),
+        gnu_objects::Refusal::LocalWord(number, _) => (89, number),
+    };
+    (number, u32::from(word))
 }
 
 /// The column of a mistake, or the last number that there is.
@@ -216,90 +218,51 @@ fn column_word(column: usize) -> u32
     }
 }
 
-fn size_number(size: Size) -> u32
-    ensures { result ≡ size_number size }
-{
-    match size {
-        Size::TextSize => 1,
-        Size::DataSize => 2,
-        Size::BssSize => 3,
-        Size::SymbolSize => 4,
-    }
-}
-
-fn object_word(fault: ObjectFault) -> u32
-    ensures { result ≡ object_word fault }
-{
-    match fault {
-        ObjectFault::BadRelocation(index) | ObjectFault::BadSymbolNumber(index) => {
-            u32::from(index)
-        }
-        _ => 0,
-    }
-}
-
-/// The number in a refusal, of two the first.
-fn gnu_word(refusal: gnu_objects::Refusal) -> u32
-    ensures { result ≡ gnu_word refusal }
-{
-    match refusal {
-        gnu_objects::Refusal::OddSize(size) => size_number(size),
-        gnu_objects::Refusal::BadWord(fault) => object_word(fault),
-        gnu_objects::Refusal::BadMagic(number)
-        | gnu_objects::Refusal::Overlay(number)
-        | gnu_objects::Refusal::BadPlace(number)
-        | gnu_objects::Refusal::Stab(number)
-        | gnu_objects::Refusal::Description(number)
-        | gnu_objects::Refusal::Linked(number)
-        | gnu_objects::Refusal::TooManySymbols(number)
-        | gnu_objects::Refusal::AlikeNames(number, _)
-        | gnu_objects::Refusal::StabWord(number)
-        | gnu_objects::Refusal::LocalWord(number, _) => u32::from(number),
-        gnu_objects::Refusal::ShortHeader
-        | gnu_objects::Refusal::Truncated
-        | gnu_objects::Refusal::BadStrings
-        | gnu_objects::Refusal::Memory(_) => 0,
-    }
-}
-
 impl Cause {
+    /// Its number, and the number in it.
+    fn code(&self) -> (u32, u32)
+        ensures { result ≡ code_of self.now }
+    {
+        match *self {
+            Cause::NoOption => (1, 0),
+            Cause::Excluded => (2, 0),
+            Cause::LongName => (3, 0),
+            Cause::CutNames => (4, 0),
+            Cause::ManyNames => (5, 0),
+            Cause::TooLong(part) => (6, part as u32),
+            Cause::ShortStruct => (7, 0),
+            Cause::NoSession => (8, 0),
+            Cause::NoWant => (9, 0),
+            Cause::SessionOpen => (10, 0),
+            Cause::BadFile(ReadFault::ShortHeader) => (11, 0),
+            Cause::BadFile(ReadFault::BadMagic) => (12, 0),
+            Cause::BadFile(ReadFault::OddSize) => (13, 0),
+            Cause::BadFile(ReadFault::Truncated) => (14, 0),
+            Cause::BadObject(fault) => object_code(fault),
+            Cause::NotAdded(AddFault::TextFull) => (31, 0),
+            Cause::NotAdded(AddFault::DataFull) => (32, 0),
+            Cause::NotAdded(AddFault::BssFull) => (33, 0),
+            Cause::NotAdded(AddFault::NamesFull) => (34, 0),
+            Cause::NothingKept => (35, 0),
+            Cause::NotKept => (36, 0),
+            Cause::NotLinked(LinkFault::DoesNotFit) => (41, 0),
+            Cause::NotLinked(LinkFault::TooManySymbols) => (42, 0),
+            Cause::NotLinked(LinkFault::SymbolNumber) => (43, 0),
+            Cause::BadListing(fault) => (reason_number(fault.reason), column_word(fault.column)),
+            Cause::NotConverted(refusal) => gnu_code(refusal),
+            Cause::Memory(_) => (50, 0),
+            // no device is read, and what memory is missing for is `Memory`
+            Cause::BadFile(ReadFault::Memory(_) | ReadFault::Device(_))
+            | Cause::NotAdded(AddFault::Memory(_))
+            | Cause::NotLinked(LinkFault::Memory(_)) => (0, 0),
+        }
+    }
+
     /// The number by which other languages know the cause. (own choice)
     pub fn number(&self) -> u32
         ensures { result ≡ number_of self.now }
     {
-        match *self {
-            Cause::NoOption => 1,
-            Cause::Excluded => 2,
-            Cause::LongName => 3,
-            Cause::CutNames => 4,
-            Cause::ManyNames => 5,
-            Cause::TooLong(_) => 6,
-            Cause::ShortStruct => 7,
-            Cause::NoSession => 8,
-            Cause::NoWant => 9,
-            Cause::SessionOpen => 10,
-            Cause::BadFile(ReadFault::ShortHeader) => 11,
-            Cause::BadFile(ReadFault::BadMagic) => 12,
-            Cause::BadFile(ReadFault::OddSize) => 13,
-            Cause::BadFile(ReadFault::Truncated) => 14,
-            Cause::BadObject(fault) => object_number(fault),
-            Cause::NotAdded(AddFault::TextFull) => 31,
-            Cause::NotAdded(AddFault::DataFull) => 32,
-            Cause::NotAdded(AddFault::BssFull) => 33,
-            Cause::NotAdded(AddFault::NamesFull) => 34,
-            Cause::NothingKept => 35,
-            Cause::NotKept => 36,
-            Cause::NotLinked(LinkFault::DoesNotFit) => 41,
-            Cause::NotLinked(LinkFault::TooManySymbols) => 42,
-            Cause::NotLinked(LinkFault::SymbolNumber) => 43,
-            Cause::BadListing(fault) => reason_number(fault.reason),
-            Cause::NotConverted(refusal) => gnu_number(refusal),
-            Cause::Memory(_) => 50,
-            // no device is read, and what memory is missing for is `Memory`
-            Cause::BadFile(ReadFault::Memory(_) | ReadFault::Device(_))
-            | Cause::NotAdded(AddFault::Memory(_))
-            | Cause::NotLinked(LinkFault::Memory(_)) => 0,
-        }
+        self.code().0
     }
 
     /// The index of the word that is at fault, text before data, from 0, or the number of the part that is too long. For a mistake in a
@@ -308,12 +271,6 @@ impl Cause {
     pub fn word(&self) -> u32
         ensures { result ≡ word_of self.now }
     {
-        match *self {
-            Cause::TooLong(part) => part as u32,
-            Cause::BadObject(fault) => object_word(fault),
-            Cause::BadListing(fault) => column_word(fault.column),
-            Cause::NotConverted(refusal) => gnu_word(refusal),
-            _ => 0,
-        }
+        self.code().1
     }
 }

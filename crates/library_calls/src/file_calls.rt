@@ -6,10 +6,11 @@ ghost use Rattle.library_calls.specs.declared.cause.Cause.TheVariants.{Memory};
 ghost use Rattle.library_calls.specs.{FileAnswers.{checked_in, names_in, sizes_in, stripped_in}, MemoryWanted.HasBody};
 
 use crate::cause::Cause;
-use crate::first::{file_length, first_file, first_object};
+use crate::first::{first_file, first_object};
 use crate::requests::nm_options;
 use crate::written::{bytes_of, taken};
 use aout_core::{File, Wire, strip_file};
+use checks::FilePlaces;
 use std::alloc::{AllocError, Global};
 use symtools::{NmOptions, nm, size};
 
@@ -24,7 +25,7 @@ pub fn check(alloc: Global, bytes: &[u8]) -> Result<usize, Cause>
     ensures memory { IfErr result (λ cause. cause ≡ Memory refused → HasBody bytes.now) }
 {
     let object = first_object(alloc, bytes)?;
-    Ok(file_length(object.file().header()))
+    Ok(FilePlaces::of(object.file().header()).end)
 }
 
 /// The bytes of the file that the bytes begin with, without relocation and symbols. What is after it is not looked at.

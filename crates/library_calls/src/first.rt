@@ -1,20 +1,12 @@
 //! The file and the object that bytes begin with.
 ghost use Rattle.std.specs.Prelude.{◌≡◌, ◌≢◌, Ok, Err, IfOk, IfErr};
-ghost use Rattle.aout_core.specs.{Refusals.refused, Decoding.decode, Encoding.file_length};
+ghost use Rattle.aout_core.specs.{Refusals.refused, Decoding.decode};
 ghost use Rattle.library_calls.specs.declared.cause.Cause.TheVariants.{Memory};
 ghost use Rattle.library_calls.specs.{FileAnswers.{file_in, object_in, object_of}, MemoryWanted.HasBody};
 
 use crate::cause::Cause;
-use aout_core::{File, Header, Object, decode_file};
-use checks::FilePlaces;
+use aout_core::{File, Object, decode_file};
 use std::alloc::Global;
-
-/// How many bytes a file with this header takes.
-pub(crate) fn file_length(header: &Header) -> usize
-    ensures { result ≡ file_length header.now }
-{
-    FilePlaces::of(header).end
-}
 
 /// The file that the bytes begin with. Memory is requested only for what a whole file has after its header.
 #[tactic(auto, using(crate::proofs::FileLemmas::has_body))]
@@ -29,7 +21,6 @@ pub(crate) fn first_file(alloc: Global, bytes: &[u8]) -> Result<File, Cause>
     }
 }
 
-/// The file as an object.
 pub(crate) fn object_of(file: File) -> Result<Object, Cause>
     ensures ok { IfOk result (λ object. object_of file ≡ Ok object) }
     ensures err { IfErr result (λ cause. object_of file ≡ Err cause) }

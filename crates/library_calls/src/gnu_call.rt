@@ -3,7 +3,7 @@ ghost use Rattle.std.specs.Prelude.{◌≡◌, ◌≢◌, Ok, Err, IfOk, IfErr};
 ghost use Rattle.aout_core.specs.Refusals.{refused};
 ghost use Rattle.gnu_objects.specs.{Converted.converted, GnuRefusals.sizes_refusal};
 ghost use Rattle.link_out.specs.Steps.{refused_as};
-ghost use Rattle.library_calls.specs.GnuAnswers.{ConversionMayRunOut, conversion_in, conversion_of, converted_in, refused_in};
+ghost use Rattle.library_calls.specs.GnuAnswers.{ConversionMayRunOut, conversion_in, converted_in, refused_in};
 ghost use Rattle.library_calls.specs.declared.cause.Cause.TheVariants.{Memory};
 
 use crate::cause::{Cause, Refusal};
@@ -14,9 +14,13 @@ use gnu_objects::{Locals, Options, convert, place_of};
 use std::alloc::Global;
 
 /// What a conversion leaves out, by its bits.
-fn conversion_of(bits: u32) -> Options
-    ensures { result ≡ conversion_of bits }
+fn conversion_in(bits: u32) -> Result<Options, Cause>
+    ensures { result ≡ conversion_in bits }
 {
+    if bits > 7 {
+        return Err(Cause::NoOption);
+    }
+    let drops_debugger = has_bit(bits, 1);
     let locals = if has_bit(bits, 4) {
         Locals::KeepNone
     } else if has_bit(bits, 2) {
@@ -24,19 +28,10 @@ fn conversion_of(bits: u32) -> Options
     } else {
         Locals::KeepAll
     };
-    Options {
-        drops_debugger: has_bit(bits, 1),
+    Ok(Options {
+        drops_debugger,
         locals,
-    }
-}
-
-fn conversion_in(bits: u32) -> Result<Options, Cause>
-    ensures { result ≡ conversion_in bits }
-{
-    if bits > 7 {
-        return Err(Cause::NoOption);
-    }
-    Ok(conversion_of(bits))
+    })
 }
 
 /// The object that one in GNU's form becomes.

@@ -9,10 +9,9 @@ ghost use Rattle.library_calls.specs.declared.cause.Cause.TheVariants.{Memory, N
 
 use crate::cause::{Cause, Refusal};
 use crate::first::first_object;
-use crate::json::state_json;
-use crate::lines::state_lines;
 use crate::requests::{forced_names, tool_options};
 use crate::run_call::{RunResult, Wants, given_of, link_kept};
+use crate::shown::{Form, shown_text};
 use aout_core::Object;
 use link_out::Options;
 use link_session::Session;
@@ -118,7 +117,7 @@ pub fn link_session(
     run_kept(alloc, session, wants, &options)
 }
 
-/// What a session shows: with form 0 the lines of `state_lines`, and with form 1 the JSON of `state_json`. (own choice)
+/// What a session shows: with form 0 as lines, and with form 1 as JSON, by `shown_text`. (own choice)
 ///
 /// Errors: `NoOption`, 1, if the form is another number. `Memory`, 50, if memory runs out for the text.
 pub fn state_of(alloc: Global, session: &Session, form: u32) -> Result<Vec<u8>, Cause>
@@ -127,9 +126,10 @@ pub fn state_of(alloc: Global, session: &Session, form: u32) -> Result<Vec<u8>, 
     ensures memory { IfErr result (λ cause. cause ≡ Memory refused → IsOk (shown_in form session.now)) }
     ensures journal { IfOk result (λ _. HasJournal session.now) }
 {
-    match form {
-        0 => Ok(state_lines(alloc, session)?),
-        1 => Ok(state_json(alloc, session)?),
-        _ => Err(Cause::NoOption),
-    }
+    let form = match form {
+        0 => Form::Lines,
+        1 => Form::Json,
+        _ => return Err(Cause::NoOption),
+    };
+    Ok(shown_text(alloc, form, session)?)
 }

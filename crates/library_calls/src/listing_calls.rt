@@ -4,7 +4,7 @@ ghost use Rattle.aout_core.specs.Refusals.{refused};
 ghost use Rattle.link_out.specs.Steps.{refused_as};
 ghost use Rattle.listings.specs.{MemoryWanted.ListingMayRunOut, Reading.read, declared.draft.Addresses.TheVariants.Compared};
 ghost use Rattle.library_calls.specs.declared.cause.Cause.TheVariants.{Memory};
-ghost use Rattle.library_calls.specs.{Causes.first_mistake, ListingAnswers.{DescribedMayRunOut, described_in, listed, listed_in}};
+ghost use Rattle.library_calls.specs.{Causes.first_mistake, FileAnswers.{IsTextOf, file_in}, ListingAnswers.{DescribedMayRunOut, IsListingOf, described_in}};
 
 use crate::cause::{Cause, Refusal};
 use crate::first::first_file;
@@ -16,20 +16,13 @@ use explanations::write_explained;
 use listings::{Addresses, ListingFault, read_listing};
 use std::alloc::{AllocError, Global};
 
-/// The listing of a file with explanations, and without notes, by its lines.
-fn listing_by(alloc: Global, sweep: &Sweep<'_>) -> Result<Vec<u8>, AllocError>
-    ensures { IfOk result (λ text. text.items ≡ listed sweep.now) }
-{
-    let none = Notes::new(alloc);
-    write_explained(alloc, sweep, &none, &none)
-}
-
 /// The listing of a file with explanations, and without notes.
 fn listing_of(alloc: Global, file: &File) -> Result<Vec<u8>, AllocError>
-    ensures { IfOk result (λ text. text.items ≡ listed file.now) }
+    ensures { IfOk result (λ text. IsListingOf file.now text.items) }
 {
     let sweep = Sweep::new(alloc, file)?;
-    listing_by(alloc, &sweep)
+    let none = Notes::new(alloc);
+    write_explained(alloc, &sweep, &none, &none)
 }
 
 /// The listing of the file that the bytes begin with, as v7-explain(1) prints it but for the lines that begin with a slash.
@@ -37,15 +30,14 @@ fn listing_of(alloc: Global, file: &File) -> Result<Vec<u8>, AllocError>
 ///
 /// Errors: `BadFile`, 11 to 14, if the bytes do not begin with a file; else `Memory`, 50, if memory runs out.
 pub fn list_file(alloc: Global, bytes: &[u8]) -> Result<Vec<u8>, Cause>
-    ensures ok { IfOk result (λ text. listed_in bytes.now ≡ Ok text.items) }
-    ensures err { IfErr result (λ cause. cause ≢ Memory refused → listed_in bytes.now ≡ Err cause) }
-    ensures memory { IfErr result (λ cause. cause ≡ Memory refused → IsOk (listed_in bytes.now)) }
+    ensures ok { IfOk result (λ text. IsTextOf IsListingOf (file_in bytes.now) text.items) }
+    ensures err { IfErr result (λ cause. cause ≢ Memory refused → file_in bytes.now ≡ Err cause) }
+    ensures memory { IfErr result (λ cause. cause ≡ Memory refused → IsOk (file_in bytes.now)) }
 {
     let file = first_file(alloc, bytes)?;
     Ok(listing_of(alloc, &file)?)
 }
 
-/// The file that a listing describes.
 fn file_described(alloc: Global, text: &[u8]) -> Result<File, Refusal>
     ensures ok { IfOk result (λ file. refused_as first_mistake (read Compared text.now) ≡ Ok file) }
     ensures err { IfErr result (λ r.

@@ -1,7 +1,7 @@
 //! Objects made of their parts.
 ghost use Rattle.std.specs.Prelude.{◌≡◌, ◌≢◌, ◌%◌, map, Ok, Err, IsOk, IfOk, IfErr};
 ghost use Rattle.aout_core.specs.{Refusals.refused, Parts.contents_of};
-ghost use Rattle.library_calls.specs.ObjectParts.{contents_for, file_for, header_for, header_of, made_of, pieces, reloc_of, symbol_of};
+ghost use Rattle.library_calls.specs.ObjectParts.{contents_for, file_for, header_for, header_of, made_of, pieces_for, reloc_of, symbol_of};
 ghost use Rattle.library_calls.specs.declared.cause.Cause.TheVariants.{Memory};
 
 use crate::cause::{Cause, LongPart};
@@ -11,12 +11,9 @@ use crate::written::bytes_of;
 use aout_core::{File, Header, Name, Parts, ReadFault, Reloc, Symbol};
 use std::alloc::{AllocError, Global};
 
-/// The header of an object of these parts.
 fn header_for(parts: &ObjectParts<'_>) -> Result<Header, Cause>
-    ensures value { result ≡ header_for
-        (pieces parts.now.text.now parts.now.data.now parts.now.bss parts.now.symbols.now) }
-    ensures header { IfOk result (λ header. header ≡ header_of
-        (pieces parts.now.text.now parts.now.data.now parts.now.bss parts.now.symbols.now)) }
+    ensures value { result ≡ header_for (pieces_for parts.now) }
+    ensures header { IfOk result (λ header. header ≡ header_of (pieces_for parts.now)) }
     ensures even { IfOk result (λ _. parts.now.bss % 2 ≡ 0) }
 {
     if parts.text.len() > 32_767 {
@@ -74,10 +71,8 @@ fn symbols_of(alloc: Global, rows: &[SymbolRow]) -> Result<Vec<Symbol>, AllocErr
     rows.iter().map(|row| symbol_of(row)).collect(alloc)
 }
 
-/// The parts as those of a file with this header.
 fn parts_with(alloc: Global, header: Header, parts: &ObjectParts<'_>) -> Result<Parts, AllocError>
-    ensures { IfOk result (λ lists. contents_of lists ≡ contents_for
-        (pieces parts.now.text.now parts.now.data.now parts.now.bss parts.now.symbols.now) header) }
+    ensures { IfOk result (λ lists. contents_of lists ≡ contents_for (pieces_for parts.now) header) }
 {
     let text_words = values_of(alloc, parts.text)?;
     let data_words = values_of(alloc, parts.data)?;
@@ -94,16 +89,11 @@ fn parts_with(alloc: Global, header: Header, parts: &ObjectParts<'_>) -> Result<
     })
 }
 
-/// The file of the parts.
 fn file_for(alloc: Global, parts: &ObjectParts<'_>) -> Result<File, Cause>
-    ensures ok { IfOk result (λ file.
-        file_for (pieces parts.now.text.now parts.now.data.now parts.now.bss parts.now.symbols.now)
-        ≡ Ok file) }
-    ensures err { IfErr result (λ cause. cause ≢ Memory refused → file_for
-        (pieces parts.now.text.now parts.now.data.now parts.now.bss parts.now.symbols.now)
-        ≡ Err cause) }
-    ensures memory { IfErr result (λ cause. cause ≡ Memory refused → IsOk (file_for
-        (pieces parts.now.text.now parts.now.data.now parts.now.bss parts.now.symbols.now))) }
+    ensures ok { IfOk result (λ file. file_for (pieces_for parts.now) ≡ Ok file) }
+    ensures err { IfErr result (λ cause.
+        cause ≢ Memory refused → file_for (pieces_for parts.now) ≡ Err cause) }
+    ensures memory { IfErr result (λ cause. cause ≡ Memory refused → IsOk (file_for (pieces_for parts.now))) }
 {
     let header = header_for(parts)?;
     let lists = parts_with(alloc, header, parts)?;
@@ -121,14 +111,10 @@ fn file_for(alloc: Global, parts: &ObjectParts<'_>) -> Result<File, Cause>
 ///
 /// `Memory`, 50, if memory runs out for parts that are not too long and whose bss is not odd.
 pub fn make(alloc: Global, parts: &ObjectParts<'_>) -> Result<Vec<u8>, Cause>
-    ensures ok { IfOk result (λ written.
-        made_of (pieces parts.now.text.now parts.now.data.now parts.now.bss parts.now.symbols.now)
-        ≡ Ok written.items) }
-    ensures err { IfErr result (λ cause. cause ≢ Memory refused
-        → made_of (pieces parts.now.text.now parts.now.data.now parts.now.bss parts.now.symbols.now)
-        ≡ Err cause) }
-    ensures memory { IfErr result (λ cause. cause ≡ Memory refused → IsOk (file_for
-        (pieces parts.now.text.now parts.now.data.now parts.now.bss parts.now.symbols.now))) }
+    ensures ok { IfOk result (λ written. made_of (pieces_for parts.now) ≡ Ok written.items) }
+    ensures err { IfErr result (λ cause.
+        cause ≢ Memory refused → made_of (pieces_for parts.now) ≡ Err cause) }
+    ensures memory { IfErr result (λ cause. cause ≡ Memory refused → IsOk (file_for (pieces_for parts.now))) }
 {
     let file = file_for(alloc, parts)?;
     let object = object_of(file)?;

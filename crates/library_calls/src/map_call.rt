@@ -4,8 +4,8 @@ ghost use Rattle.aout_core.specs.Refusals.{refused};
 ghost use Rattle.link_session.specs.Labelled.{objects};
 ghost use Rattle.link_maps.specs.{Links.read_inputs, Members.{all_of, cause_of}};
 ghost use Rattle.library_calls.specs.LinkAnswers.{each_of};
-ghost use Rattle.library_calls.specs.MapAnswers.{AreTaken, HasNoMap, IsMapAnswer, IsMapped, MapMayRunOut, head_by, linked_head, made_head};
-ghost use Rattle.library_calls.specs.MapAnswers.{map_asked, map_of_all, objects_each, placed_head, run_shown};
+ghost use Rattle.library_calls.specs.MapAnswers.{AreTaken, IsMapAnswer, IsMapped, MapMayRunOut, head_by, made_head, map_asked, map_given};
+ghost use Rattle.library_calls.specs.MapAnswers.{map_of_all, no_map, objects_each, placed_head, run_shown};
 ghost use Rattle.library_calls.specs.declared.cause.Cause.TheVariants.{Memory};
 ghost use Rattle.library_calls.specs.{MemoryWanted.{HasBody, MayRunOutInParts}, RunAnswers.results_of, internal.Taken.with_read};
 
@@ -14,7 +14,7 @@ use crate::first::first_object;
 use crate::parts::ObjectBytes;
 use crate::requests::{LinkRequest, forced_names, tool_options};
 use crate::run_call::{RunResult, Wants, result_of};
-use link_maps::{LinkMap, MapRecords, Objects, Outcome, map_of, padded, records_of};
+use link_maps::{LinkMap, MapRecords, Objects, map_of, padded, records_of};
 use link_out::{Bases, Linked, Options};
 use link_session::{Forced, Session};
 use std::alloc::{AllocError, Global};
@@ -57,7 +57,7 @@ impl LinkOutput {
     /// A file and a report, without a map.
     pub fn without_map(alloc: Global, run: RunResult) -> LinkOutput
         ensures run { result.run ≡ run }
-        ensures none { HasNoMap result }
+        ensures none { map_given result ≡ no_map }
     {
         let records = MapRecords {
             objects: Vec::new(alloc),
@@ -155,16 +155,6 @@ fn placed_head(bases: &Bases, fault: u32) -> MapHead
     }
 }
 
-/// The head of a link all of whose objects are taken.
-fn outcome_head(outcome: &Outcome) -> MapHead
-    ensures { result ≡ linked_head outcome.now.bases outcome.now.linked }
-{
-    match &outcome.linked {
-        Ok(linked) => made_head(&outcome.bases, linked),
-        Err(fault) => placed_head(&outcome.bases, Cause::NotLinked(*fault).number()),
-    }
-}
-
 /// What becomes of the link of a map.
 fn head_of(map: &LinkMap, all: &Objects) -> MapHead
     ensures { result
@@ -177,7 +167,10 @@ fn head_of(map: &LinkMap, all: &Objects) -> MapHead
             ..NOTHING
         },
         None => match &map.outcome {
-            Some(outcome) => outcome_head(outcome),
+            Some(outcome) => match &outcome.linked {
+                Ok(linked) => made_head(&outcome.bases, linked),
+                Err(fault) => placed_head(&outcome.bases, Cause::NotLinked(*fault).number()),
+            },
             None => NOTHING,
         },
     }

@@ -1,12 +1,13 @@
 //! The objects of the names of a report.
-ghost use Rattle.std.specs.Prelude.{◌≡◌, length, map, IfOk};
+ghost use Rattle.std.specs.Prelude.{◌≡◌, IfOk};
 ghost use Rattle.link_out.specs.Outcomes.{report_names};
-ghost use Rattle.link_session.specs.{Labelled.objects, Mentions.mentions, States.multiple_names};
-ghost use Rattle.library_calls.specs.FindingPlaces.{entry_places, finding_places, further_places, name_count, place_of, place_with, places_with};
+ghost use Rattle.link_session.specs.Labelled.{objects};
+ghost use Rattle.library_calls.specs.FindingPlaces.{finding_places, place_at, places_with};
 ghost use Rattle.library_calls.specs.internal.Numbered.{IsIndex, found};
 
 use crate::further::further_objects;
 use crate::numbers::{Numbers, numbers_of};
+use crate::reported::reported_names;
 use aout_core::Name;
 use link_out::Report;
 use link_session::{Entry, Session};
@@ -54,69 +55,34 @@ fn found(index: &Index, name: &Name) -> usize
     }
 }
 
-fn place_with(index: &Index, name: &Name, further: usize) -> FindingPlace
-    ensures { result ≡ place_with (found index.now) name.now further }
+/// The objects of the name of this index.
+fn place_at(index: &Index, numbers: &[usize], place: usize, name: &Name) -> FindingPlace
+    ensures { result ≡ place_at (found index.now) numbers.now place name.now }
 {
     FindingPlace {
         first: found(index, name),
-        further,
+        further: match numbers.get(place) {
+            Some(number) => *number,
+            None => NO_OBJECT,
+        },
     }
 }
 
-/// The objects of names that are not multiply defined.
-fn placed(alloc: Global, index: &Index, names: &[Name]) -> Result<Vec<FindingPlace>, AllocError>
-    ensures { IfOk result (λ places. places.items ≡ map (place_of (found index.now)) names.now) }
-{
-    names
-        .iter()
-        .map(|name| place_with(index, name, NO_OBJECT))
-        .collect(alloc)
-}
-
-/// The objects of names that are multiply defined, with these further objects.
-fn placed_with(
+/// The objects of these names. The first ones are multiply defined, with these further objects.
+#[tactic(auto, using(crate::proofs::ItemLemmas::by_item))]
+fn places_with(
     alloc: Global,
     index: &Index,
-    names: &[Name],
     numbers: &[usize],
+    names: &[(u32, Name)],
 ) -> Result<Vec<FindingPlace>, AllocError>
     ensures { IfOk result (λ places.
-        places.items ≡ further_places (found index.now) names.now numbers.now) }
+        places.items ≡ places_with (found index.now) numbers.now names.now) }
 {
-    names
-        .iter()
-        .zip(numbers)
-        .map(|(name, number)| place_with(index, name, *number))
-        .collect(alloc)
-}
-
-fn entry_placed(
-    alloc: Global,
-    index: &Index,
-    entry: &Option<Name>,
-) -> Result<Vec<FindingPlace>, AllocError>
-    ensures { IfOk result (λ places. places.items ≡ entry_places (found index.now) entry.now) }
-{
-    match entry {
-        Some(name) => placed(alloc, index, &[*name]),
-        None => Ok(Vec::new(alloc)),
+    let mut places = Vec::with_capacity(alloc, names.len())?;
+    for (place, reported) in names.iter().enumerate() {
+        places.push(place_at(index, numbers, place, &reported.1))?;
     }
-}
-
-/// The objects of all names of a report, in the order of its lines.
-fn all_placed(
-    alloc: Global,
-    index: &Index,
-    report: &Report,
-    numbers: &[usize],
-) -> Result<Vec<FindingPlace>, AllocError>
-    ensures { IfOk result (λ places.
-        places.items ≡ places_with (found index.now) numbers.now (report_names report.now)) }
-{
-    let mut places = placed_with(alloc, index, &report.multiples, numbers)?;
-    places.extend_from_slice(&placed(alloc, index, &report.reserved)?)?;
-    places.extend_from_slice(&entry_placed(alloc, index, &report.entry_bad)?)?;
-    places.extend_from_slice(&placed(alloc, index, &report.undefined)?)?;
     Ok(places)
 }
 
@@ -128,13 +94,11 @@ pub(crate) fn places_of(
     session: Session,
     report: &Report,
 ) -> Result<Vec<FindingPlace>, AllocError>
-    ensures value { IfOk result (λ places. places.items
+    ensures { IfOk result (λ places. places.items
         ≡ finding_places session.forced (objects session.entries) (report_names report.now)) }
-    ensures each { report.now.multiples.items
-        ≡ multiple_names (mentions session.forced (objects session.entries))
-        → IfOk result (λ places. length places.items ≡ name_count (report_names report.now)) }
 {
     let index = index_of(alloc, session.entries())?;
     let numbers = further_objects(alloc, session)?;
-    all_placed(alloc, &index, report, &numbers)
+    let names = reported_names(alloc, report)?;
+    places_with(alloc, &index, &numbers, &names)
 }

@@ -2,7 +2,7 @@
 ghost use Rattle.std.specs.Prelude.{◌≡◌, ◌∷◌, ◌<◌, ◌^◌, [], IfOk, IfErr, None, Some, true};
 ghost use Rattle.aout_core.specs.{Refusals.refused, WellFormed.first_object_fault};
 ghost use Rattle.checks.specs.{Wrong.{wrong_bytes, wrong_in}, Suspicions.all_odd, declared.evidence.Evidence.TheVariants.Flow};
-ghost use Rattle.library_calls.specs.RemarkAnswers.{IsRemarked, IsRemarkedBy, at_word, located_in, located_if, records_from, remarked_by, remarks_in, status_by, texts_of};
+ghost use Rattle.library_calls.specs.RemarkAnswers.{IsRemarked, IsRemarkedBy, at_word, located_in, records_from, remarked_by, remarks_in, status_by, texts_of};
 ghost use Rattle.library_calls.specs.declared.cause.Cause.TheVariants.{Memory};
 
 use crate::cause::Cause;
@@ -45,7 +45,6 @@ pub struct Remarks {
     pub records: Vec<RemarkRecord>,
 }
 
-/// The word of this index.
 fn at_word(header: &Header, index: usize) -> Located
     requires { index < 2 ^ 20 }
     ensures { result ≡ at_word header.now index }
@@ -57,10 +56,14 @@ fn at_word(header: &Header, index: usize) -> Located
     }
 }
 
-/// Where a byte of a file is: in text, data or their relocation, in the symbol table, or elsewhere.
-fn located_in(header: &Header, place: usize) -> Located
+/// Where a byte of a file is: in text, data or their relocation, in the symbol table, or elsewhere, as of bytes that do not begin with a
+/// file.
+fn located_in(header: &Option<Header>, place: usize) -> Located
     ensures { result ≡ located_in header.now place }
 {
+    let Some(header) = header else {
+        return Located { part: 0, word: 0 };
+    };
     let places = FilePlaces::of(header);
     if place < places.text || places.end <= place {
         return Located { part: 0, word: 0 };
@@ -77,21 +80,11 @@ fn located_in(header: &Header, place: usize) -> Located
     at_word(header, (place - places.text) / 2)
 }
 
-/// The same of bytes that may not begin with a file.
-fn located_if(header: &Option<Header>, place: usize) -> Located
-    ensures { result ≡ located_if header.now place }
-{
-    match header {
-        Some(header) => located_in(header, place),
-        None => Located { part: 0, word: 0 },
-    }
-}
-
 /// The record of a finding whose text begins at this place of all texts.
 fn record_of(header: &Option<Header>, finding: &Finding, text: usize) -> RemarkRecord
     ensures { result ∷ [] ≡ records_from header.now text (finding.now ∷ []) }
 {
-    let at = located_if(header, finding.place);
+    let at = located_in(header, finding.place);
     RemarkRecord {
         place: finding.place,
         text,
@@ -132,7 +125,6 @@ fn status_by(wrong: &[Finding]) -> u8
     }
 }
 
-/// The remarks of what is wrong, and of what is odd.
 fn remarks_by(
     alloc: Global,
     header: &Option<Header>,
@@ -156,7 +148,6 @@ fn remarks_by(
     })
 }
 
-/// The remarks on a file that is in these bytes.
 #[tactic(auto, using(crate::proofs::RemarkLemmas::by_findings))]
 fn file_remarks(alloc: Global, bytes: &[u8], file: &File) -> Result<Remarks, AllocError>
     ensures { IfOk result (λ x. IsRemarkedBy (Some file.now.header)

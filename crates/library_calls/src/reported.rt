@@ -1,7 +1,7 @@
 //! The report of a link, as a list.
-ghost use Rattle.std.specs.Prelude.{◌≡◌, map, IfOk};
+ghost use Rattle.std.specs.Prelude.{◌≡◌, option_to_list, IfOk};
 ghost use Rattle.link_out.specs.Outcomes.{report_names};
-ghost use Rattle.library_calls.specs.LinkAnswers.{all_findings, entry_findings, finding_of};
+ghost use Rattle.library_calls.specs.LinkAnswers.{all_findings, of_kind, reported_names};
 
 use aout_core::Name;
 use link_maps::padded;
@@ -19,42 +19,45 @@ pub struct ReportedName {
     pub kind: u32,
 }
 
-fn finding_of(kind: u32, name: &Name) -> ReportedName
-    ensures { result ≡ finding_of kind name.now }
+/// Names of a report, each with its kind.
+pub(crate) type Reported = Vec<(u32, Name)>;
+
+fn of_kind(alloc: Global, kind: u32, names: &[Name]) -> Result<Reported, AllocError>
+    ensures { IfOk result (λ found. found.items ≡ of_kind kind names.now) }
 {
-    ReportedName {
-        name: padded(name),
-        kind,
-    }
+    names.iter().map(|name| (kind, *name)).collect(alloc)
 }
 
-/// A finding of each name.
-fn named(alloc: Global, kind: u32, names: &[Name]) -> Result<Vec<ReportedName>, AllocError>
-    ensures { IfOk result (λ found. found.items ≡ map (finding_of kind) names.now) }
-{
-    names
-        .iter()
-        .map(|name| finding_of(kind, name))
-        .collect(alloc)
-}
-
-/// The finding of an entry point that is not in text.
-fn entry_findings(alloc: Global, entry: &Option<Name>) -> Result<Vec<ReportedName>, AllocError>
-    ensures { IfOk result (λ found. found.items ≡ entry_findings entry.now) }
+/// The name of an entry point that is not in text.
+fn entry_reported(alloc: Global, entry: &Option<Name>) -> Result<Reported, AllocError>
+    ensures { IfOk result (λ found. found.items ≡ of_kind 3 (option_to_list entry.now)) }
 {
     match entry {
-        Some(name) => named(alloc, 3, &[*name]),
+        Some(name) => of_kind(alloc, 3, &[*name]),
         None => Ok(Vec::new(alloc)),
     }
+}
+
+/// The names of a report, in the order of its lines.
+pub(crate) fn reported_names(alloc: Global, report: &Report) -> Result<Reported, AllocError>
+    ensures { IfOk result (λ found. found.items ≡ reported_names (report_names report.now)) }
+{
+    let mut found = of_kind(alloc, 1, &report.multiples)?;
+    found.extend_from_slice(&of_kind(alloc, 2, &report.reserved)?)?;
+    found.extend_from_slice(&entry_reported(alloc, &report.entry_bad)?)?;
+    found.extend_from_slice(&of_kind(alloc, 4, &report.undefined)?)?;
+    Ok(found)
 }
 
 /// What is reported of a link, in the order of its lines.
 pub(crate) fn all_findings(alloc: Global, report: &Report) -> Result<Vec<ReportedName>, AllocError>
     ensures { IfOk result (λ found. found.items ≡ all_findings (report_names report.now)) }
 {
-    let mut found = named(alloc, 1, &report.multiples)?;
-    found.extend_from_slice(&named(alloc, 2, &report.reserved)?)?;
-    found.extend_from_slice(&entry_findings(alloc, &report.entry_bad)?)?;
-    found.extend_from_slice(&named(alloc, 4, &report.undefined)?)?;
-    Ok(found)
+    reported_names(alloc, report)?
+        .iter()
+        .map(|(kind, name)| ReportedName {
+            name: padded(name),
+            kind: *kind,
+        })
+        .collect(alloc)
 }

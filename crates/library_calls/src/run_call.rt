@@ -87,7 +87,6 @@ fn lines_if(alloc: Global, is_wanted: bool, report: &Report) -> Result<Vec<u8>, 
     }
 }
 
-/// What is reported, if it is wanted.
 fn findings_if(
     alloc: Global,
     is_wanted: bool,

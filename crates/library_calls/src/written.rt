@@ -20,7 +20,6 @@ pub(crate) fn taken<E: Drop>(
     }
 }
 
-/// The bytes of a file.
 #[tactic(auto, using(crate::proofs::WrittenLemmas::all_written))]
 pub(crate) fn bytes_of(alloc: Global, file: &File) -> Result<Vec<u8>, AllocError>
     ensures { IfOk result (λ written. written.items ≡ encoding file.now) }
@@ -30,7 +29,6 @@ pub(crate) fn bytes_of(alloc: Global, file: &File) -> Result<Vec<u8>, AllocError
     taken(wire, written)
 }
 
-/// The lines of a report.
 #[tactic(auto, using(crate::proofs::WrittenLemmas::all_written))]
 pub(crate) fn lines_of(alloc: Global, report: &Report) -> Result<Vec<u8>, AllocError>
     ensures { IfOk result (λ lines. lines.items ≡ report_text (report_names report.now)) }

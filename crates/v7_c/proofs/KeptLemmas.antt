@@ -12,7 +12,7 @@ use Rattle.v7_c.specs.{RunLeft.or_unread, RunLeft.results_or, RunLeft.unread, Ru
 use Rattle.v7_c.proofs.{LeftLemmas.refusal_by, RunLemmas.never_memory}
 
 pub change_left : {A B : Type 0} (asked : Result A Refusal) (MayRunOut : Type 0) (Changes : Option Kept → Option Kept → Type 0)
-    (old new : Option Kept) (l : Left) (r : Result B Refusal) → l ≡ done_by (refusal_in r) → OnOk r (Changes old new) →
+    (old new : Option Kept) (l : Left (List ℕ)) (r : Result B Refusal) → l ≡ done_by (refusal_in r) → OnOk r (Changes old new) →
     IfErr r (λ refusal. refusal.cause ≢ Memory refused → asked ≡ Err refusal) →
     IfErr r (λ refusal. refusal.cause ≡ Memory refused → (refusal.place ≡ 0) × MayRunOut) → OnErr r (new ≡ old) →
     LeavesChange asked MayRunOut Changes old new l
@@ -20,7 +20,7 @@ change_left asked MayRunOut Changes old new l (Ok x) is ok err memory unchanged 
 change_left asked MayRunOut Changes old new l (Err refusal) is ok err memory unchanged =
     record { refusal = Some refusal; made = (unchanged, refusal_by asked (Unplaced MayRunOut) refusal err memory); is = is }
 
-pub state_shown : (form : ℕ) (kept : Option Kept) (room : List ℕ) (l : Left) (r : Result (Vec ℕ Global) Refusal) → l ≡ bytes_left room (bytes_or r) →
+pub state_shown : (form : ℕ) (kept : Option Kept) (room : List ℕ) (l : Left (List ℕ)) (r : Result (Vec ℕ Global) Refusal) → l ≡ bytes_left room (bytes_or r) →
     IfOk r (λ state. of_session (shown_in form) kept ≡ Ok state.items) →
     IfErr r (λ refusal. refusal.cause ≢ Memory refused → of_session (shown_in form) kept ≡ Err refusal) →
     IfErr r (λ refusal. refusal.cause ≡ Memory refused → (refusal.place ≡ 0) × Keeps (λ k. IsOk (shown_in form k)) kept) →

@@ -1,15 +1,15 @@
 -- What the library answers to a request.
-use Rattle.std.proofs.Common.{◌≡◌, ◌≢◌, ℕ, Bool, true, false, nat_lt, if◌then◌else◌, Option, Some, None, Result, Ok, Err, IfOk, IfErr, ap, ◌∙◌, length}
+use Rattle.std.proofs.Common.{◌≡◌, ◌≢◌, ℕ, Bool, true, false, nat_lt, if◌then◌else◌, Option, Some, None, Result, Ok, Err, IfOk, IfErr, ap, ◌∙◌}
 use Rattle.std.proofs.Common.{subst, sym}
 use Rattle.aout_core.specs.Refusals.{refused}
-use Rattle.library_calls.specs.MapAnswers.{HasNoMap, IsMapAnswer, MapMayRunOut, MapOf, map_asked}
+use Rattle.library_calls.specs.MapAnswers.{IsMapAnswer, MapGiven, MapMayRunOut, MapOf, map_asked, map_given, no_map}
 use Rattle.library_calls.specs.RunAnswers.{RunOutput, link_run, no_run, results_of}
 use Rattle.library_calls.specs.declared.cause.Cause.TheVariants.{Memory, NoWant, NotKept, ShortStruct}
 use Rattle.library_calls.specs.{declared.cause.Cause.Cause, declared.cause.Refusal.Refusal, declared.map_call.LinkOutput.LinkOutput, declared.run_call.RunResult.RunResult}
-use Rattle.library_calls.specs.{Causes.number_of, Causes.word_of, FileAnswers.has_bit, LinkAnswers.each_of, MemoryWanted.LinkMayRunOut}
+use Rattle.library_calls.specs.{FileAnswers.has_bit, LinkAnswers.each_of, MemoryWanted.LinkMayRunOut}
 use Rattle.v7_c.specs.{Left.{refused as refused_as_said, of_none}, declared.answer.Answer.Answer, declared.run.Request.Request}
-use Rattle.v7_c.specs.RunLeft.{AnswerBy, IsAnswer, MapRunsOut, RunMayRunOut, is_enough, RunCounts, RunLeft, answered, counts_of, map_in}
-use Rattle.v7_c.specs.RunLeft.{nothing, or_unread, run_in, unread, wants_of}
+use Rattle.v7_c.specs.RunLeft.{AnswerBy, IsAnswer, MapRunsOut, RunMayRunOut, RunLeft, answered, is_enough, map_in}
+use Rattle.v7_c.specs.RunLeft.{or_unread, run_in, unread, wants_of}
 use Rattle.v7_c.proofs.LeftLemmas.{refusal_by}
 
 never_by : (short unknown unkept enough : Bool) → (if short then Some ShortStruct else if unknown then Some NoWant
@@ -54,8 +54,8 @@ module _ (q : Request) (size : ℕ) where
       by_bit true (Err refusal) wanted
       (refusal_by (map_in q size) (MapRunsOut q size) refusal (λ other. map_is None known ∙ err other) (λ out. (known, memory out)))
 
-  pub run_answer : (x : LinkOutput) (run : RunResult) → unread 15 q size ≡ None → has_bit q.wants 8 ≡ false → x.run ≡ run → HasNoMap x →
-      run_asked ≡ Ok (results_of run) → IsAnswer q size (Ok x)
+  pub run_answer : (x : LinkOutput) (run : RunResult) → unread 15 q size ≡ None → has_bit q.wants 8 ≡ false → x.run ≡ run →
+      map_given x ≡ no_map → run_asked ≡ Ok (results_of run) → IsAnswer q size (Ok x)
   run_answer x run known unwanted same no_map ok =
       by_bit false (Ok x) unwanted (
         run_is None known ∙ ok ∙ ap (λ (r : RunResult). Ok (results_of r)) (sym same),
@@ -84,25 +84,12 @@ module _ (q : Request) (size : ℕ) where
 
 pub ruleset by_answer = (map_answer, run_answer, run_refused, unread_answer)
 
--- nothing is counted where nothing is given
-pub none_counted : (x : LinkOutput) (run : RunResult) (said : Answer) (r : Refusal) (status : ℕ) (l after : RunLeft) → x.run ≡ run →
-    HasNoMap x → results_of run ≡ no_run → said ≡ refused_as_said r →
-    after ≡ answered status said.fault said.word said.place (counts_of x) l →
-    after ≡ answered status (number_of r.cause) (word_of r.cause) r.place nothing l
-none_counted x run said r status l after same no_map none is_said is =
-    let all : results_of x.run ≡ no_run = ap results_of same ∙ none in
-    let counts : counts_of x ≡ nothing = λ i. record {
-      file = length (all i).file;
-      report = length (all i).report;
-      findings = length (all i).findings;
-      places = length (all i).places;
-      records = record {
-        objects = length (no_map.objects i);
-        names = length (no_map.names i);
-        uses = length (no_map.uses i);
-        limits = length (no_map.limits i);
-      };
-    } in
+-- what is left where nothing is given
+pub nothing_left : (x : LinkOutput) (run : RunResult) (said : Answer) (r : Refusal) (l after : RunLeft) → x.run ≡ run → map_given x ≡ no_map →
+    results_of run ≡ no_run → said ≡ refused_as_said r → after ≡ answered false 2 said (results_of x.run) (map_given x) l →
+    after ≡ answered false 2 (refused_as_said r) no_run no_map l
+nothing_left x run said r l after same no_map_there none is_said is =
     is
-    ∙ ap (λ (a : Answer). answered status a.fault a.word a.place (counts_of x) l) is_said
-    ∙ ap (λ (c : RunCounts). answered status (number_of r.cause) (word_of r.cause) r.place c l) counts
+    ∙ ap (λ (a : Answer). answered false 2 a (results_of x.run) (map_given x) l) is_said
+    ∙ ap (λ (o : RunOutput). answered false 2 (refused_as_said r) o (map_given x) l) (ap results_of same ∙ none)
+    ∙ ap (λ (m : MapGiven). answered false 2 (refused_as_said r) no_run m l) no_map_there

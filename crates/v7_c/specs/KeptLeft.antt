@@ -4,7 +4,7 @@ use Rattle.link_session.specs.Undo.{Kept}
 use Rattle.library_calls.specs.declared.cause.Cause.TheVariants.{NoSession, SessionOpen}
 use Rattle.library_calls.specs.{declared.cause.Cause.Cause, declared.cause.Refusal.Refusal, declared.map_call.LinkOutput.LinkOutput, Causes.at}
 use Rattle.library_calls.specs.KeptAnswers.{AddsBytes, HasJournal, MayRunOutToAdd, MayRunOutToLink, TakesLast, begun_in, kept_run, last_in, shown_in, taken_in}
-use Rattle.library_calls.specs.{MapAnswers.HasNoMap, RunAnswers.RunOutput}
+use Rattle.library_calls.specs.{MapAnswers.{map_given, no_map}, RunAnswers.RunOutput}
 use Rattle.v7_c.specs.Left.{IsGiven, IsRefusal, Left, Unplaced, bytes_left, done_by, of_none}
 use Rattle.v7_c.specs.{RunLeft.{answer_left, or_unread, unread, left_in, results_or, wants_of}, declared.handle.Handle.Handle}
 use Rattle.v7_c.specs.{declared.run.Request.Request, declared.run.RunAnswer.RunAnswer}
@@ -38,7 +38,7 @@ IsChange asked MayRunOut Changes old new None = Changes old new
 IsChange asked MayRunOut Changes old new (Some r) = (new ≡ old) × IsRefusal asked (Unplaced MayRunOut) r
 
 pub record LeavesChange {A : Type 0} (asked : Result A Refusal) (MayRunOut : Type 0) (Changes : Option Kept → Option Kept → Type 0)
-    (old new : Option Kept) (l : Left) : Type 0 where
+    (old new : Option Kept) (l : Left (List ℕ)) : Type 0 where
   pub refusal : Option Refusal
   pub made : IsChange asked MayRunOut Changes old new refusal
   pub is : l ≡ done_by refusal
@@ -54,20 +54,20 @@ pub record Begins (forced : List ℕ) (old new : Option Kept) : Type 0 where
   pub begun : begun_in forced ≡ Ok session
   pub is : new ≡ Some session
 
-abbrev pub LeavesBegun : List ℕ → Option Kept → Option Kept → Left → Type 0
+abbrev pub LeavesBegun : List ℕ → Option Kept → Option Kept → Left (List ℕ) → Type 0
 LeavesBegun forced old new l = LeavesChange (beginning forced old) (IsOk (beginning forced old)) (Begins forced) old new l
 
-abbrev pub LeavesAdded : List ℕ → Option Kept → Option Kept → Left → Type 0
+abbrev pub LeavesAdded : List ℕ → Option Kept → Option Kept → Left (List ℕ) → Type 0
 LeavesAdded bytes old new l =
     LeavesChange (of_session (taken_in bytes) old) (Keeps (MayRunOutToAdd bytes) old) (Both (AddsBytes bytes)) old new l
 
 -- for a withdrawal memory does not run out
-abbrev pub LeavesWithdrawn : Option Kept → Option Kept → Left → Type 0
+abbrev pub LeavesWithdrawn : Option Kept → Option Kept → Left (List ℕ) → Type 0
 LeavesWithdrawn old new l = LeavesChange (of_session last_in old) ⊥ (Both TakesLast) old new l
 
 -- ---- what is given
 
-pub record LeavesShown (form : ℕ) (kept : Option Kept) (room : List ℕ) (l : Left) : Type 0 where
+pub record LeavesShown (form : ℕ) (kept : Option Kept) (room : List ℕ) (l : Left (List ℕ)) : Type 0 where
   pub answer : Result (List ℕ) Refusal
   pub given : IsGiven (of_session (shown_in form) kept) (Unplaced (Keeps (λ k. IsOk (shown_in form k)) kept)) answer
   pub journal : IfOk answer (λ state. Keeps HasJournal kept)
@@ -85,5 +85,5 @@ LinkMayRunOut kept q size = (unread 3 q size ≡ None) × Keeps (MayRunOutToLink
 pub record LeavesLink (kept : Option Kept) (q : Request) (old new : RunAnswer) (status : ℕ) : Type 0 where
   pub answer : Result LinkOutput Refusal
   pub given : IsGiven (kept_in kept q old.size) (Unplaced (LinkMayRunOut kept q old.size)) (results_or answer)
-  pub alone : IfOk answer (λ x. HasNoMap x)
+  pub alone : IfOk answer (λ x. map_given x ≡ no_map)
   pub is : left_in status new ≡ answer_left answer (left_in 0 old)

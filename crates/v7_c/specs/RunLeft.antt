@@ -3,17 +3,16 @@
 -- A request and a result begin with their sizes in bytes. A caller may have a shorter result, without the last fields: a link whose
 -- report is wanted as lines alone does not need them. So it is with the objects of what is reported. Fields that a result lacks stay as
 -- they are, but for those that every answer fills: the fault, its word and its place, and the sizes of file and report.
-use Rattle.std.specs.Prelude.{◌≡◌, ℕ, Bool, true, false, ◌||◌, ◌&&◌, not, nat_lt, nat_le, if◌then◌else◌, List, length, Result}
-use Rattle.std.specs.Prelude.{Option, None, Some, Ok, Err}
-use Rattle.library_calls.specs.MapAnswers.{HasNoMap, IsMapAnswer, MapMayRunOut, MapOf, map_asked}
-use Rattle.library_calls.specs.RunAnswers.{RunOutput, link_run, results_of}
+use Rattle.std.specs.Prelude.{◌≡◌, ℕ, Bool, true, false, ◌||◌, ◌&&◌, not, nat_lt, nat_le, if◌then◌else◌, Result, Option, None, Some, Ok, Err}
+use Rattle.library_calls.specs.MapAnswers.{IsMapAnswer, MapGiven, MapMayRunOut, MapOf, map_asked, map_given, no_map}
+use Rattle.library_calls.specs.RunAnswers.{RunOutput, link_run, no_run, results_of}
 use Rattle.library_calls.specs.{declared.cause.Cause.TheVariants.{NoWant, NotKept, ShortStruct}, declared.run_call.Wants.Wants}
 use Rattle.library_calls.specs.{declared.cause.Cause.Cause, declared.cause.Refusal.Refusal, declared.reported.ReportedName.ReportedName}
-use Rattle.library_calls.specs.{declared.map_call.LinkOutput.LinkOutput, Causes.{number_of, word_of}, FileAnswers.has_bit}
+use Rattle.library_calls.specs.{declared.map_call.LinkOutput.LinkOutput, FileAnswers.has_bit}
 use Rattle.library_calls.specs.{LinkAnswers.each_of, MemoryWanted.LinkMayRunOut, declared.places.FindingPlace.FindingPlace}
-use Rattle.v7_c.specs.MapLeft.{MapLeft, RecordCounts, counted, no_records, left_in as map_left_in, counts_of as record_counts}
-use Rattle.v7_c.specs.MapLeft.{filled as map_filled, is_short as map_is_short}
-use Rattle.v7_c.specs.{Left.IsRefusal, Left.of_none, Left.put_in, declared.run.Request.Request, declared.run.RunAnswer.RunAnswer}
+use Rattle.v7_c.specs.MapLeft.{MapLeft, with_map, left_in as map_left_in, is_short as map_is_short}
+use Rattle.v7_c.specs.Left.{IsRefusal, Room, given, lacks, of_none, refused, room, with_items}
+use Rattle.v7_c.specs.{declared.answer.Answer.Answer, declared.run.Request.Request, declared.run.RunAnswer.RunAnswer}
 
 -- ---- what is asked for
 
@@ -79,7 +78,7 @@ results_or (Err r) = Err r
 abbrev pub AnswerBy : Bool → Request → ℕ → Result LinkOutput Refusal → Type 0
 AnswerBy true q size (Ok x) = IsMapAnswer (wants_of q.wants) (map_in q size) x
 AnswerBy true q size (Err r) = IsRefusal (map_in q size) (MapRunsOut q size) r
-AnswerBy false q size (Ok x) = (run_in q size ≡ Ok (results_of x.run)) × HasNoMap x
+AnswerBy false q size (Ok x) = (run_in q size ≡ Ok (results_of x.run)) × (map_given x ≡ no_map)
 AnswerBy false q size (Err r) = IsRefusal (run_in q size) (RunMayRunOut q size) r
 
 abbrev pub IsAnswer : Request → ℕ → Result LinkOutput Refusal → Type 0
@@ -94,14 +93,10 @@ pub record RunLeft : Type 0 where
   pub fault : ℕ
   pub word : ℕ
   pub place : ℕ
-  pub file_size : ℕ
-  pub report_size : ℕ
-  pub file : List ℕ
-  pub report : List ℕ
-  pub finding_count : ℕ
-  pub findings : List ReportedName
-  pub place_count : ℕ
-  pub places : List FindingPlace
+  pub file : Room ℕ
+  pub report : Room ℕ
+  pub findings : Room ReportedName
+  pub places : Room FindingPlace
   pub map : MapLeft
 
 abbrev pub left_in : ℕ → RunAnswer → RunLeft
@@ -111,92 +106,43 @@ left_in status x = record {
   fault = x.fault;
   word = x.word;
   place = x.place;
-  file_size = x.file_size;
-  report_size = x.report_size;
-  file = x.file.now;
-  report = x.report.now;
-  finding_count = x.finding_count;
-  findings = x.findings.now;
-  place_count = x.place_count;
-  places = x.places.now;
+  file = room x.file_size x.file.now;
+  report = room x.report_size x.report.now;
+  findings = room x.finding_count x.findings.now;
+  places = room x.place_count x.places.now;
   map = map_left_in x.map;
 }
 
--- how much there is for each buffer
-pub record RunCounts : Type 0 where
-  pub file : ℕ
-  pub report : ℕ
-  pub findings : ℕ
-  pub places : ℕ
-  pub records : RecordCounts
+-- a buffer is too short for this, with this map
+abbrev pub is_short : RunOutput → MapGiven → RunLeft → Bool
+is_short r m l =
+    lacks r.file l.file || (lacks r.report l.report || ((has_list l.size && lacks r.findings l.findings)
+    || ((has_places l.size && lacks r.places l.places) || (has_map l.size && map_is_short m l.map))))
 
-abbrev pub counts_of : LinkOutput → RunCounts
-counts_of x = record {
-  file = length x.run.file.items;
-  report = length x.run.report.items;
-  findings = length x.run.findings.items;
-  places = length x.run.places.items;
-  records = record_counts x.records;
-}
-
--- a status and a fault, with the sizes of what there is
-abbrev pub answered : ℕ → ℕ → ℕ → ℕ → RunCounts → RunLeft → RunLeft
-answered status fault word place counts l = record {
+-- a status and a fault, with what there is, which is written if it fits
+abbrev pub answered : Bool → ℕ → Answer → RunOutput → MapGiven → RunLeft → RunLeft
+answered fits status said r m l = record {
   status = status;
   size = l.size;
-  fault = fault;
-  word = word;
-  place = place;
-  file_size = counts.file;
-  report_size = counts.report;
-  file = l.file;
-  report = l.report;
-  finding_count = if has_list l.size then counts.findings else l.finding_count;
-  findings = l.findings;
-  place_count = if has_places l.size then counts.places else l.place_count;
-  places = l.places;
-  map = if has_map l.size then counted counts.records l.map else l.map;
+  fault = said.fault;
+  word = said.word;
+  place = said.place;
+  file = with_items fits r.file l.file;
+  report = with_items fits r.report l.report;
+  findings = if has_list l.size then with_items fits r.findings l.findings else l.findings;
+  places = if has_places l.size then with_items fits r.places l.places else l.places;
+  map = if has_map l.size then with_map fits m l.map else l.map;
 }
-
--- what there is at the beginning of each buffer
-abbrev pub filled : LinkOutput → RunLeft → RunLeft
-filled x l = record {
-  status = l.status;
-  size = l.size;
-  fault = l.fault;
-  word = l.word;
-  place = l.place;
-  file_size = l.file_size;
-  report_size = l.report_size;
-  file = put_in l.file x.run.file.items;
-  report = put_in l.report x.run.report.items;
-  finding_count = l.finding_count;
-  findings = if has_list l.size then put_in l.findings x.run.findings.items else l.findings;
-  place_count = l.place_count;
-  places = if has_places l.size then put_in l.places x.run.places.items else l.places;
-  map = if has_map l.size then map_filled x l.map else l.map;
-}
-
--- a buffer is too short
-abbrev pub is_short : LinkOutput → RunLeft → Bool
-is_short x l =
-    nat_lt (length l.file) (length x.run.file.items) || (nat_lt (length l.report) (length x.run.report.items)
-    || ((has_list l.size && nat_lt (length l.findings) (length x.run.findings.items))
-    || ((has_places l.size && nat_lt (length l.places) (length x.run.places.items))
-    || (has_map l.size && map_is_short x.records l.map))))
 
 -- all of it, or nothing
-abbrev pub output_left : LinkOutput → RunLeft → RunLeft
-output_left x l =
-    if is_short x l then answered 2 60 0 0 (counts_of x) l else answered x.run.status 0 0 0 (counts_of x) (filled x l)
-
-abbrev pub nothing : RunCounts
-nothing = record { file = 0; report = 0; findings = 0; places = 0; records = no_records }
+abbrev pub output_left : RunOutput → MapGiven → RunLeft → RunLeft
+output_left r m l =
+    if is_short r m l then answered false 2 (given 60 0 0) r m l else answered true r.status (given 0 0 0) r m l
 
 -- what is left of an answer, in a result that was so
 abbrev pub answer_left : Result LinkOutput Refusal → RunLeft → RunLeft
-answer_left (Err r) l = answered 2 (number_of r.cause) (word_of r.cause) r.place nothing l
-answer_left (Ok x) l = output_left x l
+answer_left (Err r) l = answered false 2 (refused r) no_run no_map l
+answer_left (Ok x) l = output_left (results_of x.run) (map_given x) l
 
 -- a status, and a result before and after the call
 pub record LeavesRun (q : Request) (old new : RunAnswer) (status : ℕ) : Type 0 where

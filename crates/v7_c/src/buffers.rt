@@ -1,7 +1,7 @@
 //! What a call gives, written into the buffers of its caller.
-ghost use Rattle.std.specs.Prelude.{◌≡◌, ◌≤◌, [], length, Ok};
-ghost use Rattle.library_calls.specs.{ObjectParts.pieces_in, RemarkAnswers.remarks_in};
-ghost use Rattle.v7_c.specs.Left.{apart_left, both_left, bytes_left, bytes_of, bytes_or, count_left, count_of, counts_of, done_by, file_left, left, parts_left, pieces_or, put_in, read_left, refusal_in, refused, remarks_left, remarks_of, whole_or};
+ghost use Rattle.std.specs.Prelude.{◌≡◌, ◌≤◌, [], length, Ok, true};
+ghost use Rattle.library_calls.specs.{Causes.at, ObjectParts.{pieces_in, whole_of}, RemarkAnswers.remarks_in};
+ghost use Rattle.v7_c.specs.Left.{apart_left, bytes_left, bytes_of, bytes_or, count_left, counts_of, done_by, left, put_in, read_left, refusal_in, refused, remarks_left, room, view_of, with_items};
 
 use crate::answer::{Answer, Counts, FileHeader};
 use library_calls::{
@@ -12,14 +12,24 @@ use library_calls::{
 pub(crate) const NO_ROOM: u32 = 60;
 
 /// Writes bytes, or what else there is, at the beginning of a buffer.
-pub(crate) fn put<T: Copy>(items: &[T], buffer: &mut [T])
+fn put<T: Copy>(items: &[T], buffer: &mut [T])
     requires { length items.now ≤ length buffer.old }
     ensures { buffer.new ≡ put_in buffer.old items.now }
 {
     buffer[..items.len()].copy_from_slice(items);
 }
 
-/// Answers by a refusal.
+/// Tells how many items there are, and writes them at the beginning of a buffer if all fits.
+pub(crate) fn leave_items<T: Copy>(fits: bool, items: &[T], buffer: &mut [T], count: &mut usize)
+    requires { fits ≡ true → length items.now ≤ length buffer.old }
+    ensures { room count.new buffer.new ≡ with_items fits items.now (room count.old buffer.old) }
+{
+    *count = items.len();
+    if fits {
+        put(items, buffer);
+    }
+}
+
 fn refuse(refusal: Refusal, answer: &mut Answer) -> u32
     ensures status { result ≡ 2 }
     ensures answer { answer.new ≡ refused refusal }
@@ -30,7 +40,7 @@ fn refuse(refusal: Refusal, answer: &mut Answer) -> u32
 
 /// Answers by a number of bytes.
 pub(crate) fn leave_count(count: Result<usize, Cause>, answer: &mut Answer) -> u32
-    ensures { left result answer.new [] ≡ count_left (count_of count) }
+    ensures { left result answer.new [] ≡ count_left (at 0 count) }
 {
     match count {
         Ok(count) => {
@@ -102,7 +112,7 @@ fn leave_all_remarks(
     records: &mut [RemarkRecord],
     answer: &mut Answer,
 ) -> u32
-    ensures { both_left result answer.new texts.new records.new
+    ensures { left result answer.new (texts.new, records.new)
         ≡ remarks_left texts.old records.old (Ok (remarks_in remarks.now)) }
 {
     let size = remarks.texts.len();
@@ -124,8 +134,8 @@ pub(crate) fn leave_remarks(
     records: &mut [RemarkRecord],
     answer: &mut Answer,
 ) -> u32
-    ensures { both_left result answer.new texts.new records.new
-        ≡ remarks_left texts.old records.old (remarks_of remarks) }
+    ensures { left result answer.new (texts.new, records.new)
+        ≡ remarks_left texts.old records.old (at 0 (view_of remarks_in remarks)) }
 {
     match remarks {
         Ok(remarks) => leave_all_remarks(&remarks, texts, records, answer),
@@ -153,8 +163,8 @@ fn leave_lists(
     symbols: &mut [SymbolRow],
     answer: &mut Answer,
 ) -> u32
-    ensures { parts_left result answer.new (counts_of (pieces_in parts.now)) text.new data_words.new
-        symbols.new ≡ apart_left text.old data_words.old symbols.old (Ok (pieces_in parts.now)) }
+    ensures { left result answer.new (counts_of (pieces_in parts.now), text.new, data_words.new, symbols.new)
+        ≡ apart_left text.old data_words.old symbols.old (Ok (pieces_in parts.now)) }
 {
     if text.len() < parts.text.len()
         || data_words.len() < parts.data.len()
@@ -178,8 +188,8 @@ pub(crate) fn leave_parts(
     symbols: &mut [SymbolRow],
     answer: &mut Answer,
 ) -> (u32, Counts)
-    ensures { parts_left result.0 answer.new result.1 text.new data_words.new symbols.new
-        ≡ apart_left text.old data_words.old symbols.old (pieces_or parts) }
+    ensures { left result.0 answer.new (result.1, text.new, data_words.new, symbols.new)
+        ≡ apart_left text.old data_words.old symbols.old (at 0 (view_of pieces_in parts)) }
 {
     match parts {
         Ok(parts) => {
@@ -207,9 +217,8 @@ pub(crate) fn leave_file(
     symbols: &mut [SymbolRow],
     answer: &mut Answer,
 ) -> (u32, Counts)
-    ensures { file_left header.new
-        (parts_left result.0 answer.new result.1 text.new data_words.new symbols.new)
-        ≡ read_left text.old data_words.old symbols.old (whole_or file) }
+    ensures { (header.new, left result.0 answer.new (result.1, text.new, data_words.new, symbols.new))
+        ≡ read_left text.old data_words.old symbols.old (at 0 (view_of whole_of file)) }
 {
     match file {
         Ok(file) => {

@@ -24,7 +24,6 @@ impl Handle {
         Some(slot.into_loose().into_box())
     }
 
-    /// A session, into the handle.
     pub(crate) fn put(&mut self, session: Box<Session>)
         ensures { kept_by self.new ≡ Some session.value }
     {

@@ -2,7 +2,7 @@
 ghost use Rattle.std.specs.Prelude.{◌≡◌, ◌≢◌, None, Ok, Err, IsOk, IfOk, IfErr, OnOk, OnErr};
 ghost use Rattle.aout_core.specs.Refusals.{refused};
 ghost use Rattle.library_calls.specs.KeptAnswers.{AddsBytes, HasJournal, MayRunOutToAdd, MayRunOutToLink, TakesLast, kept_run, last_in};
-ghost use Rattle.library_calls.specs.{KeptAnswers.{shown_in, taken_in}, MapAnswers.HasNoMap, RunAnswers.results_of};
+ghost use Rattle.library_calls.specs.{KeptAnswers.{shown_in, taken_in}, MapAnswers.{map_given, no_map}, RunAnswers.results_of};
 ghost use Rattle.library_calls.specs.declared.cause.Cause.TheVariants.{Memory};
 ghost use Rattle.v7_c.specs.KeptLeft.{Begins, Both, Keeps, LeavesLink, LinkMayRunOut, beginning, kept_in, of_session, kept_by};
 ghost use Rattle.v7_c.specs.{Left.{IsGiven, Unplaced}, RunLeft.{results_or, wants_of}};
@@ -104,7 +104,7 @@ fn run_kept(
     ensures ok { IfOk result (λ given.
         of_session (kept_run (wants_of request.now.wants) request.now.options request.now.entry.now)
         (kept_by handle.old) ≡ Ok (results_of given.run)) }
-    ensures alone { IfOk result (λ given. HasNoMap given) }
+    ensures alone { IfOk result (λ given. map_given given ≡ no_map) }
     ensures err { IfErr result (λ r. r.cause ≢ Memory refused
         → of_session (kept_run (wants_of request.now.wants) request.now.options request.now.entry.now)
         (kept_by handle.old) ≡ Err r) }
@@ -133,7 +133,7 @@ fn link_for(
 ) -> Result<LinkOutput, Refusal>
     ensures given { IsGiven (kept_in (kept_by handle.old) request.now size)
         (Unplaced (LinkMayRunOut (kept_by handle.old) request.now size)) (results_or result) }
-    ensures alone { IfOk result (λ given. HasNoMap given) }
+    ensures alone { IfOk result (λ given. map_given given ≡ no_map) }
     ensures unchanged { kept_by handle.new ≡ kept_by handle.old }
 {
     // neither the objects of what is reported nor a map

@@ -13,15 +13,16 @@ mod map;
 mod run;
 mod slot;
 
-ghost use Rattle.std.specs.Prelude.{◌≡◌, ◌≢◌, ◌⊎◌, ◌+◌, ◌-◌, ◌^◌, ◌<◌, min, [], None, IsOk};
-ghost use Rattle.library_calls.specs.FileAnswers.{checked_in, disassembled_in, names_in, sizes_in, stripped_in, words_shown};
+ghost use Rattle.std.specs.Prelude.{◌≡◌, ◌≢◌, ◌⊎◌, ◌+◌, ◌-◌, ◌^◌, ◌<◌, min, [], None, Ok, IsOk};
+ghost use Rattle.library_calls.specs.Causes.{at};
+ghost use Rattle.library_calls.specs.FileAnswers.{IsAny, checked_in, file_in, names_in, sizes_in, stripped_in};
 ghost use Rattle.library_calls.specs.GnuAnswers.{ConversionMayRunOut, converted_in};
-ghost use Rattle.library_calls.specs.{ListingAnswers.{DescribedMayRunOut, described_in, listed_in}, MemoryWanted.HasBody};
+ghost use Rattle.library_calls.specs.{ListingAnswers.{DescribedMayRunOut, IsListingOf, described_in}, MemoryWanted.HasBody};
 ghost use Rattle.library_calls.specs.ObjectParts.{file_for, made_of, parts_in, pieces, whole_in};
 ghost use Rattle.library_calls.specs.Sizes.{IsMostOfMaps, IsMostOfRuns, IsMostOfSessions, most_of};
 ghost use Rattle.v7_c.specs.KeptLeft.{LeavesAdded, LeavesBegun, LeavesLink, LeavesShown, LeavesWithdrawn, kept_by};
 ghost use Rattle.v7_c.specs.RunLeft.{LeavesRun};
-ghost use Rattle.v7_c.specs.Left.{LeavesBytes, LeavesBytesAt, LeavesCount, LeavesFile, LeavesParts, LeavesRemarks, both_left, file_left, left, parts_left};
+ghost use Rattle.v7_c.specs.Left.{IsGiven, Leaves, LeavesBytes, LeavesBytesAt, LeavesRemarks, LeavesText, Unplaced, apart_left, count_left, left, read_left};
 
 use crate::answer::{Answer, Counts, FileHeader};
 use crate::buffers::{
@@ -44,7 +45,8 @@ pub extern "C" fn v7_version() -> u32
 #[tactic(auto, using(crate::proofs::LeftLemmas::count_leaves))]
 #[unsafe(no_mangle)]
 pub extern "C" fn v7_check(alloc: Global, bytes: &[u8], answer: &mut Answer) -> u32
-    ensures { LeavesCount (checked_in bytes.now) (HasBody bytes.now) (left result answer.new []) }
+    ensures { Leaves (IsGiven (at 0 (checked_in bytes.now)) (Unplaced (HasBody bytes.now))) count_left
+        (left result answer.new []) }
 {
     leave_count(library_calls::check(alloc, bytes), answer)
 }
@@ -90,7 +92,7 @@ pub extern "C" fn v7_size(alloc: Global, bytes: &[u8], room: &mut [u8], answer: 
 }
 
 /// Shows the text of a file as instructions.
-#[tactic(auto, using(crate::proofs::LeftLemmas::bytes_leave))]
+#[tactic(auto, using(crate::proofs::LeftLemmas::text_leaves))]
 #[unsafe(no_mangle)]
 pub extern "C" fn v7_disassemble(
     alloc: Global,
@@ -98,14 +100,14 @@ pub extern "C" fn v7_disassemble(
     room: &mut [u8],
     answer: &mut Answer,
 ) -> u32
-    ensures { LeavesBytes (disassembled_in bytes.now) (IsOk (disassembled_in bytes.now)) room.old
+    ensures { LeavesText IsAny (file_in bytes.now) (IsOk (file_in bytes.now)) room.old
         (left result answer.new room.new) }
 {
     leave_bytes(library_calls::disassemble(alloc, bytes), room, answer)
 }
 
 /// Shows words as instructions, the first of them at an address.
-#[tactic(auto, using(crate::proofs::LeftLemmas::bytes_leave))]
+#[tactic(auto, using(crate::proofs::LeftLemmas::words_leave))]
 #[unsafe(no_mangle)]
 pub extern "C" fn v7_disassemble_words(
     alloc: Global,
@@ -114,7 +116,7 @@ pub extern "C" fn v7_disassemble_words(
     room: &mut [u8],
     answer: &mut Answer,
 ) -> u32
-    ensures { LeavesBytes (words_shown address words.now) (words.now ≢ []) room.old
+    ensures { LeavesText IsAny (Ok words.now) (words.now ≢ []) room.old
         (left result answer.new room.new) }
 {
     leave_bytes(
@@ -125,10 +127,10 @@ pub extern "C" fn v7_disassemble_words(
 }
 
 /// Lists a file.
-#[tactic(auto, using(crate::proofs::LeftLemmas::bytes_leave))]
+#[tactic(auto, using(crate::proofs::LeftLemmas::text_leaves))]
 #[unsafe(no_mangle)]
 pub extern "C" fn v7_list(alloc: Global, bytes: &[u8], room: &mut [u8], answer: &mut Answer) -> u32
-    ensures { LeavesBytes (listed_in bytes.now) (IsOk (listed_in bytes.now)) room.old
+    ensures { LeavesText IsListingOf (file_in bytes.now) (IsOk (file_in bytes.now)) room.old
         (left result answer.new room.new) }
 {
     leave_bytes(library_calls::list_file(alloc, bytes), room, answer)
@@ -176,7 +178,7 @@ pub extern "C" fn v7_remarks(
     answer: &mut Answer,
 ) -> u32
     ensures { LeavesRemarks bytes.now texts.old remarks.old
-        (both_left result answer.new texts.new remarks.new) }
+        (left result answer.new (texts.new, remarks.new)) }
 {
     leave_remarks(
         library_calls::remarks_of(alloc, bytes),
@@ -242,9 +244,10 @@ pub extern "C" fn v7_take_apart(
     counts: &mut Counts,
     answer: &mut Answer,
 ) -> u32
-    ensures { LeavesParts (parts_in bytes.now) (HasBody bytes.now ⊎ IsOk (parts_in bytes.now))
-        text.old data_words.old symbols.old
-        (parts_left result answer.new counts.new text.new data_words.new symbols.new) }
+    ensures { Leaves (IsGiven (at 0 (parts_in bytes.now))
+        (Unplaced (HasBody bytes.now ⊎ IsOk (parts_in bytes.now))))
+        (apart_left text.old data_words.old symbols.old)
+        (left result answer.new (counts.new, text.new, data_words.new, symbols.new)) }
 {
     let parts = library_calls::take_apart(alloc, bytes);
     let (status, there) = leave_parts(parts, text, data_words, symbols, answer);
@@ -265,9 +268,9 @@ pub extern "C" fn v7_read(
     counts: &mut Counts,
     answer: &mut Answer,
 ) -> u32
-    ensures { LeavesFile (whole_in bytes.now) (IsOk (whole_in bytes.now)) text.old data_words.old
-        symbols.old
-        (file_left header.new (parts_left result answer.new counts.new text.new data_words.new symbols.new)) }
+    ensures { Leaves (IsGiven (at 0 (whole_in bytes.now)) (Unplaced (IsOk (whole_in bytes.now))))
+        (read_left text.old data_words.old symbols.old)
+        (header.new, left result answer.new (counts.new, text.new, data_words.new, symbols.new)) }
 {
     let file = library_calls::read_apart(alloc, bytes);
     let (status, there) = leave_file(file, header, text, data_words, symbols, answer);

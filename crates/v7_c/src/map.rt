@@ -1,11 +1,10 @@
 //! The buffers for the map of a link.
-ghost use Rattle.std.specs.Prelude.{◌≡◌, false};
-ghost use Rattle.v7_c.specs.MapLeft.{counted, counts_of, filled, is_short, left_in};
+ghost use Rattle.std.specs.Prelude.{◌≡◌, true, false};
+ghost use Rattle.library_calls.specs.MapAnswers.{map_given};
+ghost use Rattle.v7_c.specs.MapLeft.{is_short, left_in, with_map};
 
-use crate::buffers::put;
-use library_calls::{
-    LimitRecord, LinkOutput, MapHead, MapRecords, NameRecord, ObjectRecord, UseRecord,
-};
+use crate::buffers::leave_items;
+use library_calls::{LimitRecord, LinkOutput, MapHead, NameRecord, ObjectRecord, UseRecord};
 
 /// What a map is written to.
 #[repr(C)]
@@ -24,36 +23,39 @@ pub struct MapAnswer<'a> {
 }
 
 impl MapAnswer<'_> {
-    /// Tells how many records there are.
-    pub(crate) fn count(&mut self, records: &MapRecords)
-        ensures { left_in self.new ≡ counted (counts_of records.now) (left_in self.old) }
-    {
-        self.object_count = records.objects.len();
-        self.name_count = records.names.len();
-        self.use_count = records.uses.len();
-        self.limit_count = records.limits.len();
-    }
-
     /// Whether a buffer is too short.
-    pub(crate) fn is_short(&self, records: &MapRecords) -> bool
-        ensures { result ≡ is_short records.now (left_in self.now) }
+    pub(crate) fn is_short(&self, given: &LinkOutput) -> bool
+        ensures { result ≡ is_short (map_given given.now) (left_in self.now) }
     {
+        let records = &given.records;
         self.objects.len() < records.objects.len()
             || self.names.len() < records.names.len()
             || self.uses.len() < records.uses.len()
             || self.limits.len() < records.limits.len()
     }
 
-    /// Fills the head and the buffers.
-    pub(crate) fn fill(&mut self, given: &LinkOutput)
-        requires { is_short given.now.records (left_in self.old) ≡ false }
-        ensures { left_in self.new ≡ filled given.now (left_in self.old) }
+    /// Tells how many records there are, and writes them and the head if all fits.
+    pub(crate) fn leave(&mut self, fits: bool, given: &LinkOutput)
+        requires { fits ≡ true → is_short (map_given given.now) (left_in self.old) ≡ false }
+        ensures { left_in self.new ≡ with_map fits (map_given given.now) (left_in self.old) }
     {
         let records = &given.records;
-        put(&records.objects, &mut *self.objects);
-        put(&records.names, &mut *self.names);
-        put(&records.uses, &mut *self.uses);
-        put(&records.limits, &mut *self.limits);
-        self.head = given.head;
+        leave_items(
+            fits,
+            &records.objects,
+            &mut *self.objects,
+            &mut self.object_count,
+        );
+        leave_items(fits, &records.names, &mut *self.names, &mut self.name_count);
+        leave_items(fits, &records.uses, &mut *self.uses, &mut self.use_count);
+        leave_items(
+            fits,
+            &records.limits,
+            &mut *self.limits,
+            &mut self.limit_count,
+        );
+        if fits {
+            self.head = given.head;
+        }
     }
 }

@@ -1,10 +1,10 @@
 //! A link: what is asked for, and what it gives, each a struct that begins with its size.
-ghost use Rattle.std.specs.Prelude.{◌≡◌, ◌<◌, false};
-ghost use Rattle.library_calls.specs.FileAnswers.{has_bit};
-ghost use Rattle.v7_c.specs.RunLeft.{IsAnswer, LeavesRun, answer_left, answered, counts_of, filled, has_list, has_map, has_places, is_enough, is_short, left_in, output_left, unread, wants_of};
+ghost use Rattle.std.specs.Prelude.{◌≡◌, ◌<◌, true, false};
+ghost use Rattle.library_calls.specs.{FileAnswers.has_bit, MapAnswers.map_given, RunAnswers.results_of};
+ghost use Rattle.v7_c.specs.RunLeft.{IsAnswer, LeavesRun, answer_left, answered, is_enough, is_short, left_in, output_left, unread, wants_of};
 
 use crate::answer::Answer;
-use crate::buffers::{NO_ROOM, put};
+use crate::buffers::{NO_ROOM, leave_items};
 use crate::map::MapAnswer;
 use library_calls::{
     Cause, FindingPlace, LinkOutput, LinkRequest, ObjectBytes, Refusal, ReportedName, RunResult,
@@ -70,7 +70,6 @@ pub struct RunAnswer<'a> {
     pub map: MapAnswer<'a>,
 }
 
-/// Whether what has this bit is wanted.
 fn is_wanted(wants: u32, bit: u32) -> bool
     requires { 0 < bit }
     ensures { result ≡ has_bit wants bit }
@@ -83,9 +82,9 @@ fn is_enough(wants: u32, size: usize) -> bool
     ensures { result ≡ is_enough wants size }
 {
     RESULT <= size
-        && (!is_wanted(wants, 2) || has_list(size))
-        && (!is_wanted(wants, 4) || has_places(size))
-        && (!is_wanted(wants, 8) || has_map(size))
+        && (!is_wanted(wants, 2) || LIST_RESULT <= size)
+        && (!is_wanted(wants, 4) || PLACES_RESULT <= size)
+        && (!is_wanted(wants, 8) || MAP_RESULT <= size)
 }
 
 /// Why a request cannot be read, with a result of this size, by a call that has what wants up to `most` stand for.
@@ -137,94 +136,77 @@ fn answer_to(alloc: Global, request: &Request<'_>, size: usize) -> Result<LinkOu
     Ok(LinkOutput::without_map(alloc, run))
 }
 
-/// Whether a result of this size has the fields of a list.
-fn has_list(size: usize) -> bool
-    ensures { result ≡ has_list size }
-{
-    LIST_RESULT <= size
-}
-
-/// Whether a result of this size has the fields of places.
-fn has_places(size: usize) -> bool
-    ensures { result ≡ has_places size }
-{
-    PLACES_RESULT <= size
-}
-
-/// Whether a result of this size has all fields.
-fn has_map(size: usize) -> bool
-    ensures { result ≡ has_map size }
-{
-    MAP_RESULT <= size
-}
-
-/// Answers by a status, by a fault with its word and its place, and by the sizes of what there is.
-fn answer_by(answer: &mut RunAnswer<'_>, status: u32, said: &Answer, given: &LinkOutput) -> u32
-    ensures { left_in result answer.new ≡ answered status said.now.fault said.now.word said.now.place
-        (counts_of given.now) (left_in 0 answer.old) }
-{
-    answer.fault = said.fault;
-    answer.word = said.word;
-    answer.place = said.place;
-    answer.file_size = given.run.file.len();
-    answer.report_size = given.run.report.len();
-    if has_list(answer.size) {
-        answer.finding_count = given.run.findings.len();
-    }
-    if has_places(answer.size) {
-        answer.place_count = given.run.places.len();
-    }
-    if has_map(answer.size) {
-        answer.map.count(&given.records);
-    }
-    status
-}
-
 /// Whether a buffer is too short.
 fn is_short(given: &LinkOutput, answer: &RunAnswer<'_>) -> bool
-    ensures { result ≡ is_short given.now (left_in 0 answer.now) }
+    ensures { result ≡ is_short (results_of given.now.run) (map_given given.now) (left_in 0 answer.now) }
 {
     let run = &given.run;
     answer.file.len() < run.file.len()
         || answer.report.len() < run.report.len()
-        || (has_list(answer.size) && answer.findings.len() < run.findings.len())
-        || (has_places(answer.size) && answer.places.len() < run.places.len())
-        || (has_map(answer.size) && answer.map.is_short(&given.records))
+        || (LIST_RESULT <= answer.size && answer.findings.len() < run.findings.len())
+        || (PLACES_RESULT <= answer.size && answer.places.len() < run.places.len())
+        || (MAP_RESULT <= answer.size && answer.map.is_short(given))
 }
 
-/// Fills the buffers.
-fn fill(answer: &mut RunAnswer<'_>, given: &LinkOutput)
-    requires { is_short given.now (left_in 0 answer.old) ≡ false }
-    ensures { left_in 0 answer.new ≡ filled given.now (left_in 0 answer.old) }
+/// Answers by a status, by a fault with its word and its place, and by the sizes of what there is, which is written if all fits.
+fn answer_by(
+    answer: &mut RunAnswer<'_>,
+    fits: bool,
+    status: u32,
+    said: &Answer,
+    given: &LinkOutput,
+) -> u32
+    requires { fits ≡ true → is_short (results_of given.now.run) (map_given given.now) (left_in 0 answer.old) ≡ false }
+    ensures { left_in result answer.new ≡ answered fits status said.now
+        (results_of given.now.run) (map_given given.now) (left_in 0 answer.old) }
 {
+    answer.fault = said.fault;
+    answer.word = said.word;
+    answer.place = said.place;
     let run = &given.run;
-    put(&run.file, &mut *answer.file);
-    put(&run.report, &mut *answer.report);
-    if has_list(answer.size) {
-        put(&run.findings, &mut *answer.findings);
+    leave_items(fits, &run.file, &mut *answer.file, &mut answer.file_size);
+    leave_items(
+        fits,
+        &run.report,
+        &mut *answer.report,
+        &mut answer.report_size,
+    );
+    if LIST_RESULT <= answer.size {
+        leave_items(
+            fits,
+            &run.findings,
+            &mut *answer.findings,
+            &mut answer.finding_count,
+        );
     }
-    if has_places(answer.size) {
-        put(&run.places, &mut *answer.places);
+    if PLACES_RESULT <= answer.size {
+        leave_items(
+            fits,
+            &run.places,
+            &mut *answer.places,
+            &mut answer.place_count,
+        );
     }
-    if has_map(answer.size) {
-        answer.map.fill(given);
+    if MAP_RESULT <= answer.size {
+        answer.map.leave(fits, given);
     }
+    status
 }
 
 /// Writes all of it, or nothing.
 fn leave_output(answer: &mut RunAnswer<'_>, given: &LinkOutput) -> u32
-    ensures { left_in result answer.new ≡ output_left given.now (left_in 0 answer.old) }
+    ensures { left_in result answer.new
+        ≡ output_left (results_of given.now.run) (map_given given.now) (left_in 0 answer.old) }
 {
     if is_short(given, answer) {
-        return answer_by(answer, 2, &Answer::given(NO_ROOM, 0, 0), given);
+        return answer_by(answer, false, 2, &Answer::given(NO_ROOM, 0, 0), given);
     }
-    fill(answer, given);
     let status = u32::from(given.run.status);
-    answer_by(answer, status, &Answer::given(0, 0, 0), given)
+    answer_by(answer, true, status, &Answer::given(0, 0, 0), given)
 }
 
 /// Writes what there is, or why there is nothing.
-#[tactic(auto, using(crate::proofs::RunLemmas::none_counted))]
+#[tactic(auto, using(crate::proofs::RunLemmas::nothing_left))]
 pub(crate) fn leave(
     alloc: Global,
     answer: &mut RunAnswer<'_>,
@@ -236,7 +218,7 @@ pub(crate) fn leave(
         Ok(given) => leave_output(answer, &given),
         Err(refusal) => {
             let nothing = LinkOutput::without_map(alloc, RunResult::nothing(alloc));
-            answer_by(answer, 2, &Answer::refused(refusal), &nothing)
+            answer_by(answer, false, 2, &Answer::refused(refusal), &nothing)
         }
     }
 }

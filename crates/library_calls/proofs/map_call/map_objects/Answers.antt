@@ -8,7 +8,7 @@ returns c = λ inputs read taken.
       all = c.args.all;
       map = c.in_ok-map.map;
       taken = taken;
-      is_map = record { members = m.members; places = m.places; uses = m.uses; made = m.made; outcome = m.outcome };
+      is_map = record { places = m.places; uses = m.uses; made = m.made; outcome = m.outcome };
       shows = shows_link c.args.forced.now c.args.options.now inputs c.args.all c.in_ok-map.map.outcome read taken.names taken.taken
           m.made m.outcome;
       records = record { objects = r.objects; names = r.names; uses = r.uses; limits = r.limits };

@@ -1,7 +1,7 @@
 use Rattle.std.proofs.Common.{◌≡◌, ◌++◌, take, false}
 use Rattle.std.specs.List.{flat_map}
-use Rattle.library_calls.specs.Json.{json_byte}
-use Rattle.library_calls.proofs.json_writer.put_json_bytes.Given as goal
+use Rattle.library_calls.specs.Shown.{json_byte}
+use Rattle.library_calls.proofs.shown.put_json_bytes.Given as goal
 
 abbrev pub invariant-loop-byte : goal.invariant-loop-byte
 invariant-loop-byte l =

@@ -1,0 +1,10 @@
+use Rattle.std.proofs.Common.{◌≡◌, ◌++◌, drop, false}
+use Rattle.library_calls.specs.{Items.{each, each_from, named}, Shown.cell_item}
+use Rattle.library_calls.proofs.shown.put_cells.Given as goal
+
+-- what is there, with the items that are left, makes the whole
+abbrev pub invariant-loop-index : goal.invariant-loop-index
+invariant-loop-index l =
+    l.text.is_cut ≡ false → (l.initial.text.is_cut ≡ false)
+    × (l.initial.text.bytes ++ each (cell_item l.form (named l.session) l.line) l.cells
+    ≡ l.text.bytes ++ each_from (cell_item l.form (named l.session) l.line) l.index (drop l.index l.cells))
