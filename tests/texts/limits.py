@@ -70,7 +70,7 @@ LIMITS = [
         "docs/LINK.md": "if it has every order of them | {} bytes;",
         "man/v7-lesson.1": "The file has more than {} bytes,",
     }),
-    ("v7_lesson/src/walk.rt", "ALL_ORDERS", {
+    ("v7_lesson/src/states.rt", "ALL_ORDERS", {
         "docs/LINK.md": "bytes; {} | there is no page",
     }),
 ]

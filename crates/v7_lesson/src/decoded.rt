@@ -2,7 +2,8 @@
 ghost use Rattle.std.specs.Prelude.{◌≡◌, ◌<◌, length};
 
 use crate::json::{Bytes, Json};
-use aout_core::File;
+use crate::parts::WordPlace;
+use aout_core::{File, Segment};
 use disassemblies::{ListedLines, NamedFile, is_start, line_starts, put_line_text};
 use instructions::{Decoder, Line, Operand, UnixLine, branch_back_target, branch_target};
 use std::alloc::{AllocError, Global};
@@ -32,19 +33,7 @@ fn branched_to(line: &Line, address: u16) -> Option<u16> {
 /// An instruction without the number at its end, if it ends with this one.
 fn without_number(text: &[u8], number: u16) -> Option<&[u8]> {
     let front = text.strip_suffix(OctalBuffer::new().format(u64::from(number)))?;
-    if front.ends_with(b" ") || front.ends_with(b",") {
-        Some(front)
-    } else {
-        None
-    }
-}
-
-/// The offset in bytes of a word of a segment, which has fewer than 32,768 words.
-pub(crate) fn offset_of(index: usize) -> u16 {
-    match u16::try_from(index) {
-        Ok(index) => index.wrapping_mul(2),
-        Err(_) => 0,
-    }
+    (front.ends_with(b" ") || front.ends_with(b",")).then_some(front)
 }
 
 /// What begins at a place of a file's text, whose lines begin so.
@@ -65,7 +54,7 @@ fn decoded_at(
         && matches!(line, Line::Decoded(..))
     {
         put_line_text(&mut text, Decoder::Pdp11, file, place);
-        target = branched_to(&line, offset_of(place));
+        target = branched_to(&line, WordPlace::at(Segment::TextSeg, place).offset);
     }
     let text = text.finish()?;
     let target = target.filter(|target| without_number(&text, *target).is_some());
@@ -84,23 +73,8 @@ fn decoded_of(alloc: Global, file: &File) -> Result<Vec<Decoded>, AllocError> {
     Ok(all)
 }
 
-impl Decoded {
-    /// Appends it as it is in an image in which the object's text begins here: a branch has its place there, and in the object.
-    fn put_moved(&self, text: &mut Text, front: u16, object: &str) {
-        if let Some(target) = self.target
-            && front > 0
-            && let Some(before) = without_number(&self.text, target)
-        {
-            let moved = target.wrapping_add(front);
-            text.put_bytes(before);
-            text.say(format_args!("{moved:o}, in {object} {target:o}"));
-        } else {
-            text.put_bytes(&self.text);
-        }
-    }
-}
-
-/// Adds for each word of a file's text the instruction that begins there in an image; an empty row if none does.
+/// Adds for each word of a file's text the instruction that begins there in an image; an empty row if none does. Where the text does
+/// not begin the image, a branch has its place there, and in the object.
 pub(crate) fn push_instructions(
     alloc: Global,
     rows: &mut Vec<Vec<u8>>,
@@ -108,22 +82,26 @@ pub(crate) fn push_instructions(
     front: u16,
     object: &str,
 ) -> Result<(), AllocError> {
-    let all = decoded_of(alloc, file)?;
-    for decoded in &all {
-        let mut text = Text::new(alloc);
-        decoded.put_moved(&mut text, front, object);
-        rows.push(text.finish()?)?;
+    for Decoded { text, target } in &decoded_of(alloc, file)? {
+        let mut row = Text::new(alloc);
+        if let Some(target) = *target
+            && front > 0
+            && let Some(before) = without_number(text, target)
+        {
+            let moved = target.wrapping_add(front);
+            row.put_bytes(before);
+            row.say(format_args!("{moved:o}, in {object} {target:o}"));
+        } else {
+            row.put_bytes(text);
+        }
+        rows.push(row.finish()?)?;
     }
     Ok(())
 }
 
 /// Puts the instructions of a text by the indices of their first words, and the addresses to which some of them branch.
-pub(crate) fn put_instructions(
-    alloc: Global,
-    out: &mut Json,
-    file: &File,
-) -> Result<(), AllocError> {
-    let all = decoded_of(alloc, file)?;
+pub(crate) fn put_instructions(out: &mut Json, file: &File) -> Result<(), AllocError> {
+    let all = decoded_of(out.allocator(), file)?;
     out.open("\"instructions\":{");
     for (index, decoded) in all.iter().enumerate() {
         if !decoded.text.is_empty() {

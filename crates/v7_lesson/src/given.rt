@@ -1,23 +1,24 @@
 //! The objects that a page is made of.
 use crate::decoded::put_instructions;
 use crate::files::{bytes_at, object_in};
-use crate::json::{Bytes, Joined, Json, Quoted};
-use crate::parts::{Referent, part_of};
+use crate::json::{Bytes, Json, Quoted};
+use crate::parts::{Referent, WordPlace, part_of, refers};
 use crate::shapes::{put_labels, put_operands, put_texts};
 use anyhow::{Result, anyhow};
-use aout_core::{File, Header, Kind, Reloc, Segment, Symbol};
+use aout_core::{File, Header, Kind, PlacedWord, Reloc, Segment, Symbol};
 use link_session::{AddFault, Session, Starts};
 use std::alloc::{AllocError, Global};
 use symtools::line_of;
 
 /// A word of an object that refers to something.
 #[derive(Clone, Copy)]
-pub(crate) struct RelocatedWord {
-    pub(crate) segment: Segment,
-    /// Its place in the segment, in bytes.
-    pub(crate) offset: u16,
+pub(crate) struct Reference {
+    /// Its place in the object.
+    pub(crate) place: WordPlace,
     pub(crate) word: u16,
-    pub(crate) reloc: Reloc,
+    reloc: Reloc,
+    /// The place that it refers to.
+    pub(crate) meant: u16,
     /// The number of its group: the words of one segment that refer to the same, in the same way.
     pub(crate) group: usize,
 }
@@ -26,12 +27,12 @@ pub(crate) struct RelocatedWord {
 #[derive(Drop)]
 pub(crate) struct Given {
     pub(crate) path: String,
-    pub(crate) bytes: Vec<u8>,
+    bytes: Vec<u8>,
     pub(crate) header: Header,
     /// The words that refer to something, those of text first.
-    pub(crate) references: Vec<RelocatedWord>,
+    pub(crate) references: Vec<Reference>,
     /// The first word of each group.
-    pub(crate) groups: Vec<RelocatedWord>,
+    pub(crate) groups: Vec<Reference>,
 }
 
 impl Given {
@@ -53,11 +54,50 @@ impl Given {
         0u16.wrapping_sub(Starts::first().shifts(&self.header).of(segment))
     }
 
-    /// The place that a word refers to.
-    pub(crate) fn meant(&self, reference: RelocatedWord) -> u16 {
-        let start = self.start(reference.segment);
-        let address = reference.offset.wrapping_add(start);
-        reference.reloc.target(reference.word, address)
+    /// Adds the words of a segment that refer to something, and the groups of which they are the first.
+    fn gather(&mut self, file: &File, segment: Segment) -> Result<(), AllocError> {
+        let part = part_of(segment);
+        for number in 0..file.words_of(part).len() {
+            let PlacedWord {
+                word,
+                address,
+                reloc,
+                ..
+            } = file.placed_word(part, number);
+            let Some(reloc) = reloc.filter(|reloc| refers(*reloc)) else {
+                continue;
+            };
+            let known = self.groups.iter().position(|first| first.place.segment == segment
+                && first.reloc == reloc);
+            let reference = Reference {
+                place: WordPlace::at(segment, number),
+                word,
+                reloc,
+                meant: reloc.target(word, address),
+                group: known.unwrap_or(self.groups.len()),
+            };
+            if known.is_none() {
+                self.groups.push(reference)?;
+            }
+            self.references.push(reference)?;
+        }
+        Ok(())
+    }
+
+    /// Puts the words of a segment that refer to something, as a list: the index of each, its group, and the place of what it refers to.
+    fn put_references(&self, out: &mut Json, key: &str, segment: Segment) {
+        out.open(key);
+        for Reference {
+            place,
+            group,
+            meant,
+            ..
+        } in &self.references {
+            if place.segment == segment {
+                out.put(format_args!("[{},{group},{meant}]", place.index()));
+            }
+        }
+        out.close("]");
     }
 }
 
@@ -73,36 +113,9 @@ pub(crate) fn given_at(rt: &HostRuntime, path: String) -> Result<Given> {
         references: Vec::new(alloc),
         groups: Vec::new(alloc),
     };
-    gather(&mut given, object.file(), Segment::TextSeg)?;
-    gather(&mut given, object.file(), Segment::DataSeg)?;
+    given.gather(object.file(), Segment::TextSeg)?;
+    given.gather(object.file(), Segment::DataSeg)?;
     Ok(given)
-}
-
-/// Adds the words of a segment that refer to something, and the groups of which they are the first.
-fn gather(given: &mut Given, file: &File, segment: Segment) -> Result<(), AllocError> {
-    let part = part_of(segment);
-    let mut offset = 0u16;
-    for (word, reloc) in file.words_of(part).iter().zip(file.relocs_of(part)) {
-        if reloc.is_pc() || !matches!(reloc.kind(), Some(Kind::Absolute)) {
-            let known = given
-                .groups
-                .iter()
-                .position(|first| first.segment == segment && first.reloc == *reloc);
-            let reference = RelocatedWord {
-                segment,
-                offset,
-                word: *word,
-                reloc: *reloc,
-                group: known.unwrap_or(given.groups.len()),
-            };
-            if known.is_none() {
-                given.groups.push(reference)?;
-            }
-            given.references.push(reference)?;
-        }
-        offset = offset.wrapping_add(2);
-    }
-    Ok(())
 }
 
 /// What the words of a group refer to.
@@ -112,31 +125,19 @@ fn referent_of(symbols: &[Symbol], reloc: Reloc) -> Referent {
             Some(symbol) => Referent::Name(symbol.name),
             None => Referent::Number,
         },
-        Some(Kind::TextSeg) => Referent::Text,
-        Some(Kind::DataSeg) => Referent::Data,
-        Some(Kind::BssSeg) => Referent::Bss,
+        Some(Kind::TextSeg) => Referent::Segment(Segment::TextSeg),
+        Some(Kind::DataSeg) => Referent::Segment(Segment::DataSeg),
+        Some(Kind::BssSeg) => Referent::Segment(Segment::BssSeg),
         Some(Kind::Absolute) | None => Referent::Number,
     }
 }
 
-/// Puts the words of a segment that refer to something, as a list: the index of each, its group, and the place of what it refers to.
-fn put_references(out: &mut Json, key: &str, given: &Given, segment: Segment) {
-    out.open(key);
-    for reference in &given.references {
-        if reference.segment == segment {
-            let (index, group) = (reference.offset / 2, reference.group);
-            out.put(format_args!("[{index},{group},{}]", given.meant(*reference)));
-        }
-    }
-    out.close("]");
-}
-
 /// Puts the words of an object, the groups of those that refer to something, and the symbols as the lines of `nm -p`.
-fn put_file(alloc: Global, out: &mut Json, given: &Given, file: &File) -> Result<(), AllocError> {
+fn put_file(out: &mut Json, given: &Given, file: &File) -> Result<(), AllocError> {
     let (text, data) = (given.start(Segment::TextSeg), given.start(Segment::DataSeg));
     out.put(format_args!("\"at\":[{text},{data}]"));
-    out.put(format_args!("\"text\":[{}]", Joined(file.text_words())));
-    out.put(format_args!("\"data\":[{}]", Joined(file.data_words())));
+    out.list("\"text\":[", file.text_words());
+    out.list("\"data\":[", file.data_words());
     out.put(format_args!("\"bss\":{}", given.header.bss_size));
     out.open("\"groups\":[");
     for first in &given.groups {
@@ -144,12 +145,12 @@ fn put_file(alloc: Global, out: &mut Json, given: &Given, file: &File) -> Result
         out.put(format_args!("[{referent},{}]", first.reloc.0));
     }
     out.close("]");
-    put_references(out, "\"textReferences\":[", given, Segment::TextSeg);
-    put_references(out, "\"dataReferences\":[", given, Segment::DataSeg);
-    put_instructions(alloc, out, file)?;
-    put_operands(alloc, out, file)?;
+    given.put_references(out, "\"textReferences\":[", Segment::TextSeg);
+    given.put_references(out, "\"dataReferences\":[", Segment::DataSeg);
+    put_instructions(out, file)?;
+    put_operands(out, file)?;
     put_labels(out, given, file.symbols());
-    put_texts(alloc, out, file)?;
+    put_texts(out, file)?;
     out.open("\"symbols\":[");
     for symbol in file.symbols() {
         let line = line_of(symbol);
@@ -161,12 +162,12 @@ fn put_file(alloc: Global, out: &mut Json, given: &Given, file: &File) -> Result
 }
 
 /// Puts an object as it is given.
-pub(crate) fn put_given(alloc: Global, out: &mut Json, given: &Given) -> Result<()> {
+pub(crate) fn put_given(out: &mut Json, given: &Given) -> Result<()> {
     let path = given.path.as_str();
-    let object = object_in(alloc, path, &given.bytes)?;
+    let object = object_in(out.allocator(), path, &given.bytes)?;
     out.open("{");
     out.put(format_args!("\"path\":{}", Quoted(path)));
-    put_file(alloc, out, given, object.file())?;
+    put_file(out, given, object.file())?;
     out.close("}");
     Ok(())
 }

@@ -20,6 +20,10 @@ impl Json {
         }
     }
 
+    pub(crate) fn allocator(&self) -> Global {
+        self.text.allocator()
+    }
+
     /// Puts a value, or a member of an object.
     pub(crate) fn put<D: Display + Drop>(&mut self, value: D) {
         self.open("");
@@ -42,9 +46,18 @@ impl Json {
         self.is_after_value = true;
     }
 
+    /// Puts a list of values, after what it begins with.
+    pub(crate) fn list<T: Display>(&mut self, start: &str, values: &[T]) {
+        self.open(start);
+        for value in values {
+            self.put(format_args!("{value}"));
+        }
+        self.close("]");
+    }
+
     /// Puts why something is refused.
     pub(crate) fn put_reason<D: Display>(&mut self, fault: &D) -> Result<()> {
-        let reason = format!(in self.text.allocator(); "{fault}")?;
+        let reason = format!(in self.allocator(); "{fault}")?;
         self.put(format_args!("\"refused\":{}", Quoted(reason.as_str())));
         Ok(())
     }
@@ -84,21 +97,5 @@ impl Display for Quoted<'_> {
             put_character(f, character, false)?;
         }
         f.write_str("\"")
-    }
-}
-
-/// Values with commas between them.
-#[derive(Clone, Copy)]
-pub(crate) struct Joined<'a, T>(pub(crate) &'a [T]);
-
-impl<T: Display> Display for Joined<'_, T> {
-    fn fmt<W: Write>(&self, f: &mut Formatter<W>) -> fmt::Result {
-        for (place, value) in self.0.iter().enumerate() {
-            if place > 0 {
-                f.write_str(",")?;
-            }
-            write!(f, "{value}")?;
-        }
-        Ok(())
     }
 }

@@ -1,10 +1,10 @@
 //! The answers to questions: what a session knows after a step.
 use crate::json::{Bytes, Json};
 use crate::links::link_at;
-use crate::parts::WordPlace;
-use anyhow::{Result, anyhow};
+use crate::parts::{WordPlace, defined_at, segment_named};
+use anyhow::{Context, Result, bail};
 use aout_core::{Name, Segment};
-use link_session::{Mark, Session, State};
+use link_session::{Cell, Mark, Session};
 use std::alloc::{AllocError, Global};
 
 /// What a question asks of the step after it.
@@ -42,14 +42,16 @@ pub(crate) fn word_named(text: &str) -> Option<WordPlace> {
 
 /// A word of the image, by its segment and its offset in octal digits.
 pub(crate) fn word_at(segment: &str, digits: &str) -> Option<WordPlace> {
-    let segment = match segment {
-        "text" => Segment::TextSeg,
-        "data" => Segment::DataSeg,
-        _ => return None,
-    };
-    match u16::from_str_radix(digits, 8) {
-        Ok(offset) if offset % 2 == 0 => Some(WordPlace { segment, offset }),
-        _ => None,
+    let segment = segment_named(segment).filter(|segment| *segment != Segment::BssSeg)?;
+    let offset = u16::from_str_radix(digits, 8).ok()?;
+    (offset % 2 == 0).then_some(WordPlace { segment, offset })
+}
+
+/// The word that a mark is about, and its cell before the addition.
+fn overwritten(mark: &Mark) -> Option<(WordPlace, Cell)> {
+    match *mark {
+        Mark::CellWas(place, cell) => Some((WordPlace::of(place), cell)),
+        Mark::StateWas(..) => None,
     }
 }
 
@@ -59,60 +61,46 @@ pub(crate) fn changed_words(
     session: &Session,
 ) -> Result<Vec<WordPlace>, AllocError> {
     let mut words = Vec::new(alloc);
-    for mark in session.last_marks() {
-        if let Mark::CellWas(place, _) = *mark {
-            words.push(WordPlace::of(place))?;
-        }
+    for (word, _) in session.last_marks().iter().filter_map(overwritten) {
+        words.push(word)?;
     }
     Ok(words)
 }
 
 /// What a word was before the last addition, if this overwrote it.
 pub(crate) fn was_before(session: &Session, word: WordPlace) -> Option<u16> {
-    for mark in session.last_marks() {
-        if let Mark::CellWas(place, cell) = *mark
-            && WordPlace::of(place) == word
-        {
-            return Some(cell.value);
-        }
-    }
-    None
+    let mut changed = session.last_marks().iter().filter_map(overwritten);
+    changed
+        .find(|(place, _)| *place == word)
+        .map(|(_, cell)| cell.value)
 }
 
 /// A word after a step: in the image, or in the link that the step shows.
 fn value_after(alloc: Global, session: &Session, act: Act, word: WordPlace) -> Result<u16> {
     let value = match act {
-        Act::Link(layout) => { link_at(alloc, session, layout)?.and_then(|link| link.word(word)) }
+        Act::Link(layout) => link_at(alloc, session, layout)?.word(word),
         _ => word.cell(session).map(|cell| cell.value),
     };
-    match value {
-        Some(value) => Ok(value),
-        None => Err(anyhow!("after the step there is no such word")),
-    }
+    value.context("after the step there is no such word")
 }
 
 /// Where a name is after a step: its offset in its segment, or its address in the link that the step shows; nothing where it has
 /// none.
 fn place_after(alloc: Global, session: &Session, act: Act, name: &Name) -> Result<Option<u16>> {
-    let Some(index) = session.find(name) else {
-        return Err(anyhow!("after the step there is no such name"));
-    };
-    if let Act::Link(layout) = act {
-        return Ok(link_at(alloc, session, layout)?.and_then(|link| link.address(index)));
-    }
-    match session.external(index) {
-        Some((_, State::Defined(_, offset))) => Ok(Some(offset)),
-        _ => Ok(None),
+    let index = session
+        .find(name)
+        .context("after the step there is no such name")?;
+    match act {
+        Act::Link(layout) => Ok(link_at(alloc, session, layout)?.address(index)),
+        _ => Ok(defined_at(session, index)),
     }
 }
 
-/// The key that a file gives has to be the answer.
 fn compare_key(key: Option<u16>, answer: Option<u16>) -> Result<()> {
     match (key, answer) {
-        (Some(key), Some(answer)) if key == answer => Ok(()),
-        (Some(_), Some(answer)) => Err(anyhow!("the number is {answer:o}")),
-        (Some(_), None) => Err(anyhow!("the name is nowhere")),
-        (None, _) => Ok(()),
+        (Some(_), None) => bail!("the name is nowhere"),
+        (Some(key), Some(answer)) if key != answer => bail!("the number is {answer:o}"),
+        _ => Ok(()),
     }
 }
 
@@ -127,7 +115,6 @@ pub(crate) struct Asked {
 /// Puts the answer to what is asked, after the step that changed these words: the words that change; a word with its value after
 /// the step and before it; or a name with its place. A key that is wrong is a fault.
 pub(crate) fn put_answer(
-    alloc: Global,
     out: &mut Json,
     session: &Session,
     asked: &Asked,
@@ -138,7 +125,7 @@ pub(crate) fn put_answer(
         Wanted::Nothing => {}
         Wanted::Changes => {
             if let Some(word) = asked.words.iter().find(|word| !changed.contains(*word)) {
-                return Err(anyhow!("the word at {:o} does not change", word.offset));
+                bail!("the word at {:o} does not change", word.offset);
             }
             out.open("[");
             out.put("\"changes\"");
@@ -148,12 +135,12 @@ pub(crate) fn put_answer(
             out.close("]");
         }
         Wanted::Value(word, before) => {
-            let value = value_after(alloc, session, act, word)?;
+            let value = value_after(out.allocator(), session, act, word)?;
             compare_key(asked.number, Some(value))?;
             out.put(format_args!("[\"value\",{word},{value},{before}]"));
         }
         Wanted::Where(name) => {
-            let place = place_after(alloc, session, act, &name)?;
+            let place = place_after(out.allocator(), session, act, &name)?;
             compare_key(asked.number, place)?;
             let name = Bytes(name.as_bytes());
             match place {

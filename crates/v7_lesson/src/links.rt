@@ -1,10 +1,10 @@
 //! The links of a session.
-use crate::json::{Bytes, Joined, Json};
+use crate::json::{Bytes, Json};
 use crate::parts::{WordPlace, part_of};
-use anyhow::{Result as Outcome, anyhow};
+use anyhow::{Context, Result as Outcome, anyhow};
 use aout_core::{Segment, Symbol, Wire};
 use link_out::{
-    Bases, Keep, Layout, LinkFault, Linked, Options, Report, finish, link_bases, link_externals,
+    Bases, Keep, Layout, LinkFault, Linked, Options, finish, link_bases, link_externals,
 };
 use link_session::Session;
 use std::alloc::{AllocError, Global};
@@ -24,10 +24,8 @@ pub(crate) struct Link {
 impl Link {
     /// The address of a name, if it has one.
     pub(crate) fn address(&self, index: u16) -> Option<u16> {
-        match self.externals.get(usize::from(index)) {
-            Some(symbol) if symbol.segment() != Segment::Undefined => Some(symbol.value),
-            _ => None,
-        }
+        let symbol = self.externals.get(usize::from(index))?;
+        (symbol.segment() != Segment::Undefined).then_some(symbol.value)
     }
 
     /// The address at which a segment with words begins; 0 if the link is refused since its data begins later than all addresses.
@@ -40,22 +38,14 @@ impl Link {
 
     /// A word of the image as it is in the link, if this is not refused.
     pub(crate) fn word(&self, place: WordPlace) -> Option<u16> {
-        match &self.outcome {
-            Ok(linked) => linked
-                .file
-                .words_of(part_of(place.segment))
-                .get(usize::from(place.offset / 2))
-                .copied(),
-            Err(_) => None,
-        }
+        let linked = self.outcome.as_ref().ok()?;
+        let words = linked.file.words_of(part_of(place.segment));
+        words.get(place.index()).copied()
     }
 }
 
-/// How many links are shown.
-pub(crate) const LINK_COUNT: usize = 4;
-
 /// The links that are shown: what each is called, and its options.
-static LINKS: [(&str, Layout, bool); LINK_COUNT] = [
+static LINKS: [(&str, Layout, bool); 4] = [
     ("plain", Layout::Plain, false),
     ("-n", Layout::Pure, false),
     ("-i", Layout::Split, false),
@@ -68,56 +58,40 @@ pub(crate) fn layout_named(name: &str) -> Option<usize> {
 }
 
 /// The link of this index of those that are shown.
-pub(crate) fn link_at(
-    alloc: Global,
-    session: &Session,
-    index: usize,
-) -> Result<Option<Link>, AllocError> {
-    let Some((_, layout, is_relocatable)) = LINKS.get(index) else {
-        return Ok(None);
-    };
-    let Ok(options) = Options::new(*layout, *is_relocatable, Keep::All, None) else {
-        return Ok(None);
-    };
+pub(crate) fn link_at(alloc: Global, session: &Session, index: usize) -> Outcome<Link> {
+    let (_, layout, is_relocatable) = *LINKS.get(index).context("no such link")?;
+    let options = Options::new(layout, is_relocatable, Keep::All, None)?;
     let outcome = finish(alloc, session, &options);
     let externals = match &outcome {
         Ok(_) => link_externals(alloc, session, &options)?,
-        Err(LinkFault::Memory(refused)) => return Err(AllocError::from(*refused)),
+        Err(LinkFault::Memory(refused)) => return Err(AllocError::from(*refused).into()),
         Err(_) => None,
     };
-    Ok(Some(Link {
+    Ok(Link {
         bases: link_bases(session, &options),
         outcome,
-        is_split: *layout == Layout::Split,
+        is_split: layout == Layout::Split,
         externals: externals.unwrap_or(Vec::new(alloc)),
-    }))
+    })
 }
 
 /// The links of a session that are shown.
-pub(crate) fn links_of(alloc: Global, session: &Session) -> Result<Vec<Link>, AllocError> {
+pub(crate) fn links_of(alloc: Global, session: &Session) -> Outcome<Vec<Link>> {
     let mut links = Vec::new(alloc);
-    for index in 0..LINK_COUNT {
-        if let Some(link) = link_at(alloc, session, index)? {
-            links.push(link)?;
-        }
+    for index in 0..LINKS.len() {
+        links.push(link_at(alloc, session, index)?)?;
     }
     Ok(links)
 }
 
-/// The lines of a report.
-fn report_lines(alloc: Global, report: &Report) -> Outcome<Vec<u8>> {
-    let mut out = Wire::new(Vec::new(alloc));
-    match report.write(&mut out) {
-        Ok(()) => Ok(out.into_inner()),
-        Err(_) => Err(anyhow!("no memory")),
-    }
-}
-
 /// Puts the links, as a list: the bounds of the segments of each, and what is reported of it or why it is refused.
-pub(crate) fn put_links(alloc: Global, out: &mut Json, links: &[Link]) -> Outcome<()> {
+pub(crate) fn put_links(out: &mut Json, links: &[Link]) -> Outcome<()> {
     out.open("\"links\":[");
-    for link in links {
-        let at = &link.bases;
+    for Link {
+        bases: at,
+        outcome,
+        ..
+    } in links {
         let bounds = [
             at.text_end,
             at.data_start,
@@ -126,11 +100,15 @@ pub(crate) fn put_links(alloc: Global, out: &mut Json, links: &[Link]) -> Outcom
             at.bss_end,
         ];
         out.open("{");
-        out.put(format_args!("\"bases\":[{}]", Joined(&bounds)));
-        match &link.outcome {
+        out.list("\"bases\":[", &bounds);
+        match outcome {
             Ok(linked) => {
-                let lines = report_lines(alloc, &linked.report)?;
-                out.put(format_args!("\"report\":{}", Bytes(&lines)));
+                let mut lines = Wire::new(Vec::new(out.allocator()));
+                linked
+                    .report
+                    .write(&mut lines)
+                    .map_err(|_| anyhow!("no memory"))?;
+                out.put(format_args!("\"report\":{}", Bytes(&lines.into_inner())));
             }
             Err(fault) => out.put_reason(fault)?,
         }

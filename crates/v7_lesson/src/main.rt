@@ -5,13 +5,11 @@
 mod arguments;
 mod decoded;
 mod files;
-mod fronts;
 mod given;
 mod help;
 mod json;
 mod keys;
 mod links;
-mod marks;
 mod numbers;
 mod page;
 mod parts;
@@ -22,7 +20,6 @@ mod shapes;
 mod stage;
 mod states;
 mod steps;
-mod walk;
 
 use anyhow::{Error, Result};
 use arguments::{Call, call_of};
@@ -30,26 +27,9 @@ use help::{HELP, USAGE};
 use page::write_page;
 use std::process::ExitCode;
 use steps::play;
-use surroundings::{Given, given_in, readable_words, refuse, show, shown_in};
+use surroundings::{given_in, readable_words, refuse, show, shown_in};
 
-/// The name of the program.
 const NAME: &str = "v7-lesson";
-
-/// Does the call that is asked for, if one is, and returns the status.
-fn run_given(rt: &HostRuntime, given: &Given) -> Result<u8> {
-    match call_of(given) {
-        Ok(Call::Steps { shown, files }) => play(rt, files, shown)?,
-        Ok(
-            Call::Page {
-                folder,
-                questions,
-                files,
-            },
-        ) => write_page(rt, folder, questions, files)?,
-        Err(reason) => return Ok(refuse(rt, NAME, USAGE, reason)),
-    }
-    Ok(0)
-}
 
 /// Does what the arguments ask for, and returns the status.
 fn run(rt: &HostRuntime) -> Result<u8> {
@@ -57,10 +37,23 @@ fn run(rt: &HostRuntime) -> Result<u8> {
     if let Some(shown) = shown_in(&words) {
         return Ok(show(rt, NAME, HELP, shown));
     }
-    match given_in(rt.alloc(), b"c", b"npq", &words)? {
-        Ok(given) => run_given(rt, &given),
-        Err(reason) => Ok(refuse(rt, NAME, USAGE, reason)),
+    let given = match given_in(rt.alloc(), b"c", b"npq", &words)? {
+        Ok(given) => given,
+        Err(reason) => return Ok(refuse(rt, NAME, USAGE, reason)),
+    };
+    let call = match call_of(&given) {
+        Ok(call) => call,
+        Err(reason) => return Ok(refuse(rt, NAME, USAGE, reason)),
+    };
+    match call {
+        Call::Steps { shown, files } => play(rt, files, shown)?,
+        Call::Page {
+            folder,
+            questions,
+            files,
+        } => write_page(rt, folder, questions, files)?,
     }
+    Ok(0)
 }
 
 /// The end of the line of a refused request for memory. `anyhow` keeps no more of an error than its text.

@@ -4,7 +4,7 @@ use crate::given::{Given, given_at, put_given};
 use crate::json::Json;
 use crate::questions::put_questions;
 use crate::states::put_states;
-use anyhow::{Result, anyhow};
+use anyhow::{Result, ensure};
 
 /// How many bytes a page has at most.
 pub(crate) const PAGE_LIMIT: usize = 5_000_000;
@@ -30,7 +30,6 @@ const HEAD: &str = "<!DOCTYPE html>\n<html lang=\"en\">\n<head>\n<meta charset=\
 <meta name=\"viewport\" content=\"width=device-width, initial-scale=1\">\n\
 <title>What a linker does</title>\n<style>\n";
 
-/// The objects at the paths.
 fn givens_at(rt: &HostRuntime, files: &[String]) -> Result<Vec<Given>> {
     let mut givens = Vec::new(rt.alloc());
     for path in files {
@@ -59,10 +58,10 @@ fn put_data(
     }
     out.open("\"objects\":[");
     for given in givens {
-        put_given(rt.alloc(), out, given)?;
+        put_given(out, given)?;
     }
     out.close("]");
-    put_states(rt.alloc(), out, givens)?;
+    put_states(out, givens)?;
     out.close("}");
     Ok(())
 }
@@ -91,8 +90,9 @@ pub(crate) fn write_page(
     }
     out.text.put("</body>\n</html>\n");
     let page = out.text.finish()?;
-    if PAGE_LIMIT < page.len() {
-        return Err(anyhow!("the page would have more than {PAGE_LIMIT} bytes"));
-    }
+    ensure!(
+        page.len() <= PAGE_LIMIT,
+        "the page would have more than {PAGE_LIMIT} bytes"
+    );
     put_out(rt, &page)
 }

@@ -2,12 +2,12 @@
 ghost use Rattle.std.specs.Prelude.{◌≤◌, ◌*◌, length};
 
 use crate::json::Bytes;
-use aout_core::{Name, Part, Segment, pc_target};
+use aout_core::{Kind, Name, Part, Reloc, Segment, pc_target};
 use link_session::{Cell, Place, Session, State, Target};
 use std::fmt::{self, Display, Formatter, Write};
 
 /// A number of bytes: in octal, with the decimal number after it.
-#[derive(Clone, Copy, PartialEq, Eq)]
+#[derive(Clone, Copy)]
 pub(crate) struct Size(pub(crate) u16);
 
 impl Display for Size {
@@ -16,13 +16,25 @@ impl Display for Size {
     }
 }
 
-/// What a segment is called: `text`, `data`, or else `bss`.
+/// The segments that an object has.
+pub(crate) static SEGMENTS: [Segment; 3] = [Segment::TextSeg, Segment::DataSeg, Segment::BssSeg];
+
+/// What a segment is called; one that no object has is a number.
 pub(crate) fn segment_name(segment: Segment) -> &'static str {
     match segment {
         Segment::TextSeg => "text",
         Segment::DataSeg => "data",
-        _ => "bss",
+        Segment::BssSeg => "bss",
+        _ => "number",
     }
+}
+
+/// The segment that is called so.
+pub(crate) fn segment_named(name: &str) -> Option<Segment> {
+    let mut segments = SEGMENTS.iter();
+    segments
+        .find(|segment| segment_name(**segment) == name)
+        .copied()
 }
 
 /// The part of a file that has the words of a segment: data, or else text.
@@ -33,7 +45,7 @@ pub(crate) fn part_of(segment: Segment) -> Part {
     }
 }
 
-/// A word of the merged image. As a text it is what the page calls its row.
+/// A word of the merged image, or of an object. As a text it is what the page calls its row.
 #[derive(Clone, Copy, PartialEq, Eq)]
 pub(crate) struct WordPlace {
     pub(crate) segment: Segment,
@@ -41,23 +53,28 @@ pub(crate) struct WordPlace {
 }
 
 impl WordPlace {
+    /// The word of this index in a segment, which has fewer than 32,768 words.
+    pub(crate) fn at(segment: Segment, index: usize) -> WordPlace {
+        let offset = u16::try_from(index).map_or(0, |index| index.wrapping_mul(2));
+        WordPlace { segment, offset }
+    }
+
     /// The word that a mark is about.
     pub(crate) fn of(place: Place) -> WordPlace {
-        let (segment, index) = match place {
-            Place::InText(index) => (Segment::TextSeg, index),
-            Place::InData(index) => (Segment::DataSeg, index),
-        };
-        WordPlace {
-            segment,
-            offset: index.wrapping_mul(2),
+        match place {
+            Place::InText(index) => WordPlace::at(Segment::TextSeg, usize::from(index)),
+            Place::InData(index) => WordPlace::at(Segment::DataSeg, usize::from(index)),
         }
+    }
+
+    /// Its index in the segment.
+    pub(crate) fn index(self) -> usize {
+        usize::from(self.offset / 2)
     }
 
     /// Its cell in the image of a session.
     pub(crate) fn cell(self, session: &Session) -> Option<Cell> {
-        cells_of(session, self.segment)
-            .get(usize::from(self.offset / 2))
-            .copied()
+        cells_of(session, self.segment).get(self.index()).copied()
     }
 }
 
@@ -95,28 +112,37 @@ pub(crate) fn place_meant(cell: Cell, offset: u16) -> u16 {
     }
 }
 
+pub(crate) fn segment_of(target: Target) -> Option<Segment> {
+    match target {
+        Target::TextSeg => Some(Segment::TextSeg),
+        Target::DataSeg => Some(Segment::DataSeg),
+        Target::BssSeg => Some(Segment::BssSeg),
+        Target::Absolute | Target::External(_) => None,
+    }
+}
+
+/// Whether a word with this relocation word is more than a number.
+pub(crate) fn refers(reloc: Reloc) -> bool {
+    reloc.is_pc() || !matches!(reloc.kind(), Some(Kind::Absolute))
+}
+
 /// What a word refers to or waits for. As a text it is a name in quotes, or 0 for a number, 1 for text, 2 for data, 3 for bss.
-#[derive(Clone, Copy, PartialEq, Eq)]
+#[derive(Clone, Copy)]
 pub(crate) enum Referent {
     Number,
-    Text,
-    Data,
-    Bss,
+    Segment(Segment),
     Name(Name),
 }
 
 impl Referent {
-    /// That of a target in a session.
     pub(crate) fn of(session: &Session, target: Target) -> Referent {
-        match target {
-            Target::Absolute => Referent::Number,
-            Target::TextSeg => Referent::Text,
-            Target::DataSeg => Referent::Data,
-            Target::BssSeg => Referent::Bss,
-            Target::External(index) => match session.external(index) {
+        match (segment_of(target), target) {
+            (Some(segment), _) => Referent::Segment(segment),
+            (None, Target::External(index)) => match session.external(index) {
                 Some((name, _)) => Referent::Name(name),
                 None => Referent::Number,
             },
+            (None, _) => Referent::Number,
         }
     }
 }
@@ -125,11 +151,19 @@ impl Display for Referent {
     fn fmt<W: Write>(&self, f: &mut Formatter<W>) -> fmt::Result {
         match self {
             Referent::Number => f.write_str("0"),
-            Referent::Text => f.write_str("1"),
-            Referent::Data => f.write_str("2"),
-            Referent::Bss => f.write_str("3"),
+            Referent::Segment(Segment::TextSeg) => f.write_str("1"),
+            Referent::Segment(Segment::DataSeg) => f.write_str("2"),
+            Referent::Segment(_) => f.write_str("3"),
             Referent::Name(name) => write!(f, "{}", Bytes(name.as_bytes())),
         }
+    }
+}
+
+/// The offset of a name in its segment, or its number, if it is defined.
+pub(crate) fn defined_at(session: &Session, index: u16) -> Option<u16> {
+    match session.external(index) {
+        Some((_, State::Defined(_, offset))) => Some(offset),
+        _ => None,
     }
 }
 
@@ -138,12 +172,7 @@ pub(crate) fn what_is_known(state: State) -> (&'static str, u16) {
     match state {
         State::Wanted(0) => ("undefined", 0),
         State::Wanted(size) => ("common", size),
-        State::Defined(segment, number) => match segment {
-            Segment::TextSeg | Segment::DataSeg | Segment::BssSeg => {
-                (segment_name(segment), number)
-            }
-            _ => ("number", number),
-        },
+        State::Defined(segment, number) => (segment_name(segment), number),
     }
 }
 

@@ -1,82 +1,50 @@
-//! The places that words refer to: where an arrow of the page ends.
+//! The places that words refer to, where an arrow of the page ends: each in quotes, as the page calls its row.
 use crate::links::Link;
-use crate::parts::{place_meant, segment_name, size_of};
+use crate::parts::{WordPlace, place_meant, segment_name, segment_of, size_of};
 use aout_core::Segment;
 use link_out::Bases;
 use link_session::{Cell, Session, Target};
-use std::fmt::{self, Display, Formatter, Write};
+use std::alloc::{AllocError, Global};
+use std::cmp::Ordering;
 
-/// The place that a word refers to, in the image or in a link. As a text it is what the page calls its row.
-#[derive(Clone, Copy, PartialEq, Eq)]
-pub(crate) enum ArrowEnd {
-    /// No place: the word is a number, or waits for a name.
-    Nowhere,
-    /// In a link: the same place as in the image.
-    AsInImage,
-    /// The word at an offset of a segment; of bss, where no words are, the byte.
-    Row(Segment, u16),
-    /// The end of a segment.
-    End(Segment),
-    /// An offset that is beyond the end of its segment.
-    Beyond(Segment, u16),
-    /// A place of the commons, by its address.
-    Common(u16),
-    /// A place outside of all segments, by its address.
-    Outside(u16),
+/// A word of a segment, by the offset of one of its bytes; of bss, where no words are, the byte.
+fn row(alloc: Global, segment: Segment, offset: u16) -> Result<String, AllocError> {
+    let is_byte = segment == Segment::BssSeg;
+    let first = if is_byte { offset } else { offset - offset % 2 };
+    format!(in alloc; "\"{}-{first}\"", segment_name(segment))
 }
 
-impl ArrowEnd {
-    /// The row that has this byte of a segment.
-    fn row(segment: Segment, offset: u16) -> ArrowEnd {
-        match segment {
-            Segment::BssSeg => ArrowEnd::Row(segment, offset),
-            _ => ArrowEnd::Row(segment, offset - offset % 2),
-        }
-    }
+fn end(alloc: Global, segment: Segment) -> Result<String, AllocError> {
+    format!(in alloc; "\"{}-end\"", segment_name(segment))
 }
 
-impl Display for ArrowEnd {
-    fn fmt<W: Write>(&self, f: &mut Formatter<W>) -> fmt::Result {
-        match *self {
-            ArrowEnd::Nowhere => f.write_str("\"\""),
-            ArrowEnd::AsInImage => f.write_str("null"),
-            ArrowEnd::Row(segment, offset) => write!(f, "\"{}-{offset}\"", segment_name(segment)),
-            ArrowEnd::End(segment) => write!(f, "\"{}-end\"", segment_name(segment)),
-            ArrowEnd::Beyond(segment, offset) => {
-                write!(f, "\"{}-beyond-{offset}\"", segment_name(segment))
-            }
-            ArrowEnd::Common(address) => write!(f, "\"common-{address}\""),
-            ArrowEnd::Outside(address) => write!(f, "\"outside-{address}\""),
-        }
-    }
+fn outside(alloc: Global, address: u16) -> Result<String, AllocError> {
+    format!(in alloc; "\"outside-{address}\"")
 }
 
-/// The segment that a target is in, if it is one.
-fn segment_of(target: Target) -> Option<Segment> {
-    match target {
-        Target::TextSeg => Some(Segment::TextSeg),
-        Target::DataSeg => Some(Segment::DataSeg),
-        Target::BssSeg => Some(Segment::BssSeg),
-        Target::Absolute | Target::External(_) => None,
-    }
+/// No place: the word is a number, or waits for a name.
+fn nowhere(alloc: Global) -> Result<String, AllocError> {
+    String::from_str(alloc, "\"\"")
 }
 
 /// The place in the merged image that the cell at an offset refers to.
-pub(crate) fn image_place(session: &Session, cell: Cell, offset: u16) -> ArrowEnd {
+pub(crate) fn image_place(
+    alloc: Global,
+    session: &Session,
+    cell: Cell,
+    offset: u16,
+) -> Result<String, AllocError> {
     let number = place_meant(cell, offset);
     let Some(segment) = segment_of(cell.target) else {
         return match cell.target {
-            Target::Absolute if cell.pc => ArrowEnd::Outside(number),
-            _ => ArrowEnd::Nowhere,
+            Target::Absolute if cell.pc => outside(alloc, number),
+            _ => nowhere(alloc),
         };
     };
-    let size = size_of(session, segment);
-    if usize::from(number) < size {
-        ArrowEnd::row(segment, number)
-    } else if usize::from(number) == size {
-        ArrowEnd::End(segment)
-    } else {
-        ArrowEnd::Beyond(segment, number)
+    match usize::from(number).cmp(&size_of(session, segment)) {
+        Ordering::Less => row(alloc, segment, number),
+        Ordering::Equal => end(alloc, segment),
+        Ordering::Greater => format!(in alloc; "\"{}-beyond-{number}\"", segment_name(segment)),
     }
 }
 
@@ -92,18 +60,18 @@ fn is_end(bases: &Bases, segment: Segment, address: u16) -> bool {
 }
 
 /// What a link has at an address. With `-i` there are two spaces of addresses: `in_text` says whether that of text is meant.
-fn found_at(bases: &Bases, is_split: bool, in_text: bool, address: u16) -> ArrowEnd {
-    let at = u64::from(address);
-    if (in_text || !is_split) && at < bases.text_end {
-        ArrowEnd::row(Segment::TextSeg, address)
-    } else if in_text && is_split || at < bases.data_start || bases.bss_end <= at {
-        ArrowEnd::Outside(address)
+fn found_at(alloc: Global, link: &Link, in_text: bool, address: u16) -> Result<String, AllocError> {
+    let (bases, at) = (&link.bases, u64::from(address));
+    if (in_text || !link.is_split) && at < bases.text_end {
+        row(alloc, Segment::TextSeg, address)
+    } else if in_text && link.is_split || at < bases.data_start || bases.bss_end <= at {
+        outside(alloc, address)
     } else if at < bases.data_end {
-        ArrowEnd::row(Segment::DataSeg, (at - bases.data_start) as u16)
+        row(alloc, Segment::DataSeg, (at - bases.data_start) as u16)
     } else if at < bases.bss_start {
-        ArrowEnd::Common(address)
+        format!(in alloc; "\"common-{address}\"")
     } else {
-        ArrowEnd::row(Segment::BssSeg, (at - bases.bss_start) as u16)
+        row(alloc, Segment::BssSeg, (at - bases.bss_start) as u16)
     }
 }
 
@@ -118,38 +86,33 @@ fn target_segment(link: &Link, target: Target) -> Option<Segment> {
     }
 }
 
-/// The place at an address of a link that a cell refers to: the end of the segment that it names goes before what follows it.
-fn place_in_link(link: &Link, cell: Cell, address: u16) -> ArrowEnd {
-    let bases = &link.bases;
-    match target_segment(link, cell.target) {
-        Some(segment) if is_end(bases, segment, address) => ArrowEnd::End(segment),
-        Some(segment) => found_at(bases, link.is_split, segment == Segment::TextSeg, address),
-        None if cell.pc && matches!(cell.target, Target::Absolute) => {
-            found_at(bases, link.is_split, true, address)
-        }
-        None => ArrowEnd::Nowhere,
-    }
-}
+/// What is said for a place in a link that is the same as in the image.
+pub(crate) const AS_IN_IMAGE: &str = "null";
 
-/// The place that a word refers to in a link, where this is the word at this address; `in_image` is the place in the image.
+/// The place in a link that a cell of the image refers to: the end of the segment that it names goes before what follows it. There is
+/// none if the link is refused.
 pub(crate) fn link_place(
+    alloc: Global,
     link: &Link,
     cell: Cell,
-    word: u16,
-    address: u16,
-    in_image: ArrowEnd,
-) -> ArrowEnd {
-    let meant = place_meant(
-        Cell {
-            value: word,
-            ..cell
-        },
-        address,
-    );
-    let place = place_in_link(link, cell, meant);
-    if place == in_image {
-        ArrowEnd::AsInImage
-    } else {
-        place
+    place: WordPlace,
+    in_image: &str,
+) -> Result<String, AllocError> {
+    let Some(value) = link.word(place) else {
+        return nowhere(alloc);
+    };
+    let address = link.start(place.segment).wrapping_add(place.offset);
+    let meant = place_meant(Cell { value, ..cell }, address);
+    let found = match target_segment(link, cell.target) {
+        Some(segment) if is_end(&link.bases, segment, meant) => end(alloc, segment)?,
+        Some(segment) => found_at(alloc, link, segment == Segment::TextSeg, meant)?,
+        None if cell.pc && matches!(cell.target, Target::Absolute) => {
+            found_at(alloc, link, true, meant)?
+        }
+        None => nowhere(alloc)?,
+    };
+    if found.as_str() == in_image {
+        return String::from_str(alloc, AS_IN_IMAGE);
     }
+    Ok(found)
 }

@@ -3,8 +3,8 @@
 use crate::json::{Json, Quoted};
 use crate::keys::{first_word, was_before, word_named};
 use crate::links::{Link, layout_named, link_at};
-use crate::parts::{Size, WordPlace, part_of, place_meant, size_of};
-use anyhow::{Result, anyhow};
+use crate::parts::{Size, WordPlace, part_of, place_meant, segment_named, size_of};
+use anyhow::{Result, bail, ensure};
 use aout_core::{Name, Segment};
 use link_session::{Session, State};
 use std::alloc::Global;
@@ -59,36 +59,22 @@ impl Display for Number {
     }
 }
 
-/// The index of a name in a session.
 fn index_of(session: &Session, name: &str) -> Option<u16> {
     session.find(&Name::from_bytes(name.as_bytes()))
 }
 
 /// The place or the size that a session knows of a name.
 fn number_of_name(session: &Session, name: &str) -> Option<Number> {
-    match session.external(index_of(session, name)?) {
-        Some((_, State::Defined(_, number))) => Some(Number::Word(number)),
-        Some((_, State::Wanted(size))) if size > 0 => Some(Number::Size(size)),
-        _ => None,
+    match session.external(index_of(session, name)?)? {
+        (_, State::Defined(_, number)) => Some(Number::Word(number)),
+        (_, State::Wanted(0)) => None,
+        (_, State::Wanted(size)) => Some(Number::Size(size)),
     }
-}
-
-/// The size of a merged segment in bytes.
-fn size_named(session: &Session, segment: &str) -> Option<Number> {
-    let segment = match segment {
-        "text" => Segment::TextSeg,
-        "data" => Segment::DataSeg,
-        "bss" => Segment::BssSeg,
-        _ => return None,
-    };
-    u16::try_from(size_of(session, segment))
-        .ok()
-        .map(Number::Size)
 }
 
 /// The relocation word of a word of the image, in its object.
 fn relocation_word(session: &Session, word: WordPlace) -> Option<u16> {
-    let mut index = usize::from(word.offset / 2);
+    let mut index = word.index();
     for entry in session.entries() {
         let relocs = entry.object().file().relocs_of(part_of(word.segment));
         if let Some(reloc) = relocs.get(index) {
@@ -116,7 +102,10 @@ fn number_of_word(session: &Session, what: &str, word: WordPlace) -> Option<u16>
 fn number_in_image(session: &Session, text: &str) -> Option<Number> {
     let (first, rest) = first_word(text);
     match first {
-        "size" => size_named(session, rest),
+        "size" => {
+            let size = size_of(session, segment_named(rest)?);
+            u16::try_from(size).ok().map(Number::Size)
+        }
         "reloc" => relocation_word(session, word_named(rest)?).map(Number::Reloc),
         "text" | "data" => number_of_word(session, "", word_named(text)?).map(Number::Word),
         "was" | "at" | "after" | "before" => {
@@ -128,13 +117,11 @@ fn number_in_image(session: &Session, text: &str) -> Option<Number> {
 
 /// The number of a reference to a link: where a segment begins, a word, or the address of a name.
 fn number_in_link(session: &Session, link: &Link, text: &str) -> Option<u16> {
-    match text {
-        "text" => Some(link.start(Segment::TextSeg)),
-        "data" => Some(link.start(Segment::DataSeg)),
-        _ => match word_named(text) {
-            Some(word) => link.word(word),
-            None => link.address(index_of(session, text)?),
-        },
+    match (text, word_named(text)) {
+        ("text", _) => Some(link.start(Segment::TextSeg)),
+        ("data", _) => Some(link.start(Segment::DataSeg)),
+        (_, Some(word)) => link.word(word),
+        (_, None) => link.address(index_of(session, text)?),
     }
 }
 
@@ -144,26 +131,24 @@ fn number_of(alloc: Global, session: &Session, text: &str) -> Result<Option<Numb
     let Some(layout) = layout_named(first) else {
         return Ok(number_in_image(session, text));
     };
-    let number = link_at(alloc, session, layout)?.and_then(|link| number_in_link(
-        session, &link, rest,
-    ));
-    Ok(number.map(Number::Word))
+    let link = link_at(alloc, session, layout)?;
+    Ok(number_in_link(session, &link, rest).map(Number::Word))
 }
 
 /// Puts the number of a reference. The number that the file gives for it, after `=`, has to be the same.
-fn put_reference(alloc: Global, out: &mut Json, session: &Session, text: &str) -> Result<()> {
+fn put_reference(out: &mut Json, session: &Session, text: &str) -> Result<()> {
     let (said, key) = match text.split_once(" = ") {
         Some((said, digits)) => (said, Some(digits)),
         None => (text, None),
     };
-    let Some(number) = number_of(alloc, session, said)? else {
-        return Err(anyhow!("{said} in braces refers to nothing"));
+    let Some(number) = number_of(out.allocator(), session, said)? else {
+        bail!("{said} in braces refers to nothing");
     };
-    if let Some(digits) = key
-        && u16::from_str_radix(digits, 8) != Ok(number.value())
-    {
-        return Err(anyhow!("{said} in braces is {:o}", number.value()));
-    }
+    let value = number.value();
+    ensure!(
+        key.is_none_or(|digits| u16::from_str_radix(digits, 8) == Ok(value)),
+        "{said} in braces is {value:o}"
+    );
     out.put(number);
     Ok(())
 }
@@ -176,25 +161,21 @@ fn put_part(out: &mut Json, part: &str) {
 }
 
 /// Puts a text as its parts: texts, and the numbers of references.
-pub(crate) fn put_prose(
-    alloc: Global,
-    out: &mut Json,
-    session: &Session,
-    text: &str,
-) -> Result<()> {
-    if has_bare_number(text) {
-        return Err(anyhow!("a number is in no braces, and in no quotation"));
-    }
+pub(crate) fn put_prose(out: &mut Json, session: &Session, text: &str) -> Result<()> {
+    ensure!(
+        !has_bare_number(text),
+        "a number is in no braces, and in no quotation"
+    );
     let mut rest = text;
     for _ in 0..text.len() {
         let Some((before, after)) = rest.split_once('{') else {
             break;
         };
         let Some((reference, left)) = after.split_once('}') else {
-            return Err(anyhow!("a brace has no end"));
+            bail!("a brace has no end");
         };
         put_part(out, before);
-        put_reference(alloc, out, session, reference)?;
+        put_reference(out, session, reference)?;
         rest = left;
     }
     put_part(out, rest);

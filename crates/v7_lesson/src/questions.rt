@@ -4,10 +4,9 @@ use crate::given::Given;
 use crate::json::Json;
 use crate::keys::{Act, Asked, Wanted, changed_words, first_word, put_answer, word_at, word_named};
 use crate::links::layout_named;
-use crate::parts::WordPlace;
 use crate::prose::put_prose;
-use crate::walk::ALL_ORDERS;
-use anyhow::{Result, anyhow};
+use crate::states::may_follow;
+use anyhow::{Context, Result, bail, ensure};
 use aout_core::Name;
 use link_session::Session;
 use std::alloc::{AllocError, Global};
@@ -22,7 +21,6 @@ struct Choices {
 }
 
 impl Choices {
-    /// What is missing.
     fn missing(self) -> Option<&'static str> {
         if self.needs_reason {
             Some("reason for its wrong answer")
@@ -98,12 +96,10 @@ fn is_at(path: &str, name: &str) -> bool {
 impl<'a> Reader<'a> {
     /// Adds a word and the text after it, which must not be empty.
     fn put_said(&self, out: &mut Json, word: &str, text: &str) -> Result<()> {
-        if text.is_empty() {
-            return Err(anyhow!("{word} is followed by a text"));
-        }
+        ensure!(!text.is_empty(), "{word} is followed by a text");
         out.open("[");
         out.put(format_args!("\"{word}\""));
-        put_prose(self.alloc, out, &self.session, text)?;
+        put_prose(out, &self.session, text)?;
         out.close("]");
         Ok(())
     }
@@ -119,7 +115,7 @@ impl<'a> Reader<'a> {
     /// A right or wrong answer to choose, or why one is wrong.
     fn put_choice(&mut self, out: &mut Json, word: &str, text: &str) -> Result<()> {
         let Begun::Choice(_, choices) = &mut self.begun else {
-            return Err(anyhow!("an answer to no question"));
+            bail!("an answer to no question");
         };
         choices.has_right = choices.has_right || word == "right";
         choices.has_wrong = choices.has_wrong || word == "wrong";
@@ -127,66 +123,51 @@ impl<'a> Reader<'a> {
         self.put_said(out, word, text)
     }
 
-    /// A word of the image, by its segment and its offset in octal digits.
-    fn word_at(&self, text: &str) -> Result<WordPlace> {
-        match word_named(text) {
-            Some(word) if word.cell(&self.session).is_some() => Ok(word),
-            _ => Err(anyhow!("there is no word {text}")),
-        }
-    }
-
     /// A word that the file gives as one of those that the next step changes.
     fn answer_word(&mut self, text: &str) -> Result<()> {
-        if !matches!(self.asked.wanted, Wanted::Changes) {
-            return Err(anyhow!("an answer to no question"));
-        }
-        let word = self.word_at(text)?;
-        self.asked.words.push(word)?;
+        ensure!(
+            matches!(self.asked.wanted, Wanted::Changes),
+            "an answer to no question"
+        );
+        let word = word_named(text).filter(|word| word.cell(&self.session).is_some());
+        self.asked
+            .words
+            .push(word.context(format_args!("there is no word {text}"))?)?;
         Ok(())
     }
 
     /// An answer that is a number, in octal digits.
     fn answer_number(&mut self, text: &str) -> Result<()> {
-        if !matches!(self.asked.wanted, Wanted::Value(..) | Wanted::Where(_)) {
-            return Err(anyhow!("an answer to no question"));
-        }
-        match u16::from_str_radix(text, 8) {
-            Ok(number) => {
-                self.asked.number = Some(number);
-                Ok(())
-            }
-            Err(_) => Err(anyhow!("there is no number {text}")),
-        }
+        let is_asked = matches!(self.asked.wanted, Wanted::Value(..) | Wanted::Where(_));
+        ensure!(is_asked, "an answer to no question");
+        let number = u16::from_str_radix(text, 8).ok();
+        ensure!(number.is_some(), "there is no number {text}");
+        self.asked.number = number;
+        Ok(())
     }
 
     /// Takes what a question asks of the next step, and returns its text.
     fn take_wanted<'t>(&mut self, text: &'t str) -> Result<&'t str> {
         let (word, rest) = first_word(text);
         let (first, others) = first_word(rest.trim_start());
-        match word {
-            "changes" => {
-                self.asked.wanted = Wanted::Changes;
-                Ok(rest)
-            }
+        let (wanted, said) = match word {
+            "changes" => (Wanted::Changes, rest),
             "value" => {
                 let (digits, said) = first_word(others.trim_start());
                 let Some(word) = word_at(first, digits) else {
-                    return Err(anyhow!("value is followed by text or data, an offset and a text"));
+                    bail!("value is followed by text or data, an offset and a text");
                 };
                 let before = word.cell(&self.session).map_or(0, |cell| cell.value);
-                self.asked.wanted = Wanted::Value(word, before);
-                Ok(said)
+                (Wanted::Value(word, before), said)
             }
-            "where" if first.is_empty() => Err(anyhow!("where is followed by a name and a text")),
             "where" => {
-                self.asked.wanted = Wanted::Where(Name::from_bytes(first.as_bytes()));
-                Ok(others)
+                ensure!(!first.is_empty(), "where is followed by a name and a text");
+                (Wanted::Where(Name::from_bytes(first.as_bytes())), others)
             }
-            _ => {
-                self.asked.wanted = Wanted::Nothing;
-                Ok(text)
-            }
-        }
+            _ => (Wanted::Nothing, text),
+        };
+        self.asked.wanted = wanted;
+        Ok(said)
     }
 
     /// A question: of the step after it, or with answers to choose from.
@@ -202,36 +183,26 @@ impl<'a> Reader<'a> {
         Ok(())
     }
 
-    /// The object of this name that is not there yet.
-    fn object_named(&self, name: &str) -> Option<usize> {
-        for (object, given) in self.givens.iter().enumerate() {
-            let is_next = self.givens.len() <= ALL_ORDERS || object == self.list.len();
-            if is_next && is_at(given.path.as_str(), name) && !self.list.contains(&object) {
-                return Some(object);
-            }
-        }
-        None
-    }
-
-    /// The step that adds an object.
     fn add(&mut self, name: &str) -> Result<Act> {
-        let Some(object) = self.object_named(name) else {
-            return Err(anyhow!("no step adds {name}"));
+        let count = self.givens.len();
+        let found = self.givens.iter().enumerate().find(|(object, given)| {
+            may_follow(count, &self.list, *object) && is_at(given.path.as_str(), name)
+        });
+        let Some((object, given)) = found else {
+            bail!("no step adds {name}");
         };
-        if let Some(given) = self.givens.get(object) {
-            if let Some(cause) = given.add_to(self.alloc, &mut self.session)? {
-                return Err(anyhow!("{name} is refused: {cause}"));
-            }
+        if let Some(cause) = given.add_to(self.alloc, &mut self.session)? {
+            bail!("{name} is refused: {cause}");
         }
         self.list.push(object)?;
         Ok(Act::Add(object))
     }
 
-    /// The step that withdraws an object.
     fn withdraw(&mut self) -> Result<Act> {
-        if self.session.withdraw().is_none() {
-            return Err(anyhow!("there is nothing to withdraw"));
-        }
+        ensure!(
+            self.session.withdraw().is_some(),
+            "there is nothing to withdraw"
+        );
         let _ = self.list.pop();
         Ok(Act::Withdraw)
     }
@@ -243,10 +214,10 @@ impl<'a> Reader<'a> {
         let act = match word {
             "add" => self.add(rest)?,
             "withdraw" => self.withdraw()?,
-            "link" => match layout_named(rest) {
-                Some(layout) => Act::Link(layout),
-                None => return Err(anyhow!("there is no link {rest}")),
-            },
+            "link" => {
+                let layout = layout_named(rest);
+                Act::Link(layout.context(format_args!("there is no link {rest}"))?)
+            }
             _ => Act::Image,
         };
         let changed = match act {
@@ -254,7 +225,7 @@ impl<'a> Reader<'a> {
             Act::Withdraw => overwritten,
             _ => Vec::new(self.alloc),
         };
-        put_answer(self.alloc, out, &self.session, &self.asked, act, &changed)?;
+        put_answer(out, &self.session, &self.asked, act, &changed)?;
         self.asked.wanted = Wanted::Nothing;
         put_act(out, act);
         Ok(())
@@ -263,10 +234,10 @@ impl<'a> Reader<'a> {
     /// A line that has this word first.
     fn put_line(&mut self, out: &mut Json, line: usize, word: &str, rest: &str) -> Result<()> {
         if !self.begun.allows(word) {
-            return match self.begun.missing() {
-                Some((asked, what)) => Err(anyhow!("the question of line {asked} has no {what}")),
-                None => Err(anyhow!("no lesson has begun")),
-            };
+            match self.begun.missing() {
+                Some((asked, what)) => bail!("the question of line {asked} has no {what}"),
+                None => bail!("no lesson has begun"),
+            }
         }
         match word {
             "add" | "withdraw" | "link" | "image" => self.put_step(out, word, rest),
@@ -279,12 +250,11 @@ impl<'a> Reader<'a> {
                 self.begun = Begun::Lesson;
                 self.put_said(out, word, rest)
             }
-            _ => Err(anyhow!("{word} begins no line of a lesson")),
+            _ => bail!("{word} begins no line of a lesson"),
         }
     }
 }
 
-/// Puts a step.
 fn put_act(out: &mut Json, act: Act) {
     match act {
         Act::Add(object) => out.put(format_args!("[\"add\",{object}]")),
@@ -304,13 +274,13 @@ fn put_lines(reader: &mut Reader<'_>, out: &mut Json, path: &str, text: &str) ->
             continue;
         }
         if let Err(fault) = reader.put_line(out, number, word, rest.trim()) {
-            return Err(anyhow!("{path}: line {number}: {fault}"));
+            bail!("{path}: line {number}: {fault}");
         }
     }
-    match reader.begun.missing() {
-        Some((asked, what)) => Err(anyhow!("{path}: line {asked}: the question has no {what}")),
-        None => Ok(()),
+    if let Some((asked, what)) = reader.begun.missing() {
+        bail!("{path}: line {asked}: the question has no {what}");
     }
+    Ok(())
 }
 
 /// Puts the lessons in the file at a path, as a list of its lines.

@@ -1,20 +1,21 @@
 //! What the words of an object belong to: instructions, labels and texts.
 use crate::given::Given;
 use crate::json::{Bytes, Json};
-use crate::parts::segment_name;
-use aout_core::{File, Kind, Reloc, Segment, Symbol};
+use crate::parts::{WordPlace, refers, segment_name};
+use aout_core::{File, Part, PlacedWord, Segment, Symbol};
 use disassemblies::line_starts;
 use instructions::Decoder;
-use std::alloc::{AllocError, Global};
+use std::alloc::AllocError;
 use texts::Text;
 
 /// How many words a text has at least.
 const SHORTEST: usize = 2;
 
 /// Puts the indices of the words of text that are operands of the instruction before them, as a list.
-pub(crate) fn put_operands(alloc: Global, out: &mut Json, file: &File) -> Result<(), AllocError> {
+pub(crate) fn put_operands(out: &mut Json, file: &File) -> Result<(), AllocError> {
     out.open("\"operands\":[");
-    for (index, is_start) in line_starts(alloc, Decoder::Pdp11, file)?.iter().enumerate() {
+    let starts = line_starts(out.allocator(), Decoder::Pdp11, file)?;
+    for (index, is_start) in starts.iter().enumerate() {
         if !*is_start {
             out.put(index);
         }
@@ -45,40 +46,29 @@ fn is_of_text(byte: u16) -> bool {
 }
 
 /// Whether a word is two bytes of a text, and refers to nothing.
-fn is_text(word: u16, reloc: Reloc) -> bool {
-    let is_number = matches!(reloc.kind(), Some(Kind::Absolute)) && !reloc.is_pc();
-    is_number && word % 256 >= 9 && is_of_text(word % 256) && is_of_text(word / 256)
-}
-
-/// For each word of data, how many words of a text end with it.
-fn text_lengths(alloc: Global, file: &File) -> Result<Vec<usize>, AllocError> {
-    let mut lengths = Vec::new(alloc);
-    let mut length = 0usize;
-    for (word, reloc) in file.data_words().iter().zip(file.data_reloc()) {
-        length = if is_text(*word, *reloc) {
-            length.saturating_add(1)
-        } else {
-            0
-        };
-        lengths.push(length)?;
-    }
-    Ok(lengths)
+fn is_text(PlacedWord { word, reloc, .. }: PlacedWord) -> bool {
+    let (low, high) = (word % 256, word / 256);
+    !reloc.is_some_and(refers) && low != 0 && is_of_text(low) && is_of_text(high)
 }
 
 /// Puts the words of data that are texts, as a list: the index after the last word of each, how many words it has, and its bytes.
-pub(crate) fn put_texts(alloc: Global, out: &mut Json, file: &File) -> Result<(), AllocError> {
-    let lengths = text_lengths(alloc, file)?;
+pub(crate) fn put_texts(out: &mut Json, file: &File) -> Result<(), AllocError> {
+    let words = file.data_words();
+    let mut first = 0usize;
     out.open("\"texts\":[");
-    for (index, length) in lengths.iter().enumerate() {
-        let next = index.saturating_add(1);
-        if SHORTEST <= *length && lengths.get(next).is_none_or(|after| *after <= *length) {
-            let first = next.saturating_sub(*length);
-            let mut bytes = Text::new(alloc);
-            for word in file.data_words().get(first..next).unwrap_or(&[]) {
+    for next in 0..words.len().saturating_add(1) {
+        if next < words.len() && is_text(file.placed_word(Part::Data, next)) {
+            continue;
+        }
+        let length = next.saturating_sub(first);
+        if SHORTEST <= length {
+            let mut bytes = Text::new(out.allocator());
+            for word in words.get(first..next).unwrap_or(&[]) {
                 bytes.put_bytes(&word.to_le_bytes());
             }
             out.put(format_args!("[{next},{length},{}]", Bytes(&bytes.finish()?)));
         }
+        first = next.saturating_add(1);
     }
     out.close("]");
     Ok(())

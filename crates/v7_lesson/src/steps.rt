@@ -1,7 +1,7 @@
 //! Steps of a session as text: each object is added, and then each is withdrawn, the last one first.
-use crate::files::{bytes_at, object_in, put_out};
-use crate::stage::{ROW_KINDS, RowKind, Stage, put_marks};
-use anyhow::{Result, anyhow};
+use crate::files::{bytes_at, put_out};
+use crate::stage::{ROW_KINDS, Row, Stage, put_marks};
+use anyhow::{Result, ensure};
 use std::alloc::{AllocError, Global};
 use texts::Text;
 
@@ -12,139 +12,111 @@ pub(crate) struct Shown {
     pub(crate) only_changes: bool,
 }
 
-/// The state before a step, and the one after it.
+/// The steps while they are played: the number of the last one, and the states before and after it.
 #[derive(Drop)]
-struct Stages {
+struct Steps {
+    shown: Shown,
+    count: usize,
     before: Stage,
     after: Stage,
 }
 
-/// Appends a row with a sign in place of its first blank; nothing if it is empty.
-fn put_signed(text: &mut Text, sign: &str, row: &[u8]) {
-    if let Some((_, rest)) = row.split_first() {
-        text.put(sign);
-        text.put_bytes(rest);
-    }
-}
-
-/// Appends the row of this index before a step and after it, if they differ. An empty one is not there.
-fn put_changed_row(
-    text: &mut Text,
-    stages: &Stages,
-    kind: RowKind,
-    index: usize,
-) -> Result<(), AllocError> {
-    let Stages { before, after } = stages;
-    if !before.has_same_row(after, kind, index) {
-        let alloc = text.allocator();
-        let (was, is) = (
-            before.row(alloc, kind, index)?,
-            after.row(alloc, kind, index)?,
-        );
-        if was.as_slice() != is.as_slice() {
-            put_signed(text, "-", &was);
-            put_signed(text, "+", &is);
-        }
-    }
-    Ok(())
-}
-
-/// Appends what a step changed.
-fn put_changes(text: &mut Text, stages: &Stages) -> Result<(), AllocError> {
-    for kind in ROW_KINDS {
-        for index in 0..stages.before.count(kind).max(stages.after.count(kind)) {
-            put_changed_row(text, stages, kind, index)?;
-        }
-    }
-    Ok(())
-}
-
-/// Appends a whole state.
-fn put_state(text: &mut Text, state: &Stage) {
-    if state.session().entries().is_empty() {
-        text.put("  nothing\n");
-    }
-    for kind in ROW_KINDS {
-        for index in 0..state.count(kind) {
-            state.put_row(text, kind, index);
-        }
-    }
-    put_marks(text, state.session());
-}
-
-/// A step as it is shown: what is done with which object, and what that changed, or the whole state after it.
-fn step_text(
+/// The text of a row of a state, after a sign; empty if it is not there.
+fn row_text(
     alloc: Global,
-    edit: &str,
-    label: &str,
-    only_changes: bool,
-    stages: &Stages,
+    sign: &str,
+    stage: &Stage,
+    row: Option<Row>,
 ) -> Result<Vec<u8>, AllocError> {
     let mut text = Text::new(alloc);
-    text.say(format_args!("{edit} {label}\n"));
-    if only_changes {
-        put_changes(&mut text, stages)?;
-    } else {
-        put_state(&mut text, &stages.after);
+    if let Some(row) = row {
+        text.put(sign);
+        stage.put_row(&mut text, row);
     }
     text.finish()
 }
 
-/// Writes the step of this number, if it is shown.
-fn write_step(
-    rt: &HostRuntime,
-    shown: Shown,
-    step: usize,
-    edit: &str,
-    label: &str,
-    stages: &Stages,
-) -> Result<()> {
-    if shown.only.is_none_or(|only| only == step) {
-        let text = step_text(rt.alloc(), edit, label, shown.only_changes, stages)?;
-        put_out(rt, &text)?;
+fn put_state(text: &mut Text, state: &Stage) {
+    if state.session.entries().is_empty() {
+        text.put("  nothing\n");
     }
-    Ok(())
+    for kind in ROW_KINDS {
+        for index in 0..usize::MAX {
+            let Some(row) = state.row(kind, index) else {
+                break;
+            };
+            text.put("  ");
+            state.put_row(text, row);
+        }
+    }
+    put_marks(text, &state.session);
 }
 
-/// Adds the object of a file to a state.
-fn add_file(rt: &HostRuntime, state: &mut Stage, path: &str, bytes: &[u8]) -> Result<()> {
-    let label = String::from_str(rt.alloc(), path)?;
-    state.add(rt.alloc(), label, object_in(rt.alloc(), path, bytes)?)
-}
-
-/// Withdraws all objects, from this step on.
-fn withdraw_all(rt: &HostRuntime, stages: &mut Stages, first: usize, shown: Shown) -> Result<()> {
-    let mut step = first;
-    for _ in 0..stages.after.session().entries().len() {
-        let Some(label) = stages.after.withdraw() else {
-            break;
-        };
-        write_step(rt, shown, step, "withdraw", label.as_str(), stages)?;
-        let _ = stages.before.withdraw();
-        step = step.saturating_add(1);
+impl Steps {
+    /// Appends the rows that the last step changed, each before it and after it.
+    fn put_changes(&self, text: &mut Text) -> Result<(), AllocError> {
+        let alloc = text.allocator();
+        for kind in ROW_KINDS {
+            for index in 0..usize::MAX {
+                let (was, is) = (self.before.row(kind, index), self.after.row(kind, index));
+                if was.is_none() && is.is_none() {
+                    break;
+                }
+                if was == is && is.is_some_and(Row::is_whole) {
+                    continue;
+                }
+                let old = row_text(alloc, "- ", &self.before, was)?;
+                let new = row_text(alloc, "+ ", &self.after, is)?;
+                if old.get(1..) != new.get(1..) {
+                    text.put_bytes(&old);
+                    text.put_bytes(&new);
+                }
+            }
+        }
+        Ok(())
     }
-    Ok(())
+
+    /// Counts a step, and writes it if it is shown: what is done with which object, and what that changed, or the whole state after it.
+    fn write(&mut self, rt: &HostRuntime, edit: &str, path: &str) -> Result<()> {
+        self.count = self.count.saturating_add(1);
+        if self.shown.only.is_some_and(|only| only != self.count) {
+            return Ok(());
+        }
+        let mut text = Text::new(rt.alloc());
+        text.say(format_args!("{edit} {path}\n"));
+        if self.shown.only_changes {
+            self.put_changes(&mut text)?;
+        } else {
+            put_state(&mut text, &self.after);
+        }
+        put_out(rt, &text.finish()?)
+    }
 }
 
 /// Plays all steps, and shows some.
 pub(crate) fn play(rt: &HostRuntime, files: &[String], shown: Shown) -> Result<()> {
     let count = files.len().saturating_mul(2);
-    if let Some(step) = shown.only
-        && count < step
-    {
-        return Err(anyhow!("there are {count} steps"));
-    }
-    let mut stages = Stages {
+    ensure!(
+        shown.only.is_none_or(|only| only <= count),
+        "there are {count} steps"
+    );
+    let mut steps = Steps {
+        shown,
+        count: 0,
         before: Stage::new(rt.alloc()),
         after: Stage::new(rt.alloc()),
     };
-    let mut step = 1usize;
     for path in files {
-        let bytes = bytes_at(rt, path.as_str())?;
-        add_file(rt, &mut stages.after, path.as_str(), &bytes)?;
-        write_step(rt, shown, step, "add", path.as_str(), &stages)?;
-        add_file(rt, &mut stages.before, path.as_str(), &bytes)?;
-        step = step.saturating_add(1);
+        let path = path.as_str();
+        let bytes = bytes_at(rt, path)?;
+        steps.after.add(rt.alloc(), path, &bytes)?;
+        steps.write(rt, "add", path)?;
+        steps.before.add(rt.alloc(), path, &bytes)?;
     }
-    withdraw_all(rt, &mut stages, step, shown)
+    for path in files.iter().rev() {
+        steps.after.withdraw();
+        steps.write(rt, "withdraw", path.as_str())?;
+        steps.before.withdraw();
+    }
+    Ok(())
 }

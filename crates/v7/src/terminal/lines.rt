@@ -5,28 +5,16 @@ use std::io;
 use std::rt::Runtime;
 use v7tools::CliFault;
 
-/// The name of a tool.
-fn name(tool: Tool) -> &'static str {
-    match tool {
-        Tool::Ld => "ld",
-        Tool::Nm => "nm",
-        Tool::Session => "session",
-        Tool::Size => "size",
-        Tool::Strip => "strip",
-    }
-}
-
 /// What the value of an option is.
-fn value_of(letter: u8) -> &'static str {
-    if letter == b'o' { "file" } else { "name" }
+fn value_of(letter: char) -> &'static str {
+    if letter == 'o' { "file" } else { "name" }
 }
 
 /// The first character of an argument from a place on.
 fn letter_at(word: &str, place: usize) -> char {
-    match word.get(place..) {
-        Some(rest) => rest.chars().next().unwrap_or('?'),
-        None => '?',
-    }
+    word.get(place..)
+        .and_then(|rest| rest.chars().next())
+        .unwrap_or('?')
 }
 
 /// Writes the reason, without the name of the tool, as a line.
@@ -38,19 +26,9 @@ fn put_cause<H: Runtime>(rt: &H, word: &str, cause: Cause) -> io::Result<()> {
             'l' => eprintln!(rt; "there is no option -l, as v7 reads no archives"),
             letter => eprintln!(rt; "there is no option -{letter}"),
         },
-        Cause::NoValue(letter) => {
-            eprintln!(rt; "-{} needs a {}", char::from(letter), value_of(letter))
-        }
-        Cause::SecondValue(letter) => {
-            eprintln!(rt; "-{} takes one {}", char::from(letter), value_of(letter))
-        }
-        Cause::Excluded(one, other) => {
-            eprintln!(rt;
-                "-{} and -{} exclude each other",
-                char::from(one),
-                char::from(other)
-            )
-        }
+        Cause::NoValue(letter) => eprintln!(rt; "-{letter} needs a {}", value_of(letter)),
+        Cause::SecondValue(letter) => eprintln!(rt; "-{letter} takes one {}", value_of(letter)),
+        Cause::Excluded(one, other) => eprintln!(rt; "-{one} and -{other} exclude each other"),
         Cause::ManyNames => eprintln!(rt; "-u takes at most 64 different names"),
         Cause::NoFiles => eprintln!(rt; "it takes no file, and was given {word}"),
         Cause::FileMissing => eprintln!(rt; "it needs a file"),
@@ -59,17 +37,14 @@ fn put_cause<H: Runtime>(rt: &H, word: &str, cause: Cause) -> io::Result<()> {
 
 /// Writes why arguments are refused, and where help is: two lines.
 pub(crate) fn put_reason<H: Runtime>(rt: &H, tool: Option<Tool>, words: &[String], reason: Reason) {
-    let word = match words.get(reason.at) {
-        Some(word) => word.as_str(),
-        None => "",
-    };
+    let word = words.get(reason.at).map_or("", |word| word.as_str());
     let _ = match tool {
-        Some(tool) => eprint!(rt; "{}: ", name(tool)),
+        Some(tool) => eprint!(rt; "{}: ", tool.name()),
         None => Ok(()),
     };
     let _ = put_cause(rt, word, reason.cause);
     let _ = match tool {
-        Some(tool) => eprintln!(rt; "v7 {} --help shows how to call it", name(tool)),
+        Some(tool) => eprintln!(rt; "v7 {} --help shows how to call it", tool.name()),
         None => eprintln!(rt; "v7 --help lists the commands"),
     };
 }

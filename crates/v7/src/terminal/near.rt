@@ -15,23 +15,13 @@ const COMMANDS: [(&str, bool); 9] = [
     ("exit", false),
 ];
 
-/// The length of the first word of a line.
-fn word_length(line: &[u8]) -> usize {
-    match line.iter().position(|byte| byte.is_ascii_whitespace()) {
-        Some(length) => length,
-        None => line.len(),
-    }
-}
-
 /// The first word of a line, and what follows it.
 fn parted(line: &[u8]) -> (&[u8], &[u8]) {
-    match line.split_at_checked(word_length(line)) {
-        Some(parts) => parts,
-        None => (line, b""),
-    }
+    let blank = line.iter().position(|byte| byte.is_ascii_whitespace());
+    line.split_at_checked(blank.unwrap_or(line.len()))
+        .unwrap_or((line, b""))
 }
 
-/// Whether a line is this command.
 fn is_command(line: &[u8], name: &str, takes_path: bool) -> bool {
     match line.strip_prefix(name.as_bytes()) {
         Some(rest) if takes_path => rest.len() > 1 && rest.starts_with(b" "),
@@ -40,39 +30,24 @@ fn is_command(line: &[u8], name: &str, takes_path: bool) -> bool {
     }
 }
 
-/// Whether two words begin with the same two letters.
-fn is_near(word: &[u8], name: &str) -> bool {
-    match (word.get(..2), name.as_bytes().get(..2)) {
-        (Some(first), Some(other)) => first.eq_ignore_ascii_case(other),
-        _ => false,
-    }
-}
-
-/// The command of this name, in any letters, and whether it takes a path.
-fn named(word: &[u8]) -> Option<(&'static str, bool)> {
-    for (name, takes_path) in COMMANDS {
-        if word.eq_ignore_ascii_case(name.as_bytes()) {
-            return Some((name, takes_path));
-        }
-    }
-    None
-}
-
-/// The command that is meant by a word that is not one.
+/// The command that is meant by a word that is not one: it has the same first two letters.
 fn nearest(word: &[u8]) -> Option<&'static str> {
     if word == b"undo".as_slice() {
         return Some("withdraw");
     }
-    for (name, _) in COMMANDS {
-        if is_near(word, name) {
-            return Some(name);
-        }
-    }
-    None
+    let first = word.get(..2)?;
+    let near = COMMANDS.iter().find(|(name, _)| match name.as_bytes().get(..2) {
+        Some(other) => first.eq_ignore_ascii_case(other),
+        None => false,
+    });
+    near.map(|(name, _)| *name)
 }
 
-/// Writes what is wrong with a line that begins with the name of a command, in any letters.
+/// Writes what is wrong with a line that begins with the name of a command, in any letters; nothing if it is this command.
 fn put_form<H: Runtime>(rt: &H, line: &[u8], name: &str, takes_path: bool) -> io::Result<()> {
+    if is_command(line, name, takes_path) {
+        return Ok(());
+    }
     let (word, rest) = parted(line.trim_ascii());
     let rest = str::from_utf8(rest).unwrap_or("");
     if takes_path && rest.is_empty() {
@@ -93,11 +68,10 @@ fn put_form<H: Runtime>(rt: &H, line: &[u8], name: &str, takes_path: bool) -> io
 /// Writes a hint for a line that is not a command, and nothing for one that is.
 pub(crate) fn put_hint<H: Runtime>(rt: &H, line: &[u8]) -> io::Result<()> {
     let (word, _) = parted(line.trim_ascii());
-    if let Some((name, takes_path)) = named(word) {
-        if is_command(line, name, takes_path) {
-            return Ok(());
+    for (name, takes_path) in COMMANDS {
+        if word.eq_ignore_ascii_case(name.as_bytes()) {
+            return put_form(rt, line, name, takes_path);
         }
-        return put_form(rt, line, name, takes_path);
     }
     if line.contains(&0x1b) {
         return rt.eprint("For arrow keys, start the session by rlwrap v7 session\n");

@@ -12,42 +12,9 @@ const HELP: &str = "add PATH, withdraw, externals, undefined and link PATH are t
 list shows the objects, help this text, and quit ends the session
 ";
 
-/// What a line asks for that a session does not know.
-#[derive(Clone, Copy, PartialEq, Eq)]
-enum Typed {
-    Help,
-    List,
-    Quit,
-    Nothing,
-    /// The line is for the session.
-    Line,
-}
-
-/// What a line asks for; blanks around it do not count.
-fn asked_by(line: &[u8]) -> Typed {
-    match line.trim_ascii() {
-        b"" => Typed::Nothing,
-        b"help" | b"?" => Typed::Help,
-        b"list" => Typed::List,
-        b"quit" | b"exit" => Typed::Quit,
-        _ => Typed::Line,
-    }
-}
-
 /// Whether the answer to this addition says that the object is added: `added PATH` and a newline.
 fn is_added(path: &[u8], answer: Answer) -> bool {
     answer.is_addition && answer.bytes == path.len().saturating_add(7)
-}
-
-/// How many bytes paths have without the last one; each ends with a newline.
-fn length_without_last(paths: &[u8]) -> usize {
-    let Some(last) = paths.strip_suffix(b"\n") else {
-        return 0;
-    };
-    match last.iter().rposition(|byte| *byte == b'\n') {
-        Some(before) => before.saturating_add(1),
-        None => 0,
-    }
 }
 
 /// Standard input as a script. `help` and `?` show help, `list` the objects that are added, `quit` and `exit` end the script, and a
@@ -93,8 +60,10 @@ impl<'a, H: Runtime + AllocGlobal> Prompts<'a, H> {
                 self.added.push(b'\n')?;
             }
         } else if line == b"withdraw".as_slice() {
-            let length = length_without_last(&self.added);
-            self.added.truncate(length);
+            let paths = self.added.strip_suffix(b"\n").unwrap_or(b"");
+            let before = paths.iter().rposition(|byte| *byte == b'\n');
+            self.added
+                .truncate(before.map_or(0, |newline| newline.saturating_add(1)));
         } else if !line.is_empty() {
             let _ = put_hint(self.rt, line);
         }
@@ -110,7 +79,7 @@ impl<'a, H: Runtime + AllocGlobal> Prompts<'a, H> {
         };
     }
 
-    /// Reads lines up to one for the session; there is none at the end.
+    /// Reads lines up to one for the session; there is none at the end. Blanks around a line that is not for it do not count.
     fn next_line(&mut self) -> io::Result<()> {
         if !self.is_begun {
             self.is_begun = true;
@@ -132,14 +101,14 @@ impl<'a, H: Runtime + AllocGlobal> Prompts<'a, H> {
             if count == 0 {
                 return Ok(());
             }
-            match asked_by(&self.line) {
-                Typed::Nothing => {}
-                Typed::Help => {
+            match self.line.trim_ascii() {
+                b"" => {}
+                b"help" | b"?" => {
                     let _ = self.rt.eprint(HELP);
                 }
-                Typed::List => self.list(),
-                Typed::Quit => self.is_over = true,
-                Typed::Line => {
+                b"list" => self.list(),
+                b"quit" | b"exit" => self.is_over = true,
+                _ => {
                     self.lines = self.lines.saturating_add(1);
                     return Ok(());
                 }

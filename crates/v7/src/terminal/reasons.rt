@@ -14,33 +14,29 @@ pub(crate) enum Tool {
 }
 
 impl Tool {
-    /// The tool of a name.
+    const ALL: [Tool; 5] = [Tool::Ld, Tool::Nm, Tool::Session, Tool::Size, Tool::Strip];
+
+    pub(crate) fn name(self) -> &'static str {
+        match self {
+            Tool::Ld => "ld",
+            Tool::Nm => "nm",
+            Tool::Session => "session",
+            Tool::Size => "size",
+            Tool::Strip => "strip",
+        }
+    }
+
     pub(crate) fn named(name: &str) -> Option<Tool> {
-        match name {
-            "ld" => Some(Tool::Ld),
-            "nm" => Some(Tool::Nm),
-            "session" => Some(Tool::Session),
-            "size" => Some(Tool::Size),
-            "strip" => Some(Tool::Strip),
-            _ => None,
-        }
+        Tool::ALL.iter().find(|tool| tool.name() == name).copied()
     }
 
-    /// The letters of the options without a value.
-    fn flags(self) -> &'static [u8] {
+    /// The letters of the options without a value, and of those with one.
+    fn letters(self) -> (&'static [u8], &'static [u8]) {
         match self {
-            Tool::Ld | Tool::Session => b"rsxXnid",
-            Tool::Nm => b"gnopru",
-            Tool::Size | Tool::Strip => b"",
-        }
-    }
-
-    /// The letters of the options with a value.
-    fn values(self) -> &'static [u8] {
-        match self {
-            Tool::Ld => b"ueo",
-            Tool::Session => b"ue",
-            Tool::Nm | Tool::Size | Tool::Strip => b"",
+            Tool::Ld => (b"rsxXnid", b"ueo"),
+            Tool::Session => (b"rsxXnid", b"ue"),
+            Tool::Nm => (b"gnopru", b""),
+            Tool::Size | Tool::Strip => (b"", b""),
         }
     }
 
@@ -50,7 +46,7 @@ impl Tool {
     }
 }
 
-/// What is wrong with an argument. Letters of options are in ASCII.
+/// What is wrong with an argument.
 #[derive(Clone, Copy)]
 pub(crate) enum Cause {
     /// The first argument names no tool, or there is none.
@@ -60,11 +56,11 @@ pub(crate) enum Cause {
     /// The tool has no option of this letter. The number is its place after the hyphen of the argument, in bytes, from 0.
     NoOption(usize),
     /// The option of this letter has no value, neither in its own argument nor in the next one.
-    NoValue(u8),
+    NoValue(char),
     /// A second value for the option of this letter, which takes one.
-    SecondValue(u8),
+    SecondValue(char),
     /// The option of the first letter was given, and excludes that of the second.
-    Excluded(u8, u8),
+    Excluded(char, char),
     /// A 65th different name after `-u`.
     ManyNames,
     /// A file for a tool that takes none.
@@ -101,17 +97,6 @@ struct Progress {
 }
 
 impl Progress {
-    fn new(tool: Tool) -> Progress {
-        Progress {
-            tool,
-            given: [false; 128],
-            forced: Forced::none(),
-            waiting: None,
-            only_files: false,
-            has_file: false,
-        }
-    }
-
     fn has(&self, letter: u8) -> bool {
         self.given.get(usize::from(letter)) == Some(&true)
     }
@@ -127,7 +112,7 @@ impl Progress {
             let earlier = if letter == one { other } else { one };
             let is_pair = letter == one || letter == other;
             if self.tool.links() && is_pair && self.has(earlier) {
-                return Err(Cause::Excluded(earlier, letter));
+                return Err(Cause::Excluded(char::from(earlier), char::from(letter)));
             }
         }
         self.note(letter);
@@ -137,70 +122,56 @@ impl Progress {
     fn read_value(&mut self, letter: u8, text: &[u8]) -> Result<(), Cause> {
         self.waiting = None;
         if letter == b'u' {
-            return if self.forced.push(Name::from_bytes(text)) {
-                Ok(())
-            } else {
-                Err(Cause::ManyNames)
-            };
+            let is_taken = self.forced.push(Name::from_bytes(text));
+            return is_taken.then_some(()).ok_or(Cause::ManyNames);
         }
         if self.has(letter) {
-            return Err(Cause::SecondValue(letter));
+            return Err(Cause::SecondValue(char::from(letter)));
         }
         self.note(letter);
         Ok(())
     }
 
-    /// Reads what follows the letter of an option in its argument: its value, after a `=` that may be there. If nothing does, the
-    /// value is the next argument.
-    fn read_rest(&mut self, letter: u8, rest: &[u8]) -> Result<(), Cause> {
-        if rest.is_empty() {
-            self.waiting = Some(letter);
-            return Ok(());
-        }
-        self.read_value(letter, rest.strip_prefix(b"=").unwrap_or(rest))
-    }
-
-    /// Reads letters of options, up to one that takes a value.
+    /// Reads letters of options, up to one that takes a value: what follows it, after a `=` that may be there, or else the next argument.
     fn read_letters(&mut self, letters: &[u8]) -> Result<(), Cause> {
+        let (flags, values) = self.tool.letters();
         for (place, letter) in letters.iter().enumerate() {
-            if self.tool.values().contains(letter) {
-                let rest = letters.get(place.saturating_add(1)..);
-                return self.read_rest(*letter, rest.unwrap_or(b""));
+            if flags.contains(letter) {
+                self.read_flag(*letter)?;
+                continue;
             }
-            if !self.tool.flags().contains(letter) {
+            if !values.contains(letter) {
                 return Err(Cause::NoOption(place));
             }
-            self.read_flag(*letter)?;
+            return match letters.get(place.saturating_add(1)..).unwrap_or(b"") {
+                [] => {
+                    self.waiting = Some(*letter);
+                    Ok(())
+                }
+                rest => self.read_value(*letter, rest.strip_prefix(b"=").unwrap_or(rest)),
+            };
         }
-        Ok(())
-    }
-
-    fn read_file(&mut self) -> Result<(), Cause> {
-        if self.tool == Tool::Session {
-            return Err(Cause::NoFiles);
-        }
-        self.has_file = true;
         Ok(())
     }
 
     /// Reads an argument.
     fn read(&mut self, word: &[u8]) -> Result<(), Cause> {
-        if let Some(letter) = self.waiting {
-            return if word.starts_with(b"-") {
-                Err(Cause::NoValue(letter))
-            } else {
-                self.read_value(letter, word)
-            };
-        }
-        match word {
-            _ if self.only_files => self.read_file(),
-            b"--" => {
+        match (self.waiting, word) {
+            (Some(letter), [b'-', ..]) => Err(Cause::NoValue(char::from(letter))),
+            (Some(letter), _) => self.read_value(letter, word),
+            (None, b"--") if !self.only_files => {
                 self.only_files = true;
                 Ok(())
             }
-            [b'-', b'-', ..] => Err(Cause::NoLongOption),
-            [b'-', letters @ ..] if !letters.is_empty() => self.read_letters(letters),
-            _ => self.read_file(),
+            (None, [b'-', b'-', ..]) if !self.only_files => Err(Cause::NoLongOption),
+            (None, [b'-', letters @ ..]) if !self.only_files && !letters.is_empty() => {
+                self.read_letters(letters)
+            }
+            _ if self.tool == Tool::Session => Err(Cause::NoFiles),
+            _ => {
+                self.has_file = true;
+                Ok(())
+            }
         }
     }
 
@@ -208,9 +179,8 @@ impl Progress {
     fn missing(&self) -> Option<Cause> {
         let needs_file = matches!(self.tool, Tool::Ld | Tool::Strip);
         match self.waiting {
-            Some(letter) => Some(Cause::NoValue(letter)),
-            None if needs_file && !self.has_file => Some(Cause::FileMissing),
-            None => None,
+            Some(letter) => Some(Cause::NoValue(char::from(letter))),
+            None => (needs_file && !self.has_file).then_some(Cause::FileMissing),
         }
     }
 }
@@ -224,7 +194,14 @@ pub(crate) fn first_reason(words: &[String]) -> Option<Reason> {
             cause: Cause::NoTool,
         });
     };
-    let mut progress = Progress::new(tool);
+    let mut progress = Progress {
+        tool,
+        given: [false; 128],
+        forced: Forced::none(),
+        waiting: None,
+        only_files: false,
+        has_file: false,
+    };
     for (at, word) in words.iter().enumerate().skip(1) {
         if let Err(cause) = progress.read(word.as_bytes()) {
             return Some(Reason { at, cause });
