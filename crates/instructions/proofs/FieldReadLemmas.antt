@@ -5,7 +5,7 @@ use Rattle.std.proofs.{lemmas.Bool.Decides.nat_tests, lemmas.List.append-nil}
 use Rattle.std.specs.{Prelude.codes, Str.Parse.digits_value}
 use Rattle.instructions.specs.declared.mode.Register.TheVariants.{R0, R1, R2, R3, R4, R5, Sp, Pc}
 use Rattle.instructions.specs.{Modes.{mode_numbered, mode_number, register_numbered}, Operands.{general, operand_of, value_of, takes_word}}
-use Rattle.instructions.specs.Texts.{register_text, number, signed, in_parentheses, branch_target, branch_back_target}
+use Rattle.instructions.specs.Syntax.{register_text, number, signed, in_parentheses, branch_target, branch_back_target}
 use Rattle.instructions.specs.{declared.field.Field.Field, declared.mode.Mode.Mode, declared.mode.Register.Register, Fields.size}
 use Rattle.instructions.specs.declared.field.Field.TheVariants as fields
 use Rattle.instructions.specs.declared.mode.Mode.TheVariants as modes

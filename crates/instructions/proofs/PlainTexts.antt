@@ -1,7 +1,7 @@
 -- The texts of operands without references, which are read back.
 use Rattle.std.proofs.Common.{ℕ, Option, None, List}
 use Rattle.instructions.specs.{declared.mode.Mode.Mode, declared.mode.Register.Register, declared.operand.Operand.Operand}
-use Rattle.instructions.specs.Texts as texts
+use Rattle.instructions.specs.Syntax as texts
 
 abbrev pub increment_text : Register → ℕ → List ℕ
 increment_text r n = texts.increment_text r n None

@@ -4,7 +4,7 @@ use Rattle.std.proofs.Common.{[], ◌∷◌, ◌++◌, length, slice_index, refl
 use Rattle.std.proofs.{lemmas.Bool.Decides.nat_tests, lemmas.List.append-nil}
 use Rattle.std.specs.{Prelude.codes, Str.Parse.digits_value}
 use Rattle.instructions.specs.declared.mode.Register.TheVariants.{R0, R1, R2, R3, R4, R5, Sp, Pc}
-use Rattle.instructions.specs.{Modes.{mode_number, register_number, has_word}, Texts.{register_text, in_parentheses}}
+use Rattle.instructions.specs.{Modes.{mode_number, register_number, has_word}, Syntax.{register_text, in_parentheses}}
 use Rattle.instructions.specs.{declared.mode.Mode.Mode, declared.mode.Register.Register}
 use Rattle.instructions.specs.declared.mode.Mode.TheVariants as modes
 use Rattle.texts.specs.Numbers.{octal}

@@ -9,7 +9,7 @@ use Rattle.instructions.specs.Lines.{word_for, line_of, line_at, word_list, word
 use Rattle.instructions.specs.{declared.field.Field.Field, declared.operand.Operand.Operand, declared.table.Row.Row}
 use Rattle.instructions.specs.{declared.instruction.Instruction.Instruction, declared.line.Line.Line, declared.line.Line.TheVariants.Plain}
 use Rattle.instructions.specs.{declared.line.Line.TheVariants.Decoded, Fields.place, Fields.size, Rows.part, Rows.begins, Rows.row_of}
-use Rattle.instructions.specs.{Names.name_text, Texts.number, Texts.is_ldf, Texts.name, Texts.line_text, Laws.AreWords, Laws.UnambiguousLaw}
+use Rattle.instructions.specs.{Names.name_text, Syntax.number, Syntax.is_ldf, Syntax.name, Syntax.line_text, Laws.AreWords, Laws.UnambiguousLaw}
 use Rattle.instructions.specs.declared.field.Field.TheVariants as fields
 use Rattle.instructions.specs.declared.operand.Operand.TheVariants as operands
 use Rattle.texts.specs.Numbers.{six_digits}

@@ -11,7 +11,7 @@ use Rattle.instructions.specs.{declared.line.Line.Line, declared.line.Line.TheVa
 use Rattle.instructions.specs.{declared.call_table.CallRow.CallRow, declared.unix.Decoder.Decoder, declared.unix.UnixLine.UnixLine}
 use Rattle.instructions.specs.{declared.unix.UnixLine.TheVariants.Machine, declared.unix.UnixLine.TheVariants.Call, Rows.row_of}
 use Rattle.instructions.specs.{Operands.is_missing, Lines.word_for, Lines.line_of, Lines.line_at, Lines.words_of, Names.name_text}
-use Rattle.instructions.specs.{Texts.is_ldf, Texts.name, Texts.line_text, CallNames.call_name, Laws.AreWords, UnixLaws.UnixUnambiguousLaw}
+use Rattle.instructions.specs.{Syntax.is_ldf, Syntax.name, Syntax.line_text, CallNames.call_name, Laws.AreWords, UnixLaws.UnixUnambiguousLaw}
 use Rattle.instructions.specs.declared.field.Field.TheVariants as fields
 use Rattle.instructions.proofs.SplitLemmas.{until, past, free, Stops, until_past, other_test, AreDigits, octal_is, digits_free}
 use Rattle.instructions.proofs.ReadLineLemmas.{six_read, line_read, six_back, plain_back, stops, words_from, word_in, line_back}

@@ -7,7 +7,7 @@ use Rattle.instructions.specs.Instructions.{field_operand, instruction, instruct
 use Rattle.instructions.specs.{declared.field.Field.Field, declared.table.Row.Row, declared.instruction.Instruction.Instruction}
 use Rattle.instructions.specs.{declared.line.Line.Line, declared.line.Line.TheVariants.{Plain, Decoded}, Fields.{place, size}, Rows.row_of}
 use Rattle.instructions.specs.{Operands.{operand_of, takes_word, is_missing}, Lines.{word_for, line_of, line_length, words_of, lines}}
-use Rattle.instructions.specs.{Names.name_text, Texts.{number, is_ldf, name, line_text}, Laws.{AreWords, lines_text, UnambiguousTextLaw}}
+use Rattle.instructions.specs.{Names.name_text, Syntax.{number, is_ldf, name, line_text}, Laws.{AreWords, lines_text, UnambiguousTextLaw}}
 use Rattle.texts.specs.Numbers.{six_digits}
 use Rattle.instructions.proofs.SplitLemmas.{past, free, free_append, until_past, until, digits_free, clean_free}
 use Rattle.instructions.proofs.{ReadLineLemmas.{word_at, words_from, unambiguous}, PlainTexts.{operand_text, operand_after}}

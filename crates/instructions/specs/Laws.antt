@@ -7,7 +7,7 @@ use Rattle.std.specs.{Prelude.{take, drop}, List.flat_map}
 use Rattle.instructions.specs.Lines.{line_at, line_of, line_length, words_of, lines}
 use Rattle.instructions.specs.{declared.table.Row.Row, declared.table.TheConstants.ROWS, Table.table, Rows.begins, Rows.row_of}
 use Rattle.instructions.specs.{declared.instruction.Instruction.Instruction, declared.line.Line.Line, declared.line.Line.TheVariants.Plain}
-use Rattle.instructions.specs.{declared.line.Line.TheVariants.Decoded, Instructions.instruction_of, Texts.line_text}
+use Rattle.instructions.specs.{declared.line.Line.TheVariants.Decoded, Instructions.instruction_of, Syntax.line_text}
 
 -- the words of a line are those that it was made of
 abbrev pub IdentityLaw : Type 0

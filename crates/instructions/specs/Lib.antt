@@ -7,7 +7,7 @@ pub mod Operands
 pub mod Instructions
 pub mod Lines
 pub mod References
-pub mod Texts
+pub mod Syntax
 pub mod Relocated
 pub mod Alike
 pub mod Laws

@@ -9,7 +9,7 @@ use Rattle.texts.specs.Numbers.{six_digits}
 use Rattle.instructions.specs.{declared.call_table.CallRow.CallRow, declared.line.Line.TheVariants.Plain, declared.unix.Decoder.Decoder}
 use Rattle.instructions.specs.{declared.unix.UnixLine.UnixLine, declared.unix.UnixLine.TheVariants.Machine}
 use Rattle.instructions.specs.{declared.unix.UnixLine.TheVariants.Call, declared.reference.Reference.Reference, CallNames.call_name}
-use Rattle.instructions.specs.{Calls.system_calls, Lines.line_at, Lines.line_length, Lines.words_of, Texts.shown, Texts.line_text}
+use Rattle.instructions.specs.{Calls.system_calls, Lines.line_at, Lines.line_length, Lines.words_of, Syntax.shown, Syntax.line_text}
 use Rattle.instructions.specs.declared.unix.Decoder.TheVariants as decoders
 
 -- the word that makes a call

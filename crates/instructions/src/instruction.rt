@@ -17,7 +17,6 @@ pub struct Instruction {
     pub second: Option<Operand>,
 }
 
-/// The operand that a word has in a field, if there is a field.
 fn field_operand(field: Option<Field>, word: u16) -> Option<Operand>
     ensures { result ≡ field_operand field word }
 {

@@ -1,7 +1,7 @@
 //! The text of a line.
 ghost use Rattle.std.specs.Prelude.{◌≡◌, ◌<◌, ◌++◌, ◌∷◌, [], codes};
 ghost use Rattle.texts.specs.{Numbers.octal, Texts.Puts};
-ghost use Rattle.instructions.specs.Texts.{register_text, signed, in_parentheses, shown, increment_text, index_text, general_text, operand_text, branch_target, branch_back_target, is_ldf, name, operand_after, number, first_next, second_next, text_with, line_text};
+ghost use Rattle.instructions.specs.Syntax.{register_text, signed, in_parentheses, shown, increment_text, index_text, general_text, operand_text, branch_target, branch_back_target, is_ldf, name, operand_after, number, first_next, second_next, text_with, line_text};
 
 use crate::instruction::Instruction;
 use crate::line::Line;
@@ -222,7 +222,6 @@ fn name(instruction: &Instruction) -> &'static str
     }
 }
 
-/// Appends the operands of an instruction at an address.
 fn put_operands(
     text: &mut Text,
     instruction: &Instruction,
