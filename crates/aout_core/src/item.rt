@@ -38,7 +38,6 @@ pub(crate) trait Item: Copy {
         requires { length bytes.now ≡ WIDTH }
         ensures { result ≡ item_in bytes.now };
 
-    /// Writes the bytes that encode the item.
     fn encode(&self, bytes: &mut [u8])
         requires { length bytes.old ≡ WIDTH }
         ensures { bytes.new ≡ encoding self.now };

@@ -72,7 +72,6 @@ pub(crate) fn with_flags<'a>(
     Ok(command)
 }
 
-/// A command with the options of a link.
 pub(crate) fn with_link_options<'a>(
     alloc: Global,
     command: Command<'a>,

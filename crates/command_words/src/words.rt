@@ -130,7 +130,6 @@ fn program<'a>(alloc: Global) -> Command<'a>
         .subcommand_required(true)
 }
 
-/// The tool of this name.
 fn tool_named<'a>(alloc: Global, name: &'a str) -> Result<Command<'a>, AllocError>
     ensures { IfOk result (λ r. app_of r ≡ tool_app name.entry.now) }
 {
@@ -142,7 +141,6 @@ fn tool_named<'a>(alloc: Global, name: &'a str) -> Result<Command<'a>, AllocErro
     }
 }
 
-/// A command with the tools of these names.
 fn with_tools<'a>(
     alloc: Global,
     mut command: Command<'a>,

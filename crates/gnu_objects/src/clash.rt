@@ -61,7 +61,6 @@ fn push_file<'a>(
     }
 }
 
-/// The externals of all files.
 fn all_externals<'a>(alloc: Global, files: &[&'a [u8]]) -> Result<Vec<External<'a>>, AllocError>
     ensures { IfOk result (λ all.
         names_in all.items ≡ flat_map externals_of (map (λ f. f.now) files.now)) }

@@ -9,7 +9,6 @@ use crate::symbols::symbol_at;
 use crate::whole::{header_of, strings_of, whole_header};
 use aout_core::{Header, ObjectFault};
 
-/// The place of a symbol.
 fn symbol_place(header: &Header, n: u16) -> usize
     ensures { result ≡ symbol_place header.now n }
 {

@@ -67,7 +67,6 @@ fn stays(
                     .is_none()))
 }
 
-/// For each symbol whether it stays.
 pub(crate) fn staying(
     alloc: Global,
     locals: Locals,

@@ -52,7 +52,6 @@ pub(crate) fn strings_of<'a>(bytes: &'a [u8], header: &Header) -> &'a [u8]
     &bytes[start..start + long_at(bytes, start) as usize]
 }
 
-/// The symbols.
 #[tactic(auto, using(crate::proofs::FitsLemmas::lengths))]
 pub(crate) fn symbols_of(
     alloc: Global,

@@ -32,7 +32,6 @@ fn keeps(keep: Keep, name: &Name) -> bool
     }
 }
 
-/// Whether the symbol is a local that is kept.
 pub(crate) fn is_kept_local(keep: Keep, symbol: &Symbol) -> bool
     ensures { result ≡ is_kept_local keep symbol.now }
 {

@@ -28,7 +28,6 @@ pub(crate) struct Plan<'a> {
     ghost allowed: { option_fault options.now.layout options.now.relocatable options.now.keep ≡ None },
 }
 
-/// The magic of a layout.
 fn magic_of(layout: Layout) -> u16
     ensures { result ≡ magic_of layout }
 {

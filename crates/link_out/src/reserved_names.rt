@@ -87,7 +87,6 @@ pub(crate) fn reserved_taken(alloc: Global, session: &Session) -> Result<Vec<Nam
     Ok(names)
 }
 
-/// Whether a name is reserved.
 fn is_reserved(name: &Name) -> bool
     ensures { result ≡ is_among reserved_names name.now }
 {

@@ -45,7 +45,6 @@ fn target_word(bases: &Bases, finals: &[Final], target: Target) -> u16
     }
 }
 
-/// The word of a cell in a segment.
 fn word_of_cell(bases: &Bases, finals: &[Final], segment: Segment, cell: Cell) -> u16
     ensures { result ≡ word_of_cell bases.now finals.now segment cell }
 {
@@ -59,7 +58,6 @@ fn word_of_cell(bases: &Bases, finals: &[Final], segment: Segment, cell: Cell) -
         .wrapping_sub(start)
 }
 
-/// Fills in the words of the cells of a segment.
 fn fill_words(words: &mut [u16], cells: &[Cell], segment: Segment, bases: &Bases, finals: &[Final])
     requires { length words.old ≡ length cells.now }
     ensures { words.new ≡ map (word_of_cell bases.now finals.now segment) cells.now }

@@ -46,14 +46,12 @@ impl Model for Link {
 }
 
 impl Link {
-    /// The end of a chain.
     pub(crate) fn end() -> Link
         ensures { result ≡ None }
     {
         Link { coded: 0 }
     }
 
-    /// The link to a place.
     #[tactic(auto, using(crate::proofs::LinkLemmas::text_link, crate::proofs::LinkLemmas::data_link))]
     pub(crate) fn to(place: Place) -> Link
         ensures { result ≡ Some place }

@@ -80,7 +80,6 @@ impl Merged {
         }
     }
 
-    /// The cell at a place.
     pub(crate) fn cell_at(&self, place: Place) -> Cell
         requires { IsWithin (length self.now.text_cells.items)
             (length self.now.data_cells.items) place }

@@ -151,7 +151,6 @@ fn put_errors<E: Write>(
     }
 }
 
-/// The status of an answer.
 fn status_in(is_failed: bool, found: Option<&Answer>) -> u8
     ensures { result ≡ status_in is_failed (option_map (λ a. a.now) found.entry) }
 {

@@ -35,14 +35,12 @@ impl Model for Given {
     } };
 }
 
-/// Whether a letter is one of these.
 fn has_letter(letters: &[u8], letter: u8) -> bool
     ensures { result ≡ has_letter letters.now letter }
 {
     letters.contains(&letter)
 }
 
-/// The first of some letters that is in a set.
 fn first_in(set: &[u8], letters: &[u8]) -> Option<u8>
     ensures { result ≡ first_in set.now letters.now }
 {
@@ -115,7 +113,6 @@ impl Given {
         Some(Reason::Excluded(first, other))
     }
 
-    /// Adds a path.
     fn add_path(&mut self, word: &str) -> Result<(), AllocError>
         ensures { OnOk result (self.new ≡ with_path self.old word.now) }
     {

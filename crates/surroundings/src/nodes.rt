@@ -34,7 +34,6 @@ fn is_node(node: Node, found: Option<Node>) -> bool
     }
 }
 
-/// Whether a file is one of the inputs.
 fn has_input(found: &[Nodes], output: Node) -> bool
     ensures { result ≡ has_input found.now output }
 {

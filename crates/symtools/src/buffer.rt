@@ -52,7 +52,6 @@ impl LineBuffer {
         self.len = end;
     }
 
-    /// Appends a number in decimal.
     pub(crate) fn push_decimal(&mut self, number: u16)
         requires { length self.old + 5 ≤ LINE_CAPACITY }
         ensures value { self.new ≡ self.old ++ decimal number }
@@ -70,7 +69,6 @@ impl LineBuffer {
         self.push(Buffer::new().format(sum).as_bytes());
     }
 
-    /// Appends a sum in octal.
     pub(crate) fn push_octal(&mut self, sum: u32)
         requires { length self.old + 22 ≤ LINE_CAPACITY }
         ensures value { self.new ≡ self.old ++ octal sum }

@@ -8,7 +8,6 @@ use std::marker::Model;
 /// How many names can be forced.
 const MOST: usize = 64;
 
-/// Whether the name is one of these.
 fn is_among(names: &[Name], name: &Name) -> bool
     ensures { result ≡ is_among names.now name.now }
 {

@@ -100,7 +100,6 @@ fn bytes_of(alloc: Global, targets: &[Target]) -> Result<Vec<&[u8]>, AllocError>
     Ok(all)
 }
 
-/// The path of the file of this number.
 fn path_of(targets: &[Target], number: usize) -> &str {
     targets
         .get(number)

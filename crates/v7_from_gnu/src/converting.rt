@@ -46,7 +46,6 @@ fn refused(alloc: Global, source: &Source, refusal: Refusal) -> Fault
     }
 }
 
-/// Converts a file.
 fn convert_one(alloc: Global, options: Options, source: Source) -> Result<Target, Fault>
     ensures { FindsOr (target_of options source) result }
 {
@@ -121,7 +120,6 @@ fn convert_jobs<O: Office>(
     convert_checked(alloc, office, options, is_quiet, jobs)
 }
 
-/// Does a conversion.
 pub(crate) fn convert_files<O: Office>(
     alloc: Global,
     office: &mut O,

@@ -13,7 +13,6 @@ use texts::Text;
 /// The most bytes of a listing that is read: 250 for each word of the largest file. (own choice)
 const MOST_BYTES: u32 = 16_777_216;
 
-/// Puts the line of a mistake of a listing.
 fn put_mistake(lines: &mut Text, path: &str, mistake: listings::Fault) {
     let listings::Fault {
         line,
@@ -66,7 +65,6 @@ fn file_in(alloc: Global, addresses: Addresses, path: &str, text: &[u8]) -> Resu
     }
 }
 
-/// Stores a file.
 fn store<O: Office>(alloc: Global, office: &mut O, to: &str, file: &File) -> Result<Answer, Fault>
     ensures { IsStoring to.now file.now (O.history office.old) (O.history office.new) result }
 {
@@ -75,7 +73,6 @@ fn store<O: Office>(alloc: Global, office: &mut O, to: &str, file: &File) -> Res
     answer_stored(alloc, NAME, to, stored, done)
 }
 
-/// Makes the file of a listing.
 pub(crate) fn make_file<O: Office>(
     alloc: Global,
     office: &mut O,

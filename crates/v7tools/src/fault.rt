@@ -146,14 +146,12 @@ impl CliFault {
         self.write_text(out)
     }
 
-    /// Writes the text of the fault.
     pub(crate) fn write_text<W: Write>(&self, out: &mut Wire<W>) -> Result<(), DeviceFault>
         ensures { Writes W.contents result out.old out.new (cli_text self.now) }
     {
         self.text().write(out)
     }
 
-    /// The text of the fault.
     fn text(&self) -> FaultText<'_>
         ensures { text_of result ≡ cli_text self.now }
     {

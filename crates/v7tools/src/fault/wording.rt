@@ -28,7 +28,6 @@ pub(crate) fn says<'a>(words: &'a str) -> FaultText<'a>
     }
 }
 
-/// What is said of a path.
 pub(crate) fn says_of<'a>(path: &'a str, words: &'a str) -> FaultText<'a>
     ensures { text_of result ≡ at_file path.now words.now }
 {

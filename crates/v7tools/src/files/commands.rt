@@ -59,7 +59,6 @@ fn put_names<W: BufferedWrite>(
     Ok(Status::new(0))
 }
 
-/// Writes the sizes of the files.
 fn put_sizes<W: BufferedWrite>(
     files: &[(String, File)],
     output: &mut Wire<W>,
@@ -104,7 +103,6 @@ pub(crate) fn size_files<O: Office, W: BufferedWrite>(
     put_sizes(&loaded, output)
 }
 
-/// The fault if a file is not stored.
 fn check_stored(path: String, stored: Stored) -> Result<(), CliFault>
     ensures { IsStored path stored result }
 {

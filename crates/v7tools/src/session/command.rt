@@ -20,7 +20,6 @@ use link_session::{Forced, Session};
 use std::io::{Read, Write};
 use surroundings::Office;
 
-/// Opens the file at a path, on a wire.
 fn open_wire<O: Office>(office: &mut O, path: &str) -> Option<Wire<O::Source>>
     ensures { IsOpenedAt O.Source.remaining
         (O.history office.old) (O.history office.new) path.now result }

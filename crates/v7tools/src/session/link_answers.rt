@@ -43,7 +43,6 @@ fn put_linked_line<W: Write>(
     answers.put(b"\n")
 }
 
-/// Writes the answer to a link.
 fn put_link_answer<W: Write>(
     linked: &Linked,
     path: &str,
