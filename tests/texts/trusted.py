@@ -7,7 +7,7 @@ specs/ of a crate may import the internals of another.
 The theorem is the first claim of PROOFS, which is followed definition by definition, with what a session does and the relation of linking.
 The function `link` is left out of claims, since `linking_law` ties it to the relation. The theorem is about sessions and links that were
 run; by which arguments, `call_law` says, and the claim of `Performs` counts that. Lines are those of definitions, without imports,
-comments and empty lines. Each function and type that a table of PROOFS names has to be in the code.
+comments and empty lines; of a claim they are told to a twentieth. Each function and type that a table of PROOFS names has to be in the code.
 
 usage: python3 -m tests.texts.trusted        compares
        python3 -m tests.texts.trusted -w     writes the numbers of PROOFS and TRUST
@@ -224,7 +224,10 @@ def expected():
     if set(re.findall(r"`(?:\w+\.)?(\w+)`", all_claims[0][1].split(" | ")[2])) != cited_by_theorem() | BESIDES:
         faults.append(f"{PROOFS}: the first claim should begin with {', '.join(sorted(cited_by_theorem() | BESIDES))}")
     for found, row in all_claims:
-        pages[PROOFS] = pages[PROOFS].replace(row, re.sub(r"\d+ \| \d+ \|$", f"{sum(found.values())} | {len(found)} |", row))
+        lines, written = sum(found.values()), int(row.split(" | ")[-2])
+        # a few lines more or less, as of one remark, change no page
+        lines = written if abs(lines - written) * 20 <= lines else lines
+        pages[PROOFS] = pages[PROOFS].replace(row, re.sub(r"\d+ \| \d+ \|$", f"{lines} | {len(found)} |", row))
     first = sum(count(f"crates/{name}.antt") for name in FIRST)
     words = sum(found.get(f"{folder}{name}.antt", 0) for found, row in all_claims if READS_WORDS in row for folder, names in WORDS for name in names)
     pages[PROOFS], said = WORDS_LINES.subn(f"{words} of its lines say how arguments are read", pages[PROOFS])
