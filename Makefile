@@ -11,7 +11,7 @@
 #: make check-text            texts, names, limits and quotes, compared with the code                      Python       1 minute
 #: make test                  cases and tests with programs that are not proved                            kit          5 minutes
 #: make gate                  proves everything, and tries the wrong bodies of must-fail/                  kit          35 minutes
-#: make check                 all that CI runs: the gate, and tests of the proved programs                 tools/needs  70 minutes
+#: make check                 all that CI runs: the gate, and tests of the proved programs                 tools/needs  60 minutes
 #: make check-all             this, all wrong bodies, planted bugs, the page and the release               tools/needs  4.5 hours
 #: make check-wrong-bodies    has the prover refuse those of changed crates, or of NAMES=CRATE              kit          to 2 hours
 #: make planted               plants BUGS=NAME, or all, and sees that tests find them                      kit          25 minutes
@@ -163,11 +163,11 @@ test:
 gate:
 	rt ci
 
-# the cheapest first, so that a fault shows early. The gate leaves the programs that the tests of `check` run. Of crates that have changed,
-# as many wrong bodies are tried as a quarter of an hour allows
+# the cheapest first, so that a fault shows early. The gate leaves the programs that the tests of `check` run. Beside these, as many wrong
+# bodies of crates that have changed are tried as a quarter of an hour allows
 check:
-	@MINUTES=15 python3 -m tests parts 'make quick' 'make test' 'make gate' 'make check-wrong-bodies' \
-		'make all lib build/library_uses' 'python3 -m tests check' $(MORE)
+	@MINUTES=15 python3 -m tests parts 'make quick' 'make test' 'make gate' 'make all lib build/library_uses' \
+		'make check-wrong-bodies & python3 -m tests check; status=$$?; wait $$! && exit $$status' $(MORE)
 
 # all wrong bodies, in place of those of crates that have changed
 check-all:

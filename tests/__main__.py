@@ -328,7 +328,7 @@ def which(*paths):
     cases = [path for path in paths if path.endswith(".case")]
     if cases:
         print(f"these cases alone:\n  V7_BUILD=build/quick python3 -m tests.cases.cases {' '.join(cases)}")
-    print("all texts, all cases and tests of code, unproved, 5 minutes:\n  make test\nbefore it is merged, 90 minutes:\n  make check")
+    print("all texts, all cases and tests of code, unproved, 5 minutes:\n  make test\nbefore it is merged, 60 minutes:\n  make check")
     tell("of that, what runs a program with it, also with those of make quick", [test for test, why in reasons if why and test not in made and test.tier == "check"])
     for test in [test for test, why in reasons if why and test.tier == "all"]:
         print(f"only make check-all runs this, {test.seconds / 60:.0f} minutes:\n  "
