@@ -159,9 +159,10 @@ check-text:
 test:
 	@python3 -m tests test
 
-# every proof from nothing, the wrong bodies of must-fail/, the tests, the programs' stored runs
+# every proof from nothing, the wrong bodies of must-fail/, the tests, the programs' stored runs. A check takes up to 4 GB. If there are 5 for
+# each processor, each has a crate; else rt decides, and counts on 5 to 7
 gate:
-	rt ci
+	RT_JOBS=$${RT_JOBS:-$$(awk -v n=$$(nproc) '$$1 == "MemAvailable:" && $$2 > n * 5e6 { print n }' /proc/meminfo)} rt ci
 
 # the cheapest first, so that a fault shows early. The gate leaves the programs that the tests of `check` run. Beside these, as many wrong
 # bodies of crates that have changed are tried as a quarter of an hour allows
