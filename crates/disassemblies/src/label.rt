@@ -6,19 +6,14 @@ use aout_core::Segment;
 use instructions::put_assembly_name;
 use texts::Text;
 
-/// Appends the labels at addresses within words, but for the first address.
+/// Appends the labels after an address and before an end.
 fn put_labels_within(
     text: &mut Text,
     names: &Names<'_>,
     segment: Segment,
     address: u16,
-    length: u16,
+    end: usize,
 ) {
-    let start = usize::from(address);
-    let end = start + 2 * usize::from(length);
-    if !names.has_between(segment, start + 1, end) {
-        return;
-    }
     for symbol in names.symbols {
         if symbol.type_bits % 0o40 == segment.number()
             && let Some(beyond) = symbol.value.checked_sub(address)
@@ -47,9 +42,17 @@ pub fn put_labels(
         return;
     }
     let names = file.names();
-    for symbol in names.at(segment, address) {
-        put_assembly_name(text, &symbol.name);
-        text.put(":\n");
+    let start = usize::from(address);
+    let end = start + (2 * usize::from(length)).max(1);
+    let mut are_at = true;
+    for symbol in names.between(segment, start, end) {
+        are_at = symbol.value == address;
+        if are_at {
+            put_assembly_name(text, &symbol.name);
+            text.put(":\n");
+        }
     }
-    put_labels_within(text, names, segment, address, length);
+    if !are_at {
+        put_labels_within(text, names, segment, address, end);
+    }
 }

@@ -58,7 +58,7 @@ impl<'a> Names<'a> {
     }
 
     /// The symbols of a segment from one value up to another, by their values.
-    fn between(&self, segment: Segment, from: usize, to: usize) -> &[Symbol]
+    pub(crate) fn between(&self, segment: Segment, from: usize, to: usize) -> &[Symbol]
         ensures { result.now ≡ filter (λ s. is_between segment from to s) self.now.ordered.items }
     {
         let number = segment.number();
@@ -67,16 +67,11 @@ impl<'a> Names<'a> {
     }
 
     /// The symbols of a segment at an address, in the order of the table.
-    pub(crate) fn at(&self, segment: Segment, address: u16) -> &[Symbol]
+    fn at(&self, segment: Segment, address: u16) -> &[Symbol]
         ensures { result.now ≡ filter (λ s. is_at segment address s) self.now.symbols.now }
     {
         let address = usize::from(address);
         self.between(segment, address, address + 1)
-    }
-
-    /// Whether a segment has a symbol from one value up to another.
-    pub(crate) fn has_between(&self, segment: Segment, from: usize, to: usize) -> bool {
-        !self.between(segment, from, to).is_empty()
     }
 
     /// The symbol that names an address of a segment, or an absolute number: an external one before the others, and then the

@@ -5,7 +5,8 @@ ghost use Rattle.listings.specs.{Listing.{IsLine, AreSkipped}, Puts.{PutsSuch, P
 use crate::columns::cut_line;
 use crate::remark::Remark;
 use crate::rows::{is_numbered, is_skipped};
-use aout_core::Part;
+use aout_core::{Part, Symbol};
+use std::alloc::Global;
 use texts::Text;
 
 fn is_plain_byte(byte: u8) -> bool
@@ -75,18 +76,6 @@ fn put_labels(text: &mut Text, labels: &[u8])
     }
 }
 
-/// Appends the labels before a word.
-pub(crate) fn put_labels_at<R: Remark>(remarks: &R, text: &mut Text, part: Part, place: usize)
-    ensures { PutsLines AreSkipped text.old text.new }
-{
-    let mut labels = Text::new(text.allocator());
-    remarks.put_labels(&mut labels, part, place);
-    match labels.finish() {
-        Ok(labels) => put_labels(text, &labels),
-        Err(error) => text.cut(error),
-    }
-}
-
 fn from_slash(said: &[u8]) -> &[u8] {
     match said.iter().position(|byte| *byte == b'/') {
         Some(place) => &said[place..],
@@ -111,12 +100,58 @@ fn put_said(text: &mut Text, said: &[u8])
 }
 
 /// Appends two blanks and a remark, or nothing if it is empty. A number at its front is left out, up to a slash.
-pub(crate) fn put_remark(text: &mut Text, said: Text)
+fn put_remark(text: &mut Text, remark: &Text)
     ensures { PutsSuch IsRemarked text.old text.new }
 {
-    match said.finish() {
-        Ok(said) if is_numbered(&said) => put_said(text, from_slash(&said)),
-        Ok(said) => put_said(text, &said),
+    match remark.so_far() {
+        Ok(said) if is_numbered(said) => put_said(text, from_slash(said)),
+        Ok(said) => put_said(text, said),
         Err(error) => text.cut(error),
+    }
+}
+
+/// What is remarked of a file, with memory that one remark after another uses.
+#[derive(Drop)]
+pub(crate) struct Said<'a, R> {
+    pub(crate) remarks: &'a R,
+    remark: Text,
+}
+
+impl<'a, R: Remark> Said<'a, R> {
+    pub(crate) fn new(alloc: Global, remarks: &'a R) -> Said<'a, R> {
+        Said {
+            remarks,
+            remark: Text::new(alloc),
+        }
+    }
+
+    /// Appends the labels before a word.
+    pub(crate) fn put_labels(&mut self, text: &mut Text, part: Part, place: usize)
+        ensures { PutsLines AreSkipped text.old text.new }
+    {
+        self.remark.clear();
+        self.remarks.put_labels(&mut self.remark, part, place);
+        match self.remark.so_far() {
+            Ok(labels) => put_labels(text, labels),
+            Err(error) => text.cut(error),
+        }
+    }
+
+    /// Appends what is remarked of a word.
+    pub(crate) fn put_word(&mut self, text: &mut Text, part: Part, place: usize)
+        ensures { PutsSuch IsRemarked text.old text.new }
+    {
+        self.remark.clear();
+        self.remarks.put_word(&mut self.remark, part, place);
+        put_remark(text, &self.remark);
+    }
+
+    /// Appends what is remarked of a symbol.
+    pub(crate) fn put_symbol(&mut self, text: &mut Text, symbol: &Symbol)
+        ensures { PutsSuch IsRemarked text.old text.new }
+    {
+        self.remark.clear();
+        self.remarks.put_symbol(&mut self.remark, symbol);
+        put_remark(text, &self.remark);
     }
 }

@@ -7,7 +7,7 @@ ghost use Rattle.listings.specs.Listing.{IsRemark, IsWord, AreWords, IsSymbolLin
 ghost use Rattle.listings.specs.{Reading.read, Puts.{PutsSuch, PutsLines}, declared.draft.Addresses.TheVariants.Compared};
 
 use crate::remark::Remark;
-use crate::said::{put_labels_at, put_notes, put_remark};
+use crate::said::{Said, put_notes};
 use aout_core::laws::sound_law;
 use aout_core::{File, Header, Name, Part, Reloc, Symbol};
 use std::alloc::{AllocError, Global};
@@ -69,14 +69,18 @@ struct Place {
 }
 
 /// Appends the line of a word, and the labels before it.
-fn put_word<R: Remark>(remarks: &R, text: &mut Text, place: Place, word: u16, reloc: Option<Reloc>)
+fn put_word<R: Remark>(
+    said: &mut Said<'_, R>,
+    text: &mut Text,
+    place: Place,
+    word: u16,
+    reloc: Option<Reloc>,
+)
     ensures { PutsLines (IsWord place.at word reloc) text.old text.new }
 {
-    put_labels_at(remarks, text, place.part, place.index);
+    said.put_labels(text, place.part, place.index);
     put_columns(text, place.at, word, reloc);
-    let mut said = Text::new(text.allocator());
-    remarks.put_word(&mut said, place.part, place.index);
-    put_remark(text, said);
+    said.put_word(text, place.part, place.index);
     text.put_byte(b'\n');
 }
 
@@ -88,7 +92,7 @@ fn reloc_at(relocs: &[Reloc], index: usize) -> Option<Reloc>
 
 /// Appends the words of a part that begins at an address, and the labels of its end.
 fn put_words<R: Remark>(
-    remarks: &R,
+    said: &mut Said<'_, R>,
     text: &mut Text,
     part: Part,
     start: usize,
@@ -101,10 +105,10 @@ fn put_words<R: Remark>(
     let mut at = (start % 65536) as u16;
     for (index, word) in words.iter().enumerate() {
         let place = Place { part, index, at };
-        put_word(remarks, text, place, *word, reloc_at(relocs, index));
+        put_word(said, text, place, *word, reloc_at(relocs, index));
         at = at.wrapping_add(2);
     }
-    put_labels_at(remarks, text, part, words.len());
+    said.put_labels(text, part, words.len());
 }
 
 /// A name as it prints.
@@ -117,7 +121,7 @@ fn printable(alloc: Global, name: &Name) -> Result<Vec<u8>, AllocError>
 }
 
 fn put_numbers<R: Remark>(
-    remarks: &R,
+    said: &mut Said<'_, R>,
     text: &mut Text,
     blanks: usize,
     symbol: &Symbol,
@@ -129,9 +133,7 @@ fn put_numbers<R: Remark>(
 {
     put_column(text, blanks, digits);
     put_word_column(text, 1, symbol.value);
-    let mut said = Text::new(text.allocator());
-    remarks.put_symbol(&mut said, symbol);
-    put_remark(text, said);
+    said.put_symbol(text, symbol);
 }
 
 /// Appends the number of a symbol and its name.
@@ -145,7 +147,7 @@ fn put_label(text: &mut Text, number: u16, name: &[u8])
 }
 
 /// Appends an entry of the symbol table.
-fn put_symbol<R: Remark>(remarks: &R, text: &mut Text, number: u16, symbol: &Symbol)
+fn put_symbol<R: Remark>(said: &mut Said<'_, R>, text: &mut Text, number: u16, symbol: &Symbol)
     ensures { PutsLines (λ ls. (l : _) × IsSymbolLine number symbol.now l × (ls ≡ l ∷ [])) text.old text.new }
 {
     let name = match printable(text.allocator(), &symbol.name) {
@@ -156,18 +158,18 @@ fn put_symbol<R: Remark>(remarks: &R, text: &mut Text, number: u16, symbol: &Sym
     let digits = buffer.format(u64::from(symbol.type_bits));
     let blanks = wide(8, &name) + 3usize.saturating_sub(digits.len());
     put_label(text, number, &name);
-    put_numbers(remarks, text, blanks, symbol, digits);
+    put_numbers(said, text, blanks, symbol, digits);
     text.put_byte(b'\n');
 }
 
 /// Appends the symbol table.
-fn put_symbols<R: Remark>(remarks: &R, text: &mut Text, symbols: &[Symbol])
+fn put_symbols<R: Remark>(said: &mut Said<'_, R>, text: &mut Text, symbols: &[Symbol])
     requires { length symbols.now < 5462 }
     ensures { PutsLines (AreSymbols 0 symbols.now) text.old text.new }
 {
     let mut number = 0u16;
     for symbol in symbols {
-        put_symbol(remarks, text, number, symbol);
+        put_symbol(said, text, number, symbol);
         number += 1;
     }
 }
@@ -222,13 +224,21 @@ fn put_before_end<R: Remark>(
         text.old text.new }
 {
     let header = file.header();
+    let mut said = Said::new(text.allocator(), remarks);
     put_notes(text, remarks.notes());
     put_head(text, file);
     text.put("text\n");
-    put_words(remarks, text, Part::Text, 0, file.text_words(), text_relocs);
+    put_words(
+        &mut said,
+        text,
+        Part::Text,
+        0,
+        file.text_words(),
+        text_relocs,
+    );
     text.put("data\n");
     put_words(
-        remarks,
+        &mut said,
         text,
         Part::Data,
         header.data_start(),
@@ -237,7 +247,7 @@ fn put_before_end<R: Remark>(
     );
     put_bss(text, header);
     text.put("symbols\n");
-    put_symbols(remarks, text, file.symbols());
+    put_symbols(&mut said, text, file.symbols());
     put_notes(text, remarks.findings());
 }
 

@@ -199,6 +199,25 @@ impl Text {
         let _ = write!(self, "{what}");
     }
 
+    /// Makes the text empty, and keeps its memory for what is put next.
+    pub fn clear(&mut self)
+        ensures { self.new ≡ nothing_written }
+    {
+        self.bytes.clear();
+        self.refused = None;
+    }
+
+    /// The bytes so far. An error, out of memory, if the text is cut.
+    pub fn so_far(&self) -> Result<&[u8], AllocError>
+        ensures bytes { IfOk result (λ bytes. (self.now.is_cut ≡ false) × (bytes.now ≡ self.now.bytes)) }
+        ensures memory { IsErr result → self.now.is_cut ≡ true }
+    {
+        match self.refused {
+            Some(error) => Err(error),
+            None => Ok(&self.bytes),
+        }
+    }
+
     /// The bytes. An error, out of memory, if the text is cut.
     pub fn finish(self) -> Result<Vec<u8>, AllocError>
         ensures bytes { IfOk result (λ bytes. (self.is_cut ≡ false) × (bytes.items ≡ self.bytes)) }
