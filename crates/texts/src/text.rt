@@ -212,8 +212,8 @@ impl Text {
         ensures bytes { IfOk result (λ bytes. (self.now.is_cut ≡ false) × (bytes.now ≡ self.now.bytes)) }
         ensures memory { IsErr result → self.now.is_cut ≡ true }
     {
-        match self.refused {
-            Some(error) => Err(error),
+        match &self.refused {
+            Some(error) => Err(*error),
             None => Ok(&self.bytes),
         }
     }
