@@ -1,16 +1,15 @@
 -- The places of a map are those of the file.
 use Rattle.std.proofs.Common.{rules, ◌≡◌, ℕ, ◌+◌, ◌<◌, ◌≤◌, min, List, [], ◌∷◌, ◌++◌, length, map, Some, None, Ok, slice_get, refl, sym, ap}
 use Rattle.std.proofs.{Common.{◌∙◌, subst, arith}, lemmas.List.Sums.sum_by-append}
-use Rattle.std.specs.List.{AllByRecursion}
 use Rattle.aout_core.specs.{Contents.Contents, Addresses.data_start_in, declared.part.Part.Part, declared.symbol.Segment.Segment}
 use Rattle.aout_core.specs.declared.symbol.Segment.TheVariants.{TextSeg, DataSeg, BssSeg}
 use Rattle.aout_core.specs.declared.part.Part.TheVariants as parts
-use Rattle.link_session.specs.{Labelled.Labelled, Labelled.objects, Limits.limit_passed, Sessions.IsObject, Starts.size_of, Starts.total}
+use Rattle.link_session.specs.{Labelled.Labelled, Labelled.objects, Limits.limit_passed, Starts.size_of, Starts.total}
 use Rattle.link_out.specs.{function.Link.link, function.Link.linked_file, function.Plans.Plan, function.Plans.plan, Results.Outcome}
 use Rattle.link_out.proofs.OutcomeLemmas.{made_file, made_fits}
 use Rattle.link_session.proofs.TotalLemmas.{total-first}
 use Rattle.laws.specs.{relation.Relocated.base_in, CoreLaws.IsPlace, Maps.{IsShown, places_mapped}}
-use Rattle.laws.proofs.{MoveLemmas.{data_begun, rest_back}, LoadedLemmas.{HasPlace, place_at}, MapWordLemmas.IsSmallObject}
+use Rattle.laws.proofs.{MoveLemmas.data_begun, MoveLemmas.rest_back, LoadedLemmas.HasPlace, LoadedLemmas.place_at}
 use Rattle.link_maps.specs.Members.{capped, first_places, member_of, next_places, places_from, start_in}
 use Rattle.link_maps.specs.{declared.places.Places.Places, References.segment_of_part}
 use Rattle.tool_options.specs.Choices.{Choices}
@@ -31,21 +30,6 @@ pub record IsSmall (os : List Contents) : Type 0 where
 
 small_passed : (forced : List (List ℕ)) (os : List Contents) → limit_passed forced os ≡ None → IsSmall os
 small_passed forced os h = search rules
-
-object_in_total : (segment : Segment) (before : List Contents) (k : Contents) (after : List Contents) →
-    size_of segment k ≤ total segment (before ++ k ∷ after)
-object_in_total segment before k after =
-    let e : total segment (before ++ k ∷ after) ≡ total segment before + total segment (k ∷ after) =
-    sum_by-append (size_of segment) before (k ∷ after) in
-    let f = total-first segment k after in omega (arith, e, f)
-
-object_at : (before : List Contents) (k : Contents) (after : List Contents) → AllByRecursion IsObject (before ++ k ∷ after) → IsObject k
-object_at [] k after all = all.0
-object_at (o ∷ os) k after all = object_at os k after all.1
-
-pub small_objects : (forced : List (List ℕ)) (os : List Contents) → AllByRecursion IsObject os → limit_passed forced os ≡ None →
-    (before : List Contents) (k : Contents) (after : List Contents) → os ≡ before ++ k ∷ after → IsSmallObject k
-small_objects forced os good passed before k after split = search (rules, small_passed, object_in_total, object_at)
 
 -- ---- places
 

@@ -1,16 +1,16 @@
 -- The words under each symbol of a map are those that lead to it.
-use Rattle.std.proofs.Common.{rules, ◌≡◌, ℕ, zero, suc, ◌+◌, ◌*◌, ◌<◌, ◌≤◌, Bool, true, false, ◌&&◌, eqb, if◌then◌else◌, List, [], ◌∷◌}
-use Rattle.std.proofs.Common.{◌++◌, length, map, Option, Some, None, slice_get, refl, sym, ap, ◌∙◌, subst, inl, inr, arith, eq-eqb}
+use Rattle.std.proofs.Common.{rules, ◌≡◌, ℕ, zero, suc, ◌+◌, ◌*◌, ◌<◌, Bool, true, false, ◌&&◌, if◌then◌else◌, List, [], ◌∷◌, ◌++◌}
+use Rattle.std.proofs.Common.{length, map, Option, Some, None, slice_get, refl, sym, ap, ◌∙◌, subst, inl, inr, arith, eq-eqb, eqb-true}
 use Rattle.std.proofs.lemmas.List.Sorted.{Contains-permutation, IsPermutation-sym}
-use Rattle.std.proofs.{Common.eqb-true, lemmas.List.Elements.{Contains-append_cases, Contains-append_left, Contains-append_right}}
-use Rattle.std.specs.{Prelude.◌⊎◌, List.Contains, List.flat_map}
-use Rattle.aout_core.specs.{Contents.Contents, Contents.Fits, Words.plus, WellFormed.is_external, WellFormed.masked_type}
-use Rattle.aout_core.specs.{WellFormed.segment_number, declared.part.Part.Part, declared.reloc.Reloc.Reloc, declared.symbol.Symbol.Symbol}
-use Rattle.aout_core.specs.Placed.{relocs_of, words_of}
+use Rattle.std.proofs.lemmas.List.Elements.{Contains-append_cases, Contains-append_left, Contains-append_right}
+use Rattle.std.specs.{Prelude.◌⊎◌, Prelude.slice_index_or, List.Contains, List.flat_map}
+use Rattle.aout_core.specs.{Contents.Contents, WellFormed.is_external, WellFormed.masked_type, WellFormed.segment_number}
+use Rattle.aout_core.specs.Placed.{placed_from, placed_word, placed_words, words_of}
+use Rattle.aout_core.specs.{declared.part.Part.Part, declared.placed.PlacedWord.PlacedWord, declared.symbol.Symbol.Symbol}
 use Rattle.aout_core.specs.declared.part.Part.TheVariants as parts
 use Rattle.instructions.specs.declared.unix.Decoder.TheVariants.{Unix}
 use Rattle.disassemblies.specs.Starts.{starts}
-use Rattle.link_maps.specs.Leads.{aim_of, lead_by, leads, leads_in, leads_of, leads_to, reference_if, references_to}
+use Rattle.link_maps.specs.Leads.{aim_at, lead_at, lead_by, leads, leads_of, leads_to, reference_if, references_to}
 use Rattle.link_maps.specs.References.{reference_at}
 use Rattle.link_maps.specs.Uses.{Use, forced_use, is_before, use_by, use_of, uses, uses_by, uses_from, uses_in, uses_in_order}
 use Rattle.link_maps.specs.{declared.leads.Aim.Aim, declared.leads.Lead.Lead, declared.references.ReferringWord.ReferringWord}
@@ -67,73 +67,6 @@ in_all f (z ∷ xs) x y there h = by_case (Contains-append_cases (z ∷ []) xs x
 
 -- ---- the words of an object that lead somewhere
 
-module _ (line_starts : List Bool) (k : Contents) (part : Part) where
-  -- the word of this number of the part leads there
-  pub record IsLead (i : ℕ) (l : Lead) : Type 0 where
-    pub reloc : Reloc
-    pub is_there : slice_get (relocs_of k part) i ≡ Some reloc
-    pub word : ℕ
-    pub word_there : slice_get (words_of k part) i ≡ Some word
-    pub in_part : l.part ≡ part
-    pub place : l.offset ≡ 2 * i
-    pub leads : aim_of line_starts k part l.offset reloc word ≡ Some l.aim
-
-  next_offset : (i offset : ℕ) → offset ≡ 2 * i → 2 * (i + 1) ≤ 65534 → plus offset 2 ≡ 2 * (i + 1)
-  next_offset i offset is fits = omega arith
-
-  only_lead : (offset : ℕ) (found : Option Aim) (l : Lead) → Contains (lead_by part offset found) l →
-      (l.part ≡ part) × (l.offset ≡ offset) × (found ≡ Some l.aim)
-  only_lead offset None l h = absurd (none_in l h)
-  only_lead offset (Some aim) l h = search rules
-
-  -- after the first words of the part
-  pub leads_are : (rs : List Reloc) (ws : List ℕ) (i offset : ℕ) → offset ≡ 2 * i → 2 * (i + length rs) ≤ 65534 →
-      ((j : ℕ) → slice_get (relocs_of k part) (i + j) ≡ slice_get rs j) →
-      ((j : ℕ) → slice_get (words_of k part) (i + j) ≡ slice_get ws j) → (l : Lead) →
-      Contains (leads_in line_starts k part offset rs ws) l → (n : ℕ) × IsLead n l
-  leads_are [] ws i offset is fits same same_words l h = absurd (none_in l h)
-  leads_are (r ∷ rs) [] i offset is fits same same_words l h = absurd (none_in l h)
-  leads_are (r ∷ rs) (w ∷ ws) i offset is fits same same_words l h =
-      by_case (Contains-append_cases (lead_by part offset (aim_of line_starts k part offset r w))
-      (leads_in line_starts k part (plus offset 2) rs ws) l h)
-      (leads_are rs ws (i + 1) (plus offset 2) (next_offset i offset is (omega (arith, fits))) (omega (arith, fits))
-      (λ j. ap (λ (n : ℕ). slice_get (relocs_of k part) n) (let e : i + 1 + j ≡ i + suc j = omega arith in e) ∙ same (suc j))
-      (λ j. ap (λ (n : ℕ). slice_get (words_of k part) n) (let e : i + 1 + j ≡ i + suc j = omega arith in e) ∙ same_words (suc j)) l)
-    where
-      by_case : Contains (lead_by part offset (aim_of line_starts k part offset r w)) l
-          ⊎ Contains (leads_in line_starts k part (plus offset 2) rs ws) l →
-          (Contains (leads_in line_starts k part (plus offset 2) rs ws) l → (n : ℕ) × IsLead n l) → (n : ℕ) × IsLead n l
-      by_case (inl here) again =
-          let found = only_lead offset (aim_of line_starts k part offset r w) l here in
-          let zero_on : i ≡ i + 0 = omega arith in (
-            i,
-            record {
-              reloc = r;
-              is_there = ap (λ (n : ℕ). slice_get (relocs_of k part) n) zero_on ∙ same 0;
-              word = w;
-              word_there = ap (λ (n : ℕ). slice_get (words_of k part) n) zero_on ∙ same_words 0;
-              in_part = found.0;
-              place = found.1 ∙ is;
-              leads = ap (λ (n : ℕ). aim_of line_starts k part n r w) found.1 ∙ found.2;
-            },
-          )
-      by_case (inr later) again = again later
-
-  -- a word that leads somewhere is among them
-  pub lead_there : (rs : List Reloc) (ws : List ℕ) (i offset j : ℕ) (r : Reloc) (w : ℕ) (aim : Aim) → offset ≡ 2 * i →
-      2 * (i + length rs) ≤ 65534 → slice_get rs j ≡ Some r → slice_get ws j ≡ Some w →
-      aim_of line_starts k part (2 * (i + j)) r w ≡ Some aim →
-      Contains (leads_in line_starts k part offset rs ws) (record { part = part; offset = 2 * (i + j); aim = aim })
-  lead_there (x ∷ rs) (y ∷ ws) i offset zero r w aim is fits there word_there leads = search rules
-  lead_there (x ∷ rs) (y ∷ ws) i offset (suc j) r w aim is fits there word_there leads =
-      let step : 2 * (i + 1 + j) ≡ 2 * (i + suc j) = omega arith in
-      Contains-append_right (lead_by part offset (aim_of line_starts k part offset x y)) (leads_in line_starts k part (plus offset 2) rs ws)
-      (record { part = part; offset = 2 * (i + suc j); aim = aim })
-      (subst (λ (n : ℕ). Contains (leads_in line_starts k part (plus offset 2) rs ws) (record { part = part; offset = n; aim = aim })) step
-      (lead_there rs ws (i + 1) (plus offset 2) j r w aim (next_offset i offset is (omega (arith, fits))) (omega (arith, fits)) there word_there
-      (ap (λ (n : ℕ). aim_of line_starts k part n r w) step ∙ leads)))
-  lead_there _ _ i offset j r w aim is fits there word_there leads = absurd (cc)
-
 -- a word leads to a symbol as the map has it
 hit : (aim : Aim) (number : ℕ) (s : Symbol) → leads_to aim number s ≡ true → Hits aim number s
 hit (Numbered n) number s h = eqb-true n number h
@@ -144,42 +77,77 @@ hits_so (Numbered n) number s h = eq-eqb n number h
 hits_so (Addressed segment address) number s h =
     (λ i. eq-eqb (masked_type s) (segment_number segment) h.0 i && eq-eqb s.value address h.1 i)
 
--- the sizes of an object's parts, if a session accepts it
-pub record IsSmallObject (k : Contents) : Type 0 where
-  pub fits : Fits k
-  pub text : k.header.text_size ≤ 65534
-  pub «data» : k.header.data_size ≤ 65534
+module _ (k : Contents) (part : Part) where
+  placed_count : (ws : List ℕ) (n : ℕ) → length (placed_from k part n ws) ≡ length ws
+  placed_count [] n = refl
+  placed_count (w ∷ ws) n = ap suc (placed_count ws (n + 1))
 
-module _ (k : Contents) (sound : IsSmallObject k) where
-  half_fits : (size n : ℕ) (b : Bool) → size ≤ 65534 → 2 * n ≡ (if b then size else 0) → 2 * (0 + n) ≤ 65534
-  half_fits size n true small is = omega arith
-  half_fits size n false small is = omega arith
+  placed_at : (ws : List ℕ) (n i : ℕ) (d : PlacedWord) → i < length ws →
+      slice_index_or (placed_from k part n ws) i d ≡ placed_word k part (n + i)
+  placed_at [] n i d inside = absurd (let e : i < 0 = inside in omega (arith, e))
+  placed_at (w ∷ ws) n zero d inside = ap (placed_word k part) (let e : n ≡ n + 0 = omega arith in e)
+  placed_at (w ∷ ws) n (suc i) d inside =
+      placed_at ws (n + 1) i d (let e : suc i < suc (length ws) = inside in omega (arith, e))
+      ∙ ap (placed_word k part) (let e : n + 1 + i ≡ n + suc i = omega arith in e)
 
-  pub part_fits : (part : Part) → 2 * (0 + length (relocs_of k part)) ≤ 65534
-  part_fits parts.Text =
-      half_fits k.header.text_size (length k.text_reloc) (eqb k.header.flag 0) sound.text sound.fits.text_relocation
-  part_fits parts.Data =
-      half_fits k.header.data_size (length k.data_reloc) (eqb k.header.flag 0) sound.«data» sound.fits.data_relocation
+  -- the words of the part are those of its numbers
+  is_placed : (at : PlacedWord) → Contains (placed_words k part) at →
+      (i : ℕ) × (i < length (words_of k part)) × (placed_word k part i ≡ at)
+  is_placed at (i, inside, is) =
+      let count : length (placed_words k part) ≡ length (words_of k part) = placed_count (words_of k part) 0 in
+      let within : i < length (words_of k part) = omega (arith, inside, count) in
+      (i, within, ap (placed_word k part) (let e : i ≡ 0 + i = omega arith in e) ∙ sym (placed_at (words_of k part) 0 i at within) ∙ is)
 
-  -- the words that lead somewhere are those of text and of data
-  leads_of_part : (line_starts : List Bool) (l : Lead) → Contains (leads line_starts k) l → (n : ℕ) × IsLead line_starts k l.part n l
-  leads_of_part line_starts l h = by_part (Contains-append_cases (leads_of line_starts k parts.Text) (leads_of line_starts k parts.Data) l h)
+  placed_there : (i : ℕ) → i < length (words_of k part) → Contains (placed_words k part) (placed_word k part i)
+  placed_there i inside =
+      let count : length (placed_words k part) ≡ length (words_of k part) = placed_count (words_of k part) 0 in (
+        i,
+        omega (arith, inside, count),
+        placed_at (words_of k part) 0 i (placed_word k part i) inside ∙ ap (placed_word k part) (let e : 0 + i ≡ i = omega arith in e),
+      )
+
+  only_lead : (offset : ℕ) (found : Option Aim) (l : Lead) → Contains (lead_by part offset found) l →
+      (l.part ≡ part) × (l.offset ≡ offset) × (found ≡ Some l.aim)
+  only_lead offset None l h = absurd (none_in l h)
+  only_lead offset (Some aim) l h = search rules
+
+  -- one of the part that hits a symbol leads to it
+  lead_in_part : (l : Lead) (number : ℕ) (s : Symbol) → slice_get k.symbols number ≡ Some s → Hits l.aim number s →
+      Contains (leads_of (starts Unix k) k part) l → LeadsTo k l.part l.offset s
+  lead_in_part l number s named hits h =
+      let line_starts = starts Unix k in
+      let one = in_one (lead_at line_starts k) (placed_words k part) l h in
+      let at = is_placed one.0 one.1 in
+      let found =
+      only_lead (2 * at.0) (aim_at line_starts k (placed_word k part at.0)) l
+      (subst (λ (w : PlacedWord). Contains (lead_at line_starts k w) l) (sym at.2) one.2) in
+      subst (λ (p : Part). LeadsTo k p l.offset s) (sym found.0) (record {
+        i = at.0;
+        inside = at.1;
+        place = found.1;
+        aim = l.aim;
+        leads = found.2;
+        number = number;
+        symbol = named;
+        hits = hits;
+      })
+
+module _ (k : Contents) where
+  lead_in_object : (l : Lead) (number : ℕ) (s : Symbol) → slice_get k.symbols number ≡ Some s → Hits l.aim number s →
+      Contains (leads (starts Unix k) k) l → LeadsTo k l.part l.offset s
+  lead_in_object l number s named hits h =
+      by_part (Contains-append_cases (leads_of (starts Unix k) k parts.Text) (leads_of (starts Unix k) k parts.Data) l h)
     where
-      in_its_part : (part : Part) → (n : ℕ) × IsLead line_starts k part n l → (n : ℕ) × IsLead line_starts k l.part n l
-      in_its_part part (n, is) = (n, subst (λ (p : Part). IsLead line_starts k p n l) (sym is.in_part) is)
+      by_part : Contains (leads_of (starts Unix k) k parts.Text) l ⊎ Contains (leads_of (starts Unix k) k parts.Data) l →
+          LeadsTo k l.part l.offset s
+      by_part (inl text) = lead_in_part k parts.Text l number s named hits text
+      by_part (inr later) = lead_in_part k parts.Data l number s named hits later
 
-      by_part : Contains (leads_of line_starts k parts.Text) l ⊎ Contains (leads_of line_starts k parts.Data) l →
-          (n : ℕ) × IsLead line_starts k l.part n l
-      by_part (inl text) =
-          in_its_part parts.Text (leads_are line_starts k parts.Text k.text_reloc k.text_words 0 0 refl (part_fits parts.Text)
-          (from_zero k.text_reloc) (from_zero k.text_words) l text)
-      by_part (inr later) =
-          in_its_part parts.Data (leads_are line_starts k parts.Data k.data_reloc k.data_words 0 0 refl (part_fits parts.Data)
-          (from_zero k.data_reloc) (from_zero k.data_words) l later)
-
-  lead_in_part : (line_starts : List Bool) (part : Part) (l : Lead) → Contains (leads_of line_starts k part) l → Contains (leads line_starts k) l
-  lead_in_part line_starts parts.Text l h = Contains-append_left (leads_of line_starts k parts.Text) (leads_of line_starts k parts.Data) l h
-  lead_in_part line_starts parts.Data l h = Contains-append_right (leads_of line_starts k parts.Text) (leads_of line_starts k parts.Data) l h
+  lead_of_part : (line_starts : List Bool) (part : Part) (l : Lead) → Contains (leads_of line_starts k part) l →
+      Contains (leads line_starts k) l
+  lead_of_part line_starts parts.Text l h = Contains-append_left (leads_of line_starts k parts.Text) (leads_of line_starts k parts.Data) l h
+  lead_of_part line_starts parts.Data l h =
+      Contains-append_right (leads_of line_starts k parts.Text) (leads_of line_starts k parts.Data) l h
 
   -- the words under the symbol of a number lead to it
   pub words_lead : (number : ℕ) (s : Symbol) → slice_get k.symbols number ≡ Some s → (w : ReferringWord) →
@@ -189,38 +157,26 @@ module _ (k : Contents) (sound : IsSmallObject k) where
       let found = in_one (reference_if line_starts k number s) (leads line_starts k) w h in
       let l : Lead = found.0 in
       let one = one_if (leads_to l.aim number s) (reference_at line_starts k l.part l.offset) w found.2 in
-      let is = leads_of_part line_starts l found.1 in
-      subst (λ (v : ReferringWord). LeadsTo k v.part v.offset s) one.1 (record {
-        i = is.0;
-        place = is.1.place;
-        reloc = is.1.reloc;
-        is_there = is.1.is_there;
-        word = is.1.word;
-        word_there = is.1.word_there;
-        aim = l.aim;
-        leads = is.1.leads;
-        number = number;
-        symbol = named;
-        hits = hit l.aim number s one.0;
-      })
+      subst (λ (v : ReferringWord). LeadsTo k v.part v.offset s) one.1
+      (lead_in_object l number s named (hit l.aim number s one.0) found.1)
 
   -- and each word that leads to it is under it
   pub word_listed : (part : Part) (offset : ℕ) (s : Symbol) (it : LeadsTo k part offset s) →
       (w : ReferringWord) × Contains (references_to (starts Unix k) k it.number s) w × (w.part ≡ part) × (w.offset ≡ offset)
   word_listed part offset s it =
       let line_starts = starts Unix k in
-      let at : 2 * (0 + it.i) ≡ offset = let e : offset ≡ 2 * it.i = it.place in omega (arith, e) in
-      let l : Lead = record { part = part; offset = 2 * (0 + it.i); aim = it.aim } in
+      let l : Lead = record { part = part; offset = 2 * it.i; aim = it.aim } in
+      let at_word : Contains (lead_at line_starts k (placed_word k part it.i)) l =
+      subst (λ (a : Option Aim). Contains (lead_by part (2 * it.i) a) l) (sym it.leads) (one_there l []) in
       let there : Contains (leads_of line_starts k part) l =
-      lead_there line_starts k part (relocs_of k part) (words_of k part) 0 0 it.i it.reloc it.word it.aim refl (part_fits part) it.is_there
-      it.word_there (ap (λ (n : ℕ). aim_of line_starts k part n it.reloc it.word) at ∙ it.leads) in
-      let w : ReferringWord = reference_at line_starts k part (2 * (0 + it.i)) in
+      in_all (lead_at line_starts k) (placed_words k part) (placed_word k part it.i) l (placed_there k part it.i it.inside) at_word in
+      let w : ReferringWord = reference_at line_starts k part (2 * it.i) in
       let here : Contains (reference_if line_starts k it.number s l) w =
       subst (λ (b : Bool). Contains (if b then w ∷ [] else []) w) (sym (hits_so it.aim it.number s it.hits)) (one_there w []) in (
         w,
-        in_all (reference_if line_starts k it.number s) (leads line_starts k) l w (lead_in_part line_starts part l there) here,
+        in_all (reference_if line_starts k it.number s) (leads line_starts k) l w (lead_of_part line_starts part l there) here,
         refl,
-        at,
+        sym it.place,
       )
 
 -- ---- the uses of an object
@@ -302,8 +258,7 @@ use_among : (before : List Contents) (k : Contents) (after : List Contents) (fir
 use_among [] k after first u h = search (rules, Contains-append_left)
 use_among (o ∷ os) k after first u h = search (rules, Contains-append_right, (use_among os k after))
 
-module _ (forced : List (List ℕ)) (os : List Contents)
-    (small : (before : List Contents) (k : Contents) (after : List Contents) → os ≡ before ++ k ∷ after → IsSmallObject k) where
+module _ (forced : List (List ℕ)) (os : List Contents) where
   unsorted : (u : Use) → Contains (uses_in_order forced os) u → Contains (uses forced os) u
   unsorted u h =
       Contains-permutation (uses_in_order forced os) (uses forced os) u

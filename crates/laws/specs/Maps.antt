@@ -1,16 +1,16 @@
 -- What the map of a link has to do with the linked file. (ld(1), a.out(5))
 --
 -- The map of objects has the places of their segments, `places_mapped`, and their uses of names, `uses_in_order` of Uses: a symbol of an
--- object, with the words that lead to it. The objects are those that a session accepts.
+-- object, with the words that lead to it.
 use Rattle.std.specs.Prelude.{◌≡◌, ℕ, ◌*◌, ◌<◌, true, List, ◌∷◌, ◌++◌, length, map, Some, None, Ok, slice_get}
-use Rattle.std.specs.List.{AllByRecursion, Contains}
+use Rattle.std.specs.List.{Contains}
 use Rattle.aout_core.specs.{Contents.Contents, WellFormed.{is_external, masked_type, segment_number}, declared.part.Part.Part}
-use Rattle.aout_core.specs.{Placed.{relocs_of, words_of}, declared.reloc.Reloc.Reloc, declared.symbol.Segment.TheVariants.BssSeg, declared.symbol.Symbol.Symbol}
-use Rattle.link_session.specs.{Labelled.Labelled, Labelled.objects, Limits.limit_passed, Sessions.IsObject}
+use Rattle.aout_core.specs.{Placed.{placed_word, words_of}, declared.symbol.Segment.TheVariants.BssSeg, declared.symbol.Symbol.Symbol}
+use Rattle.link_session.specs.{Labelled.Labelled, Labelled.objects, Limits.limit_passed}
 use Rattle.link_out.specs.{function.Link.link, function.Plans.plan, Results.Outcome}
 use Rattle.link_maps.specs.{declared.places.Places.Places, declared.references.ReferringWord.ReferringWord}
 use Rattle.link_maps.specs.declared.leads.Aim.TheVariants.{Numbered, Addressed}
-use Rattle.link_maps.specs.{Members.{capped, first_places, member_of, places_from, start_in}, Leads.aim_of}
+use Rattle.link_maps.specs.{Members.{capped, first_places, member_of, places_from, start_in}, Leads.aim_at}
 use Rattle.link_maps.specs.{References.segment_of_part, Uses.{Use, uses_in_order}, declared.leads.Aim.Aim}
 use Rattle.instructions.specs.declared.unix.Decoder.TheVariants.{Unix}
 use Rattle.disassemblies.specs.Starts.{starts}
@@ -29,7 +29,7 @@ pub record IsShown (file : Contents) (os before : List Contents) (k : Contents) 
       IsPlace file.header os before k (segment_of_part part) n (capped (start_in at part) n)
   pub bss : (n : ℕ) → n < 65536 → IsPlace file.header os before k BssSeg n (capped at.bss n)
 
--- each address of the map of a link is the place in the file
+-- each address of the map of a link is the place in the file, if a session takes the objects
 abbrev pub AddressesAreOfTheFile : Type 0
 AddressesAreOfTheFile =
     (forced : List (List ℕ)) (o : Choices) (es : List Labelled) (x : Outcome) → limit_passed forced (objects es) ≡ None →
@@ -44,13 +44,10 @@ Hits (Addressed segment address) number s = (masked_type s ≡ segment_number se
 -- the word so many bytes after the first of a part of the object leads to this symbol of it, by its relocation word or as it is in the text
 pub record LeadsTo (k : Contents) (part : Part) (offset : ℕ) (s : Symbol) : Type 0 where
   pub i : ℕ
+  pub inside : i < length (words_of k part)
   pub place : offset ≡ 2 * i
-  pub reloc : Reloc
-  pub is_there : slice_get (relocs_of k part) i ≡ Some reloc
-  pub word : ℕ
-  pub word_there : slice_get (words_of k part) i ≡ Some word
   pub aim : Aim
-  pub leads : aim_of (starts Unix k) k part offset reloc word ≡ Some aim
+  pub leads : aim_at (starts Unix k) k (placed_word k part i) ≡ Some aim
   pub number : ℕ
   pub symbol : slice_get k.symbols number ≡ Some s
   pub hits : Hits aim number s
@@ -68,8 +65,8 @@ pub record IsOfName (os : List Contents) (used : Use) (word : ReferringWord) : T
 -- each word of the map leads to its name
 abbrev pub WordsLeadToTheirName : Type 0
 WordsLeadToTheirName =
-    (forced : List (List ℕ)) (os : List Contents) → AllByRecursion IsObject os → limit_passed forced os ≡ None →
-    (used : Use) (word : ReferringWord) → Contains (uses_in_order forced os) used → Contains used.references word → IsOfName os used word
+    (forced : List (List ℕ)) (os : List Contents) (used : Use) (word : ReferringWord) → Contains (uses_in_order forced os) used →
+    Contains used.references word → IsOfName os used word
 
 -- there is this word of the object of this number, under the symbol
 pub record HasWord (uses : List Use) (number : ℕ) (part : Part) (offset : ℕ) (s : Symbol) : Type 0 where
@@ -85,7 +82,6 @@ pub record HasWord (uses : List Use) (number : ℕ) (part : Part) (offset : ℕ)
 -- no word that leads to an external symbol is missing
 abbrev pub NoWordIsMissing : Type 0
 NoWordIsMissing =
-    (forced : List (List ℕ)) (os : List Contents) → AllByRecursion IsObject os → limit_passed forced os ≡ None →
-    (before : List Contents) (k : Contents) (after : List Contents) → os ≡ before ++ k ∷ after →
+    (forced : List (List ℕ)) (os before : List Contents) (k : Contents) (after : List Contents) → os ≡ before ++ k ∷ after →
     (part : Part) (offset : ℕ) (s : Symbol) → is_external s ≡ true → LeadsTo k part offset s →
     HasWord (uses_in_order forced os) (length before) part offset s

@@ -99,10 +99,10 @@ pub fn listing_law()
     ensures sizes { SizesAreSums }
 {}
 
-/// The map of a link is a map of the linked file. The objects are such as a session accepts. (ld(1); maps: own choice)
+/// The map of a link is a map of the linked file. (ld(1); maps: own choice)
 ///
-/// - `addresses`: if there is a link, the map has each byte of text, data and bss of each object at the address of its place in the
-///   file, where `words` and `bss` of `core_law` have it.
+/// - `addresses`: if a session takes the objects and there is a link, the map has each byte of text, data and bss of each object at the
+///   address of its place in the file, where `words` and `bss` of `core_law` have it.
 /// - `words`: each word of the map is a word of the object that the map names, and leads to the symbol under which it is. That symbol is
 ///   external. A word leads to a symbol by the number in its relocation word, or by an address: its relocation word has the segment of the
 ///   symbol, or no link changes the word, which is a branch or counts from the pc.

@@ -1,4 +1,3 @@
-pub mod LeadLemmas
 pub mod LinkLemmas
 pub mod PaddedLemmas
 pub mod RecordLemmas

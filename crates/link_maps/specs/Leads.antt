@@ -3,12 +3,12 @@
 -- A word that a link relocates leads to the symbol whose number its relocation word has, or to an address in the segment that its relocation
 -- word names. A word of text that no link changes leads to an address of text if it is a branch, or the word of an operand that counts from
 -- the pc. A word leads to a symbol by its number, or if the symbol is at that address of that segment.
-use Rattle.std.specs.Prelude.{ℕ, ◌-◌, ◌/◌, Bool, false, ◌&&◌, eqb, if◌then◌else◌, List, [], ◌∷◌, ◌++◌, Option, Some, None, slice_get}
+use Rattle.std.specs.Prelude.{ℕ, ◌-◌, ◌*◌, ◌/◌, Bool, false, ◌&&◌, eqb, if◌then◌else◌, List, [], ◌∷◌, ◌++◌, Option, Some, None, slice_get}
 use Rattle.std.specs.List.{flat_map}
 use Rattle.aout_core.specs.{WellFormed.{first_of, kind_of, symbol_number}, declared.symbol.Symbol.Symbol}
 use Rattle.aout_core.specs.{declared.symbol.Segment.TheVariants.{TextSeg, DataSeg, BssSeg}, declared.reloc.Reloc.Reloc}
-use Rattle.aout_core.specs.{declared.reloc.Kind.Kind, Addresses.{pc_target, target}, Contents.Contents, Words.plus, declared.part.Part.Part}
-use Rattle.aout_core.specs.{Placed.{relocs_of, words_of}, declared.part.Part.TheVariants.{Text, Data}}
+use Rattle.aout_core.specs.{declared.reloc.Kind.Kind, Addresses.{pc_target, target}, Contents.Contents, declared.part.Part.Part}
+use Rattle.aout_core.specs.{Placed.placed_words, declared.placed.PlacedWord.PlacedWord, declared.part.Part.TheVariants.{Text, Data}}
 use Rattle.aout_core.specs.declared.reloc.Kind.TheVariants as kinds
 use Rattle.instructions.specs.{declared.mode.Addressing.Addressing, declared.operand.Operand.Operand}
 use Rattle.instructions.specs.declared.operand.Operand.TheVariants.{General, Forward, Backward}
@@ -78,24 +78,25 @@ unmoved_aim starts o Data offset w = None
 
 -- ---- all words
 
--- where the word so many bytes after the first of a part leads
-abbrev pub aim_of : List Bool → Contents → Part → ℕ → Reloc → ℕ → Option Aim
-aim_of starts o part offset r w =
+-- where the word so many bytes after the first of a part leads; nowhere if its relocation word was stripped
+abbrev pub aim_of : List Bool → Contents → Part → ℕ → Option Reloc → ℕ → Option Aim
+aim_of starts o part offset None w = None
+aim_of starts o part offset (Some r) w =
     if is_relocated (Some r) then aim_by (kind_of r) r (target r w (address_in o part offset)) else unmoved_aim starts o part offset w
+
+abbrev pub aim_at : List Bool → Contents → PlacedWord → Option Aim
+aim_at starts o at = aim_of starts o at.part (2 * at.number) at.reloc at.word
 
 abbrev pub lead_by : Part → ℕ → Option Aim → List Lead
 lead_by part offset None = []
 lead_by part offset (Some aim) = record { part = part; offset = offset; aim = aim } ∷ []
 
--- those of the words with these relocation words that lead somewhere; the first word is so many bytes after that of the part
-abbrev pub leads_in : List Bool → Contents → Part → ℕ → List Reloc → List ℕ → List Lead
-leads_in starts o part offset [] ws = []
-leads_in starts o part offset (r ∷ rs) [] = []
-leads_in starts o part offset (r ∷ rs) (w ∷ ws) =
-    lead_by part offset (aim_of starts o part offset r w) ++ leads_in starts o part (plus offset 2) rs ws
+abbrev pub lead_at : List Bool → Contents → PlacedWord → List Lead
+lead_at starts o at = lead_by at.part (2 * at.number) (aim_at starts o at)
 
+-- those of the words of a part that lead somewhere
 abbrev pub leads_of : List Bool → Contents → Part → List Lead
-leads_of starts o part = leads_in starts o part 0 (relocs_of o part) (words_of o part)
+leads_of starts o part = flat_map (lead_at starts o) (placed_words o part)
 
 -- those of text, and then those of data
 abbrev pub leads : List Bool → Contents → List Lead

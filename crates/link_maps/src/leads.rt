@@ -155,17 +155,18 @@ fn unmoved_aim(file: &File, starts: &[bool], part: Part, offset: u16, word: u16)
     }
 }
 
-/// Where a word with a relocation word leads.
+/// Where a word leads; nowhere if its relocation word was stripped.
 fn aim_of(
     file: &File,
     starts: &[bool],
     part: Part,
     offset: u16,
-    reloc: Reloc,
+    reloc: Option<Reloc>,
     word: u16,
 ) -> Option<Aim>
     ensures { result ≡ aim_of starts.now file.now part offset reloc word }
 {
+    let reloc = reloc?;
     if !is_relocated(Some(reloc)) {
         return unmoved_aim(file, starts, part, offset, word);
     }
@@ -182,12 +183,12 @@ fn put_leads(
     ensures { OnOk result
         (found.new.items ≡ found.old.items ++ leads_of starts.now file.now part) }
 {
-    let mut offset = 0u16;
-    for (reloc, word) in file.relocs_of(part).iter().zip(file.words_of(part)) {
-        if let Some(aim) = aim_of(file, starts, part, offset, *reloc, *word) {
+    for number in 0..file.words_of(part).len() {
+        let at = file.placed_word(part, number);
+        let offset = (2 * number) as u16;
+        if let Some(aim) = aim_of(file, starts, part, offset, at.reloc, at.word) {
             found.push(Lead { part, offset, aim })?;
         }
-        offset = offset.wrapping_add(2);
     }
     Ok(())
 }

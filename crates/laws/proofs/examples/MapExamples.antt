@@ -1,14 +1,14 @@
 -- The law of maps at the objects of docs/teaching/BLACKBOARD.md, and without its premises.
-use Rattle.std.proofs.{Common.{◌≡◌, ℕ, ◌<◌, List, [], ◌∷◌, ◌++◌, length, map, None, refl, sym, subst, arith}, lemmas.Option.same_Some}
+use Rattle.std.proofs.{Common.{◌≡◌, ℕ, ◌<◌, List, [], ◌∷◌, ◌++◌, length, map, refl, sym, subst, arith}, lemmas.Option.same_Some}
 use Rattle.aout_core.specs.{declared.symbol.Segment.TheVariants.TextSeg, declared.symbol.Symbol.Symbol, Contents.Contents}
 use Rattle.aout_core.specs.{declared.part.Part.Part, declared.part.Part.TheVariants.{Text, Data}}
-use Rattle.link_session.specs.{Labelled.Labelled, Limits.limit_passed}
+use Rattle.link_session.specs.Labelled.{Labelled}
 use Rattle.link_maps.specs.Uses.{uses_in_order}
 use Rattle.link_maps.specs.{declared.places.Places.Places, declared.leads.Aim.TheVariants.Numbered, Members.{capped, start_in}}
 use Rattle.laws.specs.CoreLaws.{IsPlace}
 use Rattle.laws.specs.Maps.{AddressesAreOfTheFile, HasWord, IsOfName, NoWordIsMissing, LeadsTo, WordsLeadToTheirName, places_mapped}
 use Rattle.laws.proofs.examples.Samples.{sym as entry, object, _twice, L1, main_o, twice_o, count_o, plain}
-use Rattle.laws.proofs.examples.{MachineExamples.all_good, MachineExamples.forward, NeededPremises.link_of}
+use Rattle.laws.proofs.examples.{MachineExamples.forward, NeededPremises.link_of}
 
 abbrev labelled : Contents → Labelled
 labelled o = record { label = []; object = o }
@@ -34,11 +34,8 @@ map_says_where law =
 call : LeadsTo main_o Text 6 (entry _twice 0o40 0)
 call = record {
   i = 3;
+  inside = let e : 3 < 5 = omega arith in e;
   place = refl;
-  reloc = record { 0 = 0o31 };
-  is_there = refl;
-  word = 0o177770;
-  word_there = refl;
   aim = Numbered 1;
   leads = refl;
   number = 1;
@@ -47,34 +44,30 @@ call = record {
 }
 
 map_says_which : NoWordIsMissing → HasWord (uses_in_order [] forward) 0 Text 6 (entry _twice 0o40 0)
-map_says_which law = law [] forward all_good refl [] main_o (twice_o ∷ count_o ∷ []) refl Text 6 (entry _twice 0o40 0) refl call
+map_says_which law = law [] forward [] main_o (twice_o ∷ count_o ∷ []) refl Text 6 (entry _twice 0o40 0) refl call
 
 -- and it leads to `_twice`
 map_says_to_what : (missing : NoWordIsMissing) → WordsLeadToTheirName →
     (let found = map_says_which missing in IsOfName forward found.used found.word)
 map_says_to_what missing law =
-    let found = map_says_which missing in law [] forward all_good refl found.used found.word found.is_there found.under
+    let found = map_says_which missing in law [] forward found.used found.word found.is_there found.under
 
--- a word that leads by its number to a local symbol, as in no object, is in no map
+-- a word that leads by its number to a local symbol is in no map
 abbrev NoWordOfAnySymbolIsMissing : Type 0
 NoWordOfAnySymbolIsMissing =
-    (forced : List (List ℕ)) (os : List Contents) → limit_passed forced os ≡ None →
-    (before : List Contents) (k : Contents) (after : List Contents) → os ≡ before ++ k ∷ after →
+    (forced : List (List ℕ)) (os before : List Contents) (k : Contents) (after : List Contents) → os ≡ before ++ k ∷ after →
     (part : Part) (offset : ℕ) (s : Symbol) → LeadsTo k part offset s → HasWord (uses_in_order forced os) (length before) part offset s
 
 abbrev local_o : Contents
 local_o = object [] [] (0 ∷ []) (0o10 ∷ []) 0 (entry L1 0o03 0 ∷ [])
 
-map_needs_objects_and_externals : NoWordOfAnySymbolIsMissing → ⊥
-map_needs_objects_and_externals law =
-    let found = law [] (local_o ∷ []) refl [] local_o [] refl Data 0 (entry L1 0o03 0)
+map_needs_externals : NoWordOfAnySymbolIsMissing → ⊥
+map_needs_externals law =
+    let found = law [] (local_o ∷ []) [] local_o [] refl Data 0 (entry L1 0o03 0)
     (record {
       i = 0;
+      inside = let e : 0 < 1 = omega arith in e;
       place = refl;
-      reloc = record { 0 = 0o10 };
-      is_there = refl;
-      word = 0;
-      word_there = refl;
       aim = Numbered 0;
       leads = refl;
       number = 0;
