@@ -1,8 +1,7 @@
 //! The whole map.
-ghost use Rattle.std.specs.Prelude.{◌≡◌, is_some, not, map, option_copied, IfOk, IfSome};
-ghost use Rattle.link_session.specs.Labelled.{objects};
-ghost use Rattle.link_maps.specs.{Uses.uses_in_order, Members.{all_of, first_places, member_of, places_from}, Records.by_name};
-ghost use Rattle.link_maps.specs.{Groups.groups_of, Rows.{IsOutcome, bases_of, is_multiple_in, linked_in, reserved_by, row_among, rows_in}};
+ghost use Rattle.std.specs.Prelude.{◌≡◌, is_some, not, option_copied, IfOk, IfSome};
+ghost use Rattle.link_maps.specs.{Groups.groups_of, Maps.IsMapOf, Records.by_name};
+ghost use Rattle.link_maps.specs.Rows.{IsOutcome, bases_of, is_multiple_in, linked_in, reserved_by, row_among, rows_in};
 ghost use Rattle.tool_options.specs.NameLists.{is_among};
 
 use crate::groups::by_name;
@@ -129,13 +128,7 @@ pub fn map_of(
     forced: &Forced,
     options: &Options,
 ) -> Result<LinkMap, AllocError>
-    ensures places { IfOk result (λ m. m.places.items
-        ≡ places_from (first_places (bases_of m.outcome)) (map member_of (all_of all.now))) }
-    ensures uses { IfOk result (λ m.
-        m.uses.items ≡ uses_in_order forced.now (objects (all_of all.now))) }
-    ensures made { IfOk result (λ m. is_some m.outcome ≡ not (is_some all.now.refused)) }
-    ensures outcome { IfOk result (λ m.
-        IfSome m.outcome (λ o. IsOutcome o all.now.session options.now)) }
+    ensures { IfOk result (λ map. IsMapOf all.now forced.now options.now map) }
 {
     let outcome = outcome_unless_refused(alloc, all, options)?;
     let listed = all.all(alloc)?;

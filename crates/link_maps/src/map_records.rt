@@ -1,7 +1,6 @@
 //! The whole map as records.
-ghost use Rattle.std.specs.Prelude.{◌≡◌, map, IfOk};
-ghost use Rattle.link_maps.specs.Members.{all_of, member_of};
-ghost use Rattle.link_maps.specs.{MapLimits.map_limits, Records.{by_name, object_records, record_of, records_from}};
+ghost use Rattle.std.specs.Prelude.{IfOk};
+ghost use Rattle.link_maps.specs.Maps.{AreRecords};
 
 use crate::limit_records::{LimitRecord, limits_of};
 use crate::map::LinkMap;
@@ -31,14 +30,7 @@ pub fn records_of(
     objects: &Objects,
     options: &Options,
 ) -> Result<MapRecords, AllocError>
-    ensures objects { IfOk result (λ r.
-        r.objects.items ≡ object_records (all_of objects.now) whole.now.places.items) }
-    ensures names { IfOk result (λ r.
-        r.names.items ≡ map (record_of whole.now.outcome objects.now.session) (by_name whole.now.uses.items)) }
-    ensures uses { IfOk result (λ r.
-        r.uses.items ≡ records_from whole.now.places.items 0 (by_name whole.now.uses.items)) }
-    ensures limits { IfOk result (λ r. r.limits.items ≡ map_limits options.now.relocatable
-        objects.now.session (map member_of (all_of objects.now)) whole.now.outcome) }
+    ensures { IfOk result (λ records. AreRecords objects.now options.now whole.now records) }
 {
     let groups = whole.by_name(alloc)?;
     Ok(MapRecords {

@@ -2,11 +2,11 @@
 --
 -- The files are those that `ld` takes with the same arguments. Each is read whole before the next one is opened. There is a map if all are
 -- objects; else the answer has a line for each that is not. With -y the map has only what is asked for.
-use Rattle.std.specs.Prelude.{◌≡◌, ◌⊎◌, ℕ, Bool, if◌then◌else◌, List, [], ◌∷◌, ◌++◌, eqb, map, max, not, is_some, IfSome, Result, Ok, Err, codes, string_bytes}
+use Rattle.std.specs.Prelude.{◌≡◌, ◌⊎◌, ℕ, Bool, if◌then◌else◌, List, [], ◌∷◌, ◌++◌, eqb, map, max, Result, Ok, Err, codes, string_bytes}
 use Rattle.aout_core.specs.{Contents.Contents, Decoding.decode, Refusals.refused}
 use Rattle.command_words.specs.Calls.{AsksForNone, IsAsked, IsWhole, dashes_in, files_of}
 use Rattle.command_words.specs.{declared.fault.WordsFault.TheVariants.Usage, declared.words.Call.Call, declared.words.Call.TheVariants.Ld}
-use Rattle.link_maps.specs.{Members.{all_of, first_places, member_of, places_from}, Rows.{IsOutcome, bases_of}, Taking.split, Taking.split_of}
+use Rattle.link_maps.specs.{Maps.IsMapOf, Members.all_of, Taking.split, Taking.split_of}
 use Rattle.link_maps.specs.{declared.map.LinkMap.LinkMap, declared.members.Objects.Objects}
 use Rattle.link_out.specs.{Inputs.{Cause, Refusal, linked, object_in}, function.Link.Outcome, function.Reports.status_of}
 use Rattle.link_session.specs.Labelled.{Labelled}
@@ -68,17 +68,11 @@ pub record AreTaken (forced : List (List ℕ)) (inputs : List (List ℕ × List 
 abbrev pub status_with : Bool → ℕ → ℕ
 status_with has_absent status = if has_absent then max status 1 else status
 
--- the places of these objects in a map, and the link, if there is one
-pub record IsPlaced (all : Objects) (o : Choices) (m : LinkMap) : Type 0 where
-  pub places : m.places.items ≡ places_from (first_places (bases_of m.outcome)) (map member_of (all_of all))
-  pub made : is_some m.outcome ≡ not (is_some all.refused)
-  pub outcome : IfSome m.outcome (λ x. IsOutcome x all.session o)
-
 -- a map has the status of the link that `ld` makes of these inputs; what its text is, no definition says. Or memory ran out for it
 abbrev pub IsMap : List (List ℕ) → List (List ℕ) → Choices → List (List ℕ × List ℕ) → Result Answer Fault → Type 0
 IsMap asked forced choices inputs result =
     (result ≡ Err (faults.Memory refused))
-    ⊎ ((o : Objects) × (m : LinkMap) × AreTaken forced inputs o × IsPlaced o choices m
+    ⊎ ((o : Objects) × (m : LinkMap) × AreTaken forced inputs o × IsMapOf o forced choices m
     × (a : Answer) × IsShown (status_with (has_absent m forced (all_of o) asked) (status_linked (linked forced inputs choices))) a
     × (result ≡ Ok a))
 

@@ -1,5 +1,5 @@
 //! What a map is asked for: names, objects and addresses, and what the link does not have. Only tested: its text.
-ghost use Rattle.std.specs.{Prelude.{◌≡◌, if◌then◌else◌, true, map, option_map, IfOk, OnOk, string_bytes}, List.list_any};
+ghost use Rattle.std.specs.Prelude.{◌≡◌, if◌then◌else◌, true, map, option_map, IfOk, OnOk, string_bytes};
 ghost use Rattle.tool_options.specs.NameLists.{is_among};
 ghost use Rattle.v7_explain.specs.Asked.{has_absent, has_path, is_absent, is_in_any, is_name, is_named, octal_number};
 ghost use Rattle.v7_explain.specs.{Calls.mapping_after, internal.Asked.{asks_of_map, mapping_with}};

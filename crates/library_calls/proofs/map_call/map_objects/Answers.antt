@@ -3,15 +3,14 @@ use Rattle.library_calls.proofs.map_call.map_objects.Goals as goal
 
 pub returns : goal.returns
 returns c = λ inputs read taken.
-    let m = c.in_ok-map.ensures in
-    let r = c.in_ok-records.ensures in record {
+    let m = c.in_ok-map.ensures in record {
       all = c.args.all;
       map = c.in_ok-map.map;
       taken = taken;
-      is_map = record { places = m.places; uses = m.uses; made = m.made; outcome = m.outcome };
+      is_map = m;
       shows = shows_link c.args.forced.now c.args.options.now inputs c.args.all c.in_ok-map.map.outcome read taken.names taken.taken
           m.made m.outcome;
-      records = record { objects = r.objects; names = r.names; uses = r.uses; limits = r.limits };
+      records = c.in_ok-records.ensures;
       head = c.head_of-head.ensures;
       run = c.in_ok-run_shown.ensures;
     }
