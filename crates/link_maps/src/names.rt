@@ -29,8 +29,8 @@ pub(crate) fn first_definition(uses: &[Use]) -> Option<usize>
     uses.iter().position(|used| used.is_definition())
 }
 
-/// The symbol that says most of a name among its uses: the first definition, or else the first common, or else the first symbol. (ld(1))
-pub fn telling(uses: &[Use]) -> Option<Symbol> {
+/// The symbol among the uses of a name that prevails: the first definition, or else the first common, or else the first symbol. (ld(1))
+pub fn prevailing_symbol(uses: &[Use]) -> Option<Symbol> {
     let common = uses.iter().position(|used| used.is_common());
     let place = first_definition(uses).or(common).unwrap_or(0);
     Some(uses.get(place)?.symbol)

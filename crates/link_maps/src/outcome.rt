@@ -84,7 +84,7 @@ fn largest_in(relocs: &[Reloc]) -> u16
 }
 
 /// The largest symbol number of the relocation words of a file, or 0 if none refers to a symbol.
-pub fn largest_number(file: &File) -> u16
+pub(crate) fn largest_number(file: &File) -> u16
     ensures { result ≡ largest_number file.now }
 {
     largest_in(file.text_reloc()).max(largest_in(file.data_reloc()))

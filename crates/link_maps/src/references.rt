@@ -3,7 +3,7 @@ ghost use Rattle.std.specs.Prelude.{◌≡◌, ◌++◌, ◌∷◌, [], filter, 
 ghost use Rattle.disassemblies.specs.Starts.{starts};
 ghost use Rattle.instructions.specs.declared.unix.Decoder.TheVariants.{Unix};
 ghost use Rattle.link_maps.specs.Leads.{reference_if, references_to};
-ghost use Rattle.link_maps.specs.References.{address_in, before_line, is_function, line_of, reference_at, segment_of_part};
+ghost use Rattle.link_maps.specs.References.{address_in, is_function, line_of, reference_at, segment_of_part};
 
 use crate::labels::{Labels, functions_in};
 use crate::leads::{Lead, leads_in, linked_target};
@@ -110,14 +110,6 @@ impl<'a> LinedFile<'a> {
         })
     }
 
-    /// The label before what is so many bytes after the first of a part.
-    fn before(&self, part: Part, offset: u16) -> Option<Reference>
-        ensures { result ≡ before_line self.now part offset }
-    {
-        self.labels
-            .before(segment_of(part), address_in(self.file, part, offset))
-    }
-
     /// Appends the word of a part so many bytes after the first.
     fn put_word(
         &self,
@@ -129,7 +121,8 @@ impl<'a> LinedFile<'a> {
             ++ reference_at (starts Unix self.now) self.now part offset ∷ []) }
     {
         let line = line_of(&self.line_starts, part, offset);
-        let before = self.before(part, line);
+        let address = address_in(self.file, part, line);
+        let before = self.labels.before(segment_of(part), address);
         found.push(ReferringWord {
             part,
             offset,
@@ -225,10 +218,9 @@ pub fn words_at(
     }
     let functions = functions_in(alloc, file.symbols())?;
     let lined = LinedFile::new(alloc, file, &functions)?;
-    let mut offset = 0u16;
-    for value in file.text_words() {
-        lined.put_linked(&mut found, segment, address, offset, *value)?;
-        offset = offset.wrapping_add(2);
+    for number in 0..file.text_words().len() {
+        let at = file.placed_word(Part::Text, number);
+        lined.put_linked(&mut found, segment, address, at.address, at.word)?;
     }
     Ok(found)
 }

@@ -5,8 +5,8 @@ use aout_core::{Header, Name, Part, Segment, Symbol};
 use disassemblies::NamedFile;
 use instructions::Reference;
 use link_maps::{
-    Places, ReferringWord, Use, is_any_definition, put_line_of, stays_undefined, telling, word_at,
-    words_to,
+    Places, ReferringWord, Use, is_any_definition, prevailing_symbol, put_line_of, stays_undefined,
+    word_at, words_to,
 };
 use std::alloc::AllocError;
 use std::collections::BTreeMap;
@@ -198,7 +198,7 @@ pub(crate) fn put_line(text: &mut Text, row: Option<Symbol>, symbol: &Symbol) {
 
 /// Adds a part of the map, if it has a name: its title, and the names in their order, each with its line, who has it and who needs it. Returns
 /// the title, or nothing if it is there.
-pub(crate) fn put<'a>(
+pub(crate) fn put_section<'a>(
     text: &mut Text,
     mapped: &Mapped<'_>,
     section: Section,
@@ -207,7 +207,7 @@ pub(crate) fn put<'a>(
     let mut shown = Shown::new(text.allocator());
     let mut title = title;
     for uses in &mapped.groups {
-        if let Some(symbol) = telling(uses)
+        if let Some(symbol) = prevailing_symbol(uses)
             && has_name(mapped, section, &symbol.name, uses)
         {
             text.put(title);

@@ -4,7 +4,7 @@ use crate::mapped::Mapped;
 use aout_core::{Name, Part, Segment};
 use indexmap::IndexSet;
 use instructions::Instruction;
-use link_maps::{ReferringWord, Use, is_any_definition, stays_undefined, telling};
+use link_maps::{ReferringWord, Use, is_any_definition, prevailing_symbol, stays_undefined};
 use std::alloc::AllocError;
 use texts::{Printable, Text};
 
@@ -57,7 +57,7 @@ fn underscored(name: &Name) -> Name {
 
 /// Adds the calls of a name that the link has in data or bss, or as a common, but for those in an object that defines it.
 fn put_calls(text: &mut Text, mapped: &Mapped<'_>, name: &Name, uses: &[Use]) {
-    let is_stored = telling(uses).is_some_and(|symbol| match symbol.segment() {
+    let is_stored = prevailing_symbol(uses).is_some_and(|symbol| match symbol.segment() {
         Segment::DataSeg | Segment::BssSeg => true,
         segment => segment == Segment::Undefined && symbol.value != 0,
     });

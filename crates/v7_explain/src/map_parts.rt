@@ -1,5 +1,5 @@
 //! The parts of a map but for its names: what becomes of the link, its limits, its segments and its objects. Only tested: the text.
-use crate::map_names::{self, Section};
+use crate::map_names::{Section, put_section};
 use crate::mapped::Mapped;
 use aout_core::Header;
 use link_maps::{LimitRecord, LinkMap, Listed, Places, limits_of};
@@ -143,8 +143,8 @@ pub(crate) fn put_objects(text: &mut Text, mapped: &Mapped<'_>, path: &str) {
         if object.label == path {
             text.put(MEMBERS);
             put_member(text, object, at);
-            map_names::put(text, mapped, Section::Defined(number), "\nDefines\n");
-            map_names::put(text, mapped, Section::Needed(number), "\nNeeds\n");
+            put_section(text, mapped, Section::Defined(number), "\nDefines\n");
+            put_section(text, mapped, Section::Needed(number), "\nNeeds\n");
         }
     }
 }

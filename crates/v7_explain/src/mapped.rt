@@ -1,6 +1,6 @@
 //! The text of the map of a link: the whole one, or of what is asked for. docs/OBJECTS.md shows one. Only tested: the text.
 use crate::asked::Asked;
-use crate::map_names::{self, Section, put_absent, put_statics};
+use crate::map_names::{Section, put_absent, put_section, put_statics};
 use crate::map_odd::put_oddities;
 use crate::map_parts::{put_head, put_limits, put_members, put_objects, put_segments};
 use crate::map_spots::put_spots;
@@ -72,14 +72,14 @@ impl<'a> Mapped<'a> {
         if is_whole {
             put_limits(&mut text, self, options)?;
             put_segments(&mut text, self.map);
-            map_names::put(&mut text, self, Section::Undefined, "\nUndefined\n");
-            map_names::put(&mut text, self, Section::Multiple, "\nMultiply defined\n");
+            put_section(&mut text, self, Section::Undefined, "\nUndefined\n");
+            put_section(&mut text, self, Section::Multiple, "\nMultiply defined\n");
             put_oddities(&mut text, self)?;
             if !options.is_relocatable() {
-                map_names::put(&mut text, self, Section::Unused, "\nUnused\n");
+                put_section(&mut text, self, Section::Unused, "\nUnused\n");
             }
             put_members(&mut text, self);
-            map_names::put(&mut text, self, Section::All, "\nExternals\n");
+            put_section(&mut text, self, Section::All, "\nExternals\n");
         } else {
             let asked = self.asked;
             put_spots(&mut text, self)?;
@@ -87,7 +87,7 @@ impl<'a> Mapped<'a> {
                 put_objects(&mut text, self, path.as_str());
             }
             put_statics(&mut text, self)?;
-            let title = map_names::put(&mut text, self, Section::Asked, "\nExternals\n");
+            let title = put_section(&mut text, self, Section::Asked, "\nExternals\n");
             put_absent(&mut text, asked, false, title);
         }
         text.finish()

@@ -264,7 +264,7 @@ fn put_act(out: &mut Json, act: Act) {
     }
 }
 
-/// Adds the lines of a text, and returns the number of the line that a fault is in.
+/// Puts the lines of a text. A fault names the line that it is in.
 fn put_lines(reader: &mut Reader<'_>, out: &mut Json, path: &str, text: &str) -> Result<()> {
     for (index, line) in text.lines().enumerate() {
         let line = line.trim();
