@@ -31,7 +31,7 @@ fn put_condition(text: &mut Text, condition: Condition) {
 
 /// Appends the line of a file with this path: its kind, the sizes of text, data and bss in bytes, how many symbols it has, how many
 /// names another object has to define, what is wrong or odd, and the path. (own choice)
-pub fn put_row(text: &mut Text, row: &InventoryRow, path: &str) {
+pub fn put_inventory_row(text: &mut Text, row: &InventoryRow, path: &str) {
     let (sizes, symbols) = (row.sizes, row.symbols);
     text.put_at_left(12, kind_text(row.kind).as_bytes());
     put_number(text, sizes.map(|sizes| u64::from(sizes.text)));

@@ -125,11 +125,11 @@ GoesOn folders mode old mid said left all =
 
 module _ (folders : Option Folders) (mode : Mode) (old mid new : History) (said : Answer) (left later all : List Found) (found : Found) where
   -- there is no answer to one
-  pub explaining_ends : (fault : Fault) → GoesOn folders mode old mid said left all → left ≡ found ∷ later →
-      ExplainsFound folders mode mid new found (Err fault) → IsExplaining folders mode old new nothing_said all (Err fault)
-  explaining_ends fault inv e explains =
-      inv new (Err fault) (subst (λ l. IsExplaining folders mode mid new said l (Err fault)) (sym e)
-      (Err fault, new, explains, (refl, refl)))
+  pub explaining_ends : (fault : Fault) (result : Result Answer Fault) → GoesOn folders mode old mid said left all →
+      left ≡ found ∷ later → ExplainsFound folders mode mid new found (Err fault) → result ≡ Err fault →
+      IsExplaining folders mode old new nothing_said all result
+  explaining_ends fault result inv e explains is =
+      inv new result (subst (λ l. IsExplaining folders mode mid new said l result) (sym e) (Err fault, new, explains, (refl, is)))
 
   -- one is explained, and there is no memory to add that
   pub explaining_stops : (more : Answer) (result : Result Answer Fault) → GoesOn folders mode old mid said left all → left ≡ found ∷ later →

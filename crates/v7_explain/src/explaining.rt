@@ -7,7 +7,7 @@ ghost use Rattle.v7_explain.specs.Runs.{Explains, ExplainsFound, ExplainsNamed, 
 
 use crate::checking::{check_file, check_refused};
 use crate::folders::{Explainable, Folders, walk_all};
-use crate::inventory::{take_inventory, take_row, take_unnamed};
+use crate::inventory::{inventory_answer, row_answer, unnamed_answer};
 use crate::listing::{View, list_file, show_file};
 use crate::program::NAME;
 use crate::source::{Source, refuse};
@@ -63,7 +63,7 @@ pub(crate) fn explain(alloc: Global, mode: Mode, source: Source<'_>) -> Result<A
         (Mode::Show(view), Err(fault)) => refuse(alloc, Some(view), source, false, fault),
         (Mode::Check(evidence), Ok(file)) => check_file(alloc, evidence, source, &file),
         (Mode::Check(_), Err(fault)) => check_refused(alloc, source, fault),
-        (Mode::Inventory, read) => take_inventory(alloc, source, &read),
+        (Mode::Inventory, read) => inventory_answer(alloc, source, &read),
     }
 }
 
@@ -132,7 +132,7 @@ fn explain_named<O: Office, F: Folders>(
         (O.history office.old) (O.history office.new) path.now result }
 {
     match kind_for(folders, mode, path) {
-        Some(kind) => Ok(take_row(alloc, path, &plain_row(kind))?),
+        Some(kind) => Ok(row_answer(alloc, path, &plain_row(kind))?),
         None => explain_at(alloc, office, mode, path),
     }
 }
@@ -153,7 +153,7 @@ fn explain_found<O: Office, F: Folders, P: Explainable>(
     if found.is_named() {
         explain_named(alloc, office, folders, mode, path)
     } else {
-        Ok(take_unnamed(alloc, path)?)
+        Ok(unnamed_answer(alloc, path)?)
     }
 }
 
@@ -170,10 +170,7 @@ fn explain_each<O: Office, F: Folders, P: Explainable>(
 {
     let mut said = nothing_said(alloc);
     for found in all {
-        let more = match explain_found(alloc, office, folders, mode, found) {
-            Ok(more) => more,
-            Err(fault) => return Err(fault),
-        };
+        let more = explain_found(alloc, office, folders, mode, found)?;
         join(&mut said, &more)?;
     }
     Ok(said)

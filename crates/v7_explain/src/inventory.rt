@@ -5,17 +5,17 @@ ghost use Rattle.v7_explain.specs.Files.{IsShown, IsUnnamed};
 use crate::source::{Source, put_text_line};
 use aout_core::{File, FileFault, ReadFault, object_fault};
 use checks::{wrong_bytes, wrong_in};
-use explanations::{FileKind, InventoryRow, file_row, plain_row, put_row, refused_row};
+use explanations::{FileKind, InventoryRow, file_row, plain_row, put_inventory_row, refused_row};
 use std::alloc::{AllocError, Global};
 use surroundings::Answer;
 use texts::Text;
 
 /// The line for a path. Its status is 0, whatever the file is.
-pub(crate) fn take_row(alloc: Global, path: &str, row: &InventoryRow) -> Result<Answer, AllocError>
+pub(crate) fn row_answer(alloc: Global, path: &str, row: &InventoryRow) -> Result<Answer, AllocError>
     ensures { IfOk result (λ answer. IsShown 0 answer) }
 {
     let mut text = Text::new(alloc);
-    put_row(&mut text, row, path);
+    put_inventory_row(&mut text, row, path);
     Ok(Answer {
         output: text.finish()?,
         errors: Vec::new(alloc),
@@ -24,7 +24,7 @@ pub(crate) fn take_row(alloc: Global, path: &str, row: &InventoryRow) -> Result<
 }
 
 /// The line of the bytes of a file, as they were read.
-pub(crate) fn take_inventory(
+pub(crate) fn inventory_answer(
     alloc: Global,
     source: Source<'_>,
     read: &Result<File, ReadFault>,
@@ -42,14 +42,14 @@ pub(crate) fn take_inventory(
             refused_row(alloc, bytes, *fault, &wrong)?
         }
     };
-    take_row(alloc, source.path, &row)
+    row_answer(alloc, source.path, &row)
 }
 
 /// The line of a path that can't be opened, since a name in it is not UTF-8, and the error.
-pub(crate) fn take_unnamed(alloc: Global, path: &str) -> Result<Answer, AllocError>
+pub(crate) fn unnamed_answer(alloc: Global, path: &str) -> Result<Answer, AllocError>
     ensures { IfOk result (λ answer. IsUnnamed answer) }
 {
-    let line = take_row(alloc, path, &plain_row(FileKind::NotUtf8))?;
+    let line = row_answer(alloc, path, &plain_row(FileKind::NotUtf8))?;
     let mut errors = Text::new(alloc);
     put_text_line(&mut errors, path, FileFault::NotOpened);
     Ok(Answer {
