@@ -21,7 +21,7 @@ use Rattle.link_maps.specs.References.{address_in, line_of, reference_at}
 
 -- ---- words that a link relocates
 
--- a word leads by its relocation word to this address
+-- where a word with this relocation word leads, if it refers to this address
 abbrev pub aim_by : Option Kind → Reloc → ℕ → Option Aim
 aim_by (Some kinds.External) r address = Some (Numbered (symbol_number r))
 aim_by (Some kinds.TextSeg) r address = Some (Addressed TextSeg address)
@@ -55,7 +55,7 @@ is_from_pc _ = false
 abbrev pub operand_target : Option Operand → ℕ → ℕ → Option ℕ
 operand_target x w address = if is_from_pc x then Some (pc_target w address) else None
 
--- where a word at an address leads, of the instruction at the address of its line
+-- where the word at an address leads, in an instruction that begins at `line`
 abbrev pub target_in : Option Instruction → ℕ → ℕ → ℕ → Option ℕ
 target_in None line address w = None
 target_in (Some i) line address w =

@@ -65,3 +65,17 @@ impl<'a> Labels<'a> {
         }
     }
 }
+
+/// The label before an address of a segment, of those that symbols give it.
+///
+/// An error: out of memory.
+pub fn label_before(
+    alloc: Global,
+    symbols: &[Symbol],
+    segment: Segment,
+    address: u16,
+) -> Result<Option<Reference>, AllocError> {
+    let functions = functions_in(alloc, symbols)?;
+    let labels = Labels::new(alloc, symbols, &functions)?;
+    Ok(labels.before(segment, address))
+}

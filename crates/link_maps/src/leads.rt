@@ -28,7 +28,7 @@ pub struct Lead {
     pub aim: Aim,
 }
 
-/// Where a word leads by its relocation word, which finds an address. (a.out(5))
+/// Where a word with a relocation word leads, if it refers to an address. (a.out(5))
 fn aim_by(reloc: Reloc, address: u16) -> Option<Aim>
     ensures { result ≡ aim_by (kind_of reloc) reloc address }
 {
@@ -92,7 +92,7 @@ fn instruction_at(words: &[u16], place: usize) -> Option<Instruction>
     Instruction::from_first_word(*words.get(place)?)
 }
 
-/// Where a word of an instruction leads; both are at addresses.
+/// Where the word at an address leads, in an instruction that begins at `line`.
 fn target_in(instruction: Option<Instruction>, line: u16, address: u16, word: u16) -> Option<u16>
     ensures { result ≡ target_in instruction line address word }
 {

@@ -34,7 +34,7 @@ mod references;
 mod spots;
 mod uses;
 
-pub use labels::is_function;
+pub use labels::{is_function, label_before};
 pub use limit_records::{LimitRecord, limits_of};
 pub use map::{LinkMap, map_of};
 pub use map_records::{MapRecords, records_of};
@@ -45,5 +45,5 @@ pub use outcome::Outcome;
 pub use places::Places;
 pub use records::{ObjectRecord, UseRecord, padded};
 pub use references::{ReferringWord, put_line_of, word_at, words_at, words_to};
-pub use spots::{Spot, has_address, has_place, is_within, label_before, spots_at};
+pub use spots::{Spot, has_address, has_place, is_within, spots_at};
 pub use uses::Use;

@@ -5,9 +5,8 @@ ghost use Rattle.instructions.specs.declared.unix.Decoder.TheVariants.{Unix};
 ghost use Rattle.link_maps.specs.Leads.{reference_if, references_to};
 ghost use Rattle.link_maps.specs.References.{address_in, is_function, line_of, reference_at, segment_of_part};
 
-use crate::labels::{Labels, functions_in};
+use crate::labels::{Labels, functions_in, label_before};
 use crate::leads::{Lead, leads_in, linked_target};
-use crate::spots::label_before;
 use aout_core::{File, Part, Segment, Symbol};
 use disassemblies::{NamedFile, line_start, line_starts, put_line_text};
 use instructions::{Decoder, Reference};

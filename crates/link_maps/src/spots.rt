@@ -2,12 +2,10 @@
 ghost use Rattle.std.specs.Prelude.{◌≡◌};
 ghost use Rattle.link_maps.specs.{Members.first_places, Rows.bases_of, Spots.{has_address, has_commons, has_place, has_places, is_within}};
 
-use crate::labels::{Labels, functions_in};
 use crate::map::{LinkMap, bases_of};
 use crate::members::Listed;
 use crate::places::{Places, first_places};
-use aout_core::{Header, Part, Segment, Symbol};
-use instructions::Reference;
+use aout_core::{Header, Part};
 use link_out::Bases;
 use std::alloc::{AllocError, Global};
 
@@ -103,18 +101,4 @@ pub fn spots_at(
         spots.push(Spot::Common(address))?;
     }
     Ok(spots)
-}
-
-/// The label before an address of a segment, of those that symbols give it.
-///
-/// An error: out of memory.
-pub fn label_before(
-    alloc: Global,
-    symbols: &[Symbol],
-    segment: Segment,
-    address: u16,
-) -> Result<Option<Reference>, AllocError> {
-    let functions = functions_in(alloc, symbols)?;
-    let labels = Labels::new(alloc, symbols, &functions)?;
-    Ok(labels.before(segment, address))
 }
