@@ -2,13 +2,13 @@
 //! and which files of lessons are refused. Proved: what the arguments ask for.
 #![tactic(auto)]
 
+mod answers;
 mod arguments;
 mod decoded;
 mod files;
 mod given;
 mod help;
 mod json;
-mod keys;
 mod links;
 mod numbers;
 mod page;

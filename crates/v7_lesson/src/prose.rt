@@ -1,7 +1,7 @@
 //! The texts of lessons. A number in them is a reference in braces, as `{text 6}` or `{-n _count}`: it is computed here, and the page
 //! shows it in the base that is chosen.
+use crate::answers::{first_word, was_before, word_named};
 use crate::json::{Json, Quoted};
-use crate::keys::{first_word, was_before, word_named};
 use crate::links::{Link, layout_named, link_at};
 use crate::parts::{Size, WordPlace, part_of, place_meant, segment_named, size_of};
 use anyhow::{Result, bail, ensure};
