@@ -1,5 +1,5 @@
 //! The names of a map as records.
-ghost use Rattle.std.specs.Prelude.{◌≡◌, map as mapped, slice_get, IfOk};
+ghost use Rattle.std.specs.Prelude.{◌≡◌, map as mapped, position, slice_get, IfOk};
 ghost use Rattle.link_maps.specs.Records.{after, bit, definer, first_user, is_user, name_in, name_state, next_definer, object_at, record_of};
 ghost use Rattle.link_maps.specs.Groups.{groups_of};
 
@@ -72,11 +72,18 @@ fn is_user(used: &Use) -> bool
     used.object.is_some() && !used.is_definition()
 }
 
+/// The place of the first symbol of an object that does not define the name.
+fn user_place(uses: &[Use]) -> Option<usize>
+    ensures { result ≡ position is_user uses.now }
+{
+    uses.iter().position(|used| is_user(used))
+}
+
 /// The first object that has a symbol of the name and does not define it.
 fn first_user(uses: &[Use]) -> usize
     ensures { result ≡ first_user uses.now }
 {
-    object_at(uses, uses.iter().position(|used| is_user(used)))
+    object_at(uses, user_place(uses))
 }
 
 fn bit(is_set: bool, number: u32) -> u32
