@@ -1,5 +1,5 @@
 -- Premises of the laws that are needed: each law without one of them, and a link for which it is then false.
-use Rattle.std.proofs.Common.{◌≡◌, ◌≢◌, ℕ, ◌+◌, true, false, List, [], ◌∷◌, ◌++◌, map, length, Some, None, refl, sym, ◌∙◌, ap}
+use Rattle.std.proofs.Common.{◌≡◌, ◌≢◌, ℕ, true, false, List, [], ◌∷◌, ◌++◌, map, length, Some, None, refl, sym, ◌∙◌, ap}
 use Rattle.std.proofs.Common.{inl, inr, eq-eqb}
 use Rattle.std.specs.{Prelude.eqb, Prelude.filter, Prelude.Result, Prelude.Ok, Prelude.slice_get, Prelude.sum_by, List.AllByRecursion}
 use Rattle.aout_core.specs.WellFormed.{is_external, masked_type, IsWellFormed}
