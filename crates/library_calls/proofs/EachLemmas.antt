@@ -11,7 +11,7 @@ use Rattle.link_maps.specs.Links.{read_inputs}
 use Rattle.library_calls.specs.LinkAnswers.{each_of, numbered, objects_in, refusal_of, taken_each}
 use Rattle.library_calls.specs.{declared.cause.Cause.TheVariants.NotAdded, declared.cause.Refusal.Refusal}
 use Rattle.library_calls.specs.MemoryWanted.{HasBody, MayRunOutAt}
-use Rattle.library_calls.specs.{internal.Taken.{with_first, with_object, with_read}, declared.cause.Cause.Cause}
+use Rattle.library_calls.specs.{FileAnswers.object_in, declared.cause.Cause.Cause}
 use Rattle.library_calls.specs.{declared.parts.ObjectBytes.ObjectBytes, Causes.{at, cause_of_input}, MapAnswers.objects_each}
 
 -- ---- inputs with their numbers
@@ -63,28 +63,41 @@ read-append (x ∷ xs) ys =
 
 -- ---- one more part
 
--- what takes parts, and one more after objects
+-- what takes the objects of parts, and what takes one more after objects
 abbrev pub Takes : Type 0
 Takes = List (List ℕ) → Result (List Contents) Refusal
 
--- one that is taken is appended, and one that is not is the refusal, whatever follows it
-pub record GoesOn (taken : Takes) (with_one : List Contents → List ℕ → Result (List Contents) Cause) : Type 0 where
-  pub more : (parts : List (List ℕ)) (bytes : List ℕ) (os next : List Contents) → taken parts ≡ Ok os → with_one os bytes ≡ Ok next →
-      taken (parts ++ bytes ∷ []) ≡ Ok next
+abbrev pub TakesOne : Type 0
+TakesOne = List Contents → List ℕ → Result Contents Cause
+
+-- an object that is taken is appended, and why one is not is the refusal, whatever follows it
+pub record GoesOn (taken : Takes) (one : TakesOne) : Type 0 where
+  pub more : (parts : List (List ℕ)) (bytes : List ℕ) (os : List Contents) (o : Contents) → taken parts ≡ Ok os → one os bytes ≡ Ok o →
+      taken (parts ++ bytes ∷ []) ≡ Ok (os ++ o ∷ [])
   pub stops : (parts : List (List ℕ)) (bytes : List ℕ) (rest : List (List ℕ)) (os : List Contents) (cause : Cause) → taken parts ≡ Ok os →
-      with_one os bytes ≡ Err cause → taken (parts ++ bytes ∷ rest) ≡ Err (record { cause = cause; place = length parts })
+      one os bytes ≡ Err cause → taken (parts ++ bytes ∷ rest) ≡ Err (record { cause = cause; place = length parts })
+
+abbrev appended : List Contents → Result Contents Cause → Result (List Contents) Cause
+appended os r = and_then r (λ o. Ok (os ++ o ∷ []))
+
+-- the object that the bytes begin with, if a session takes it, and whether one takes it or not
+abbrev pub taken_after : List (List ℕ) → List Contents → List ℕ → Result Contents Cause
+taken_after forced os bytes = and_then (object_in bytes) (λ o. unless NotAdded (refusal forced os o) o)
+
+abbrev pub read_after : List Contents → List ℕ → Result Contents Cause
+read_after os bytes = object_in bytes
 
 module _ (forced : List (List ℕ)) where
   -- an input that is added, by the objects alone
   one_input : (number : ℕ) (kept : List Labelled) (r : Result Contents inputs.Cause) →
       objects_in (at_path (number ∷ []) (kept_with forced kept (number ∷ []) r))
-      ≡ at number (and_then (refused_as cause_of_input r) (with_object forced (objects kept)))
+      ≡ at number (appended (objects kept) (and_then (refused_as cause_of_input r) (λ o. unless NotAdded (refusal forced (objects kept) o) o)))
   one_input number kept (Err cause) = refl
   one_input number kept (Ok o) = by_limit (refusal forced (objects kept) o)
     where
       by_limit : (q : Option AddFault) →
           objects_in (at_path (number ∷ []) (unless inputs.not_added q (kept ++ record { label = number ∷ []; object = o } ∷ [])))
-          ≡ at number (unless NotAdded q (objects kept ++ o ∷ []))
+          ≡ at number (appended (objects kept) (unless NotAdded q o))
       by_limit None = ap (λ (os : List Contents). Ok os) (map-append (λ (e : Labelled). e.object) kept (record { label = number ∷ []; object = o } ∷ []))
       by_limit (Some fault) = refl
 
@@ -107,44 +120,46 @@ module _ (forced : List (List ℕ)) where
   none_then (Ok kept) = refl
   none_then (Err refusal) = refl
 
-  pub taken_goes_on : GoesOn (taken_each forced) (with_first forced)
+  pub taken_goes_on : GoesOn (taken_each forced) (taken_after forced)
   taken_goes_on = record {
-    more = λ parts bytes os next so_far one. taken_then parts bytes []
-        ∙ by_kept_more parts bytes os next (with_inputs forced [] (numbered 0 parts)) so_far one;
+    more = λ parts bytes os o so_far one. taken_then parts bytes []
+        ∙ by_kept_more parts bytes os o (with_inputs forced [] (numbered 0 parts)) so_far one;
     stops = λ parts bytes rest os cause so_far one. taken_then parts bytes rest
         ∙ by_kept_stops parts bytes rest os cause (with_inputs forced [] (numbered 0 parts)) so_far one;
   }
     where
       one_is : (number : ℕ) (bytes : List ℕ) (kept : List Labelled) (os : List Contents) → objects kept ≡ os →
-          objects_in (at_path (number ∷ []) (with_input forced kept (number ∷ []) bytes)) ≡ at number (with_first forced os bytes)
+          objects_in (at_path (number ∷ []) (with_input forced kept (number ∷ []) bytes))
+          ≡ at number (appended os (taken_after forced os bytes))
       one_is number bytes kept os same =
-          one_input number kept (inputs.object_in (decode bytes)) ∙ ap (λ (l : List Contents). at number (with_first forced l bytes)) same
+          one_input number kept (inputs.object_in (decode bytes))
+          ∙ ap (λ (l : List Contents). at number (appended l (taken_after forced l bytes))) same
 
-      by_kept_more : (parts : List (List ℕ)) (bytes : List ℕ) (os next : List Contents) (r : Result (List Labelled) inputs.Refusal) →
-          objects_in r ≡ Ok os → with_first forced os bytes ≡ Ok next →
-          objects_in (and_then r (after parts (length parts) bytes [])) ≡ Ok next
-      by_kept_more parts bytes os next (Err refusal) so_far one = absurd (cc)
-      by_kept_more parts bytes os next (Ok kept) so_far one =
+      by_kept_more : (parts : List (List ℕ)) (bytes : List ℕ) (os : List Contents) (o : Contents)
+          (r : Result (List Labelled) inputs.Refusal) → objects_in r ≡ Ok os → taken_after forced os bytes ≡ Ok o →
+          objects_in (and_then r (after parts (length parts) bytes [])) ≡ Ok (os ++ o ∷ [])
+      by_kept_more parts bytes os o (Err refusal) so_far one = absurd (cc)
+      by_kept_more parts bytes os o (Ok kept) so_far one =
           let same : objects kept ≡ os = cc in
           none_then (at_path (length parts ∷ []) (with_input forced kept (length parts ∷ []) bytes))
           ∙ one_is (length parts) bytes kept os same
-          ∙ ap (at (length parts)) one
+          ∙ ap (λ (r : Result Contents Cause). at (length parts) (appended os r)) one
 
       by_kept_stops : (parts : List (List ℕ)) (bytes : List ℕ) (rest : List (List ℕ)) (os : List Contents) (cause : Cause)
-          (r : Result (List Labelled) inputs.Refusal) → objects_in r ≡ Ok os → with_first forced os bytes ≡ Err cause →
+          (r : Result (List Labelled) inputs.Refusal) → objects_in r ≡ Ok os → taken_after forced os bytes ≡ Err cause →
           objects_in (and_then r (after parts (length parts) bytes rest)) ≡ Err (record { cause = cause; place = length parts })
       by_kept_stops parts bytes rest os cause (Err refusal) so_far one = absurd (cc)
       by_kept_stops parts bytes rest os cause (Ok kept) so_far one =
           let same : objects kept ≡ os = cc in
           refused_then (at_path (length parts ∷ []) (with_input forced kept (length parts ∷ []) bytes))
           (λ more. with_inputs forced more (numbered (length parts + 1) rest)) (record { cause = cause; place = length parts })
-          (one_is (length parts) bytes kept os same ∙ ap (at (length parts)) one)
+          (one_is (length parts) bytes kept os same ∙ ap (λ (r : Result Contents Cause). at (length parts) (appended os r)) one)
 
 -- the same of a part that is read, whether a session takes it or not
-pub read_goes_on : GoesOn objects_each with_read
+pub read_goes_on : GoesOn objects_each read_after
 read_goes_on = record {
-  more = λ parts bytes os next so_far one. whole parts bytes []
-      ∙ by_more (length parts) (read_inputs (numbered 0 parts)) (inputs.object_in (decode bytes)) os next so_far one;
+  more = λ parts bytes os o so_far one. whole parts bytes []
+      ∙ by_more (length parts) (read_inputs (numbered 0 parts)) (inputs.object_in (decode bytes)) os o so_far one;
   stops = λ parts bytes rest os cause so_far one. whole parts bytes rest
       ∙ by_stops (length parts) (read_inputs (numbered 0 parts)) (inputs.object_in (decode bytes))
       (read_inputs (numbered (length parts + 1) rest)) os cause so_far one;
@@ -160,19 +175,19 @@ read_goes_on = record {
         ap (λ (is : List (List ℕ × List ℕ)). refused_as refusal_of (read_inputs is)) (numbered-next parts (bytes ∷ rest))
         ∙ ap (refused_as refusal_of) (read-append (numbered 0 parts) (numbered (length parts) (bytes ∷ rest)))
 
-    by_more : (number : ℕ) (r : Result (List Contents) inputs.Refusal) (f : Result Contents inputs.Cause) (os next : List Contents) →
-        refused_as refusal_of r ≡ Ok os → and_then (refused_as cause_of_input f) (λ o. Ok (os ++ o ∷ [])) ≡ Ok next →
-        refused_as refusal_of (both r (next_read number f (Ok []))) ≡ Ok next
-    by_more number (Err refusal) f os next so_far one = absurd (cc)
-    by_more number (Ok l) (Err cause) os next so_far one = absurd (cc)
-    by_more number (Ok l) (Ok o) os next so_far one =
+    by_more : (number : ℕ) (r : Result (List Contents) inputs.Refusal) (f : Result Contents inputs.Cause) (os : List Contents)
+        (o : Contents) → refused_as refusal_of r ≡ Ok os → refused_as cause_of_input f ≡ Ok o →
+        refused_as refusal_of (both r (next_read number f (Ok []))) ≡ Ok (os ++ o ∷ [])
+    by_more number (Err refusal) f os o so_far one = absurd (cc)
+    by_more number (Ok l) (Err cause) os o so_far one = absurd (cc)
+    by_more number (Ok l) (Ok x) os o so_far one =
         let same : l ≡ os = cc in
-        let longer : os ++ o ∷ [] ≡ next = cc in
-        ap (λ (l : List Contents). Ok l) (ap (λ (l : List Contents). l ++ o ∷ []) same ∙ longer)
+        let last : x ≡ o = cc in
+        ap (λ (l : List Contents). Ok l) (ap (λ (l : List Contents). l ++ x ∷ []) same ∙ ap (λ (y : Contents). os ++ y ∷ []) last)
 
     by_stops : (number : ℕ) (r : Result (List Contents) inputs.Refusal) (f : Result Contents inputs.Cause)
         (s : Result (List Contents) inputs.Refusal) (os : List Contents) (cause : Cause) →
-        refused_as refusal_of r ≡ Ok os → and_then (refused_as cause_of_input f) (λ o. Ok (os ++ o ∷ [])) ≡ Err cause →
+        refused_as refusal_of r ≡ Ok os → refused_as cause_of_input f ≡ Err cause →
         refused_as refusal_of (both r (next_read number f s)) ≡ Err (record { cause = cause; place = number })
     by_stops number (Err refusal) f s os cause so_far one = absurd (cc)
     by_stops number (Ok l) (Ok o) s os cause so_far one = absurd (cc)
@@ -182,8 +197,8 @@ read_goes_on = record {
 
 -- ---- part by part
 
-module _ (taken : Takes) (with_one : List Contents → List ℕ → Result (List Contents) Cause) (goes_on : GoesOn taken with_one)
-    (parts : List ObjectBytes) (i : ℕ) (d : ObjectBytes) (os : List Contents) where
+module _ (taken : Takes) (one : TakesOne) (goes_on : GoesOn taken one) (parts : List ObjectBytes) (i : ℕ) (d : ObjectBytes)
+    (os : List Contents) where
   abbrev before : List (List ℕ)
   before = each_of (take i parts)
 
@@ -199,14 +214,14 @@ module _ (taken : Takes) (with_one : List Contents → List ℕ → Result (List
   longer more = map_more (λ (part : ObjectBytes). part.bytes.now) parts i d more
 
   -- this part gave an object
-  pub more_each : (next : List Contents) → i < length parts → taken (each_of (take i parts)) ≡ Ok os →
-      with_one os (get_or parts i d).bytes.now ≡ Ok next → taken (each_of (take (i + 1) parts)) ≡ Ok next
-  more_each next more so_far first =
-      ap taken (longer more) ∙ goes_on.more before (get_or parts i d).bytes.now os next so_far first
+  pub more_each : (o : Contents) → i < length parts → taken (each_of (take i parts)) ≡ Ok os →
+      one os (get_or parts i d).bytes.now ≡ Ok o → taken (each_of (take (i + 1) parts)) ≡ Ok (os ++ o ∷ [])
+  more_each o more so_far first =
+      ap taken (longer more) ∙ goes_on.more before (get_or parts i d).bytes.now os o so_far first
 
   -- this part was refused
   pub refused_each : (cause : Cause) → i < length parts → taken (each_of (take i parts)) ≡ Ok os →
-      with_one os (get_or parts i d).bytes.now ≡ Err cause → taken (each_of parts) ≡ Err (record { cause = cause; place = i })
+      one os (get_or parts i d).bytes.now ≡ Err cause → taken (each_of parts) ≡ Err (record { cause = cause; place = i })
   refused_each cause more so_far first =
       ap taken (split more)
       ∙ goes_on.stops before (get_or parts i d).bytes.now (each_of (drop (i + 1) parts)) os cause so_far first
@@ -214,7 +229,7 @@ module _ (taken : Takes) (with_one : List Contents → List ℕ → Result (List
 
   -- memory may run out for this part
   pub out_at_each : i < length parts → taken (each_of (take i parts)) ≡ Ok os →
-      HasBody (get_or parts i d).bytes.now ⊎ IsOk (with_one os (get_or parts i d).bytes.now) → MayRunOutAt taken (each_of parts) i
+      HasBody (get_or parts i d).bytes.now ⊎ IsOk (one os (get_or parts i d).bytes.now) → MayRunOutAt taken (each_of parts) i
   out_at_each more so_far h =
       let bytes_of : ObjectBytes → List ℕ = λ part. part.bytes.now in
       let inside : i < length (each_of parts) = omega (arith, more, length-map parts bytes_of) in (
@@ -223,16 +238,16 @@ module _ (taken : Takes) (with_one : List Contents → List ℕ → Result (List
         for_this h,
       )
     where
-      is_taken : (r : Result (List Contents) Cause) → with_one os (get_or parts i d).bytes.now ≡ r → IsOk r →
+      is_taken : (r : Result Contents Cause) → one os (get_or parts i d).bytes.now ≡ r → IsOk r →
           IsOk (taken (take (i + 1) (each_of parts)))
-      is_taken (Ok next) first ok =
+      is_taken (Ok o) first ok =
           let bytes_of : ObjectBytes → List ℕ = λ part. part.bytes.now in
-          subst IsOk (sym (more_each next more so_far first) ∙ ap taken (sym (take-map bytes_of (i + 1) parts))) refl
+          subst IsOk (sym (more_each o more so_far first) ∙ ap taken (sym (take-map bytes_of (i + 1) parts))) refl
       is_taken (Err cause) first ok = absurd (cc)
 
-      for_this : HasBody (get_or parts i d).bytes.now ⊎ IsOk (with_one os (get_or parts i d).bytes.now) →
+      for_this : HasBody (get_or parts i d).bytes.now ⊎ IsOk (one os (get_or parts i d).bytes.now) →
           HasBody (get_or (each_of parts) i []) ⊎ IsOk (taken (take (i + 1) (each_of parts)))
       for_this (inl body) =
           let bytes_of : ObjectBytes → List ℕ = λ part. part.bytes.now in
           inl (subst HasBody (sym (get_or-map bytes_of parts i d [] more)) body)
-      for_this (inr ok) = inr (is_taken (with_one os (get_or parts i d).bytes.now) refl ok)
+      for_this (inr ok) = inr (is_taken (one os (get_or parts i d).bytes.now) refl ok)

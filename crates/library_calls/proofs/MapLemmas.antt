@@ -12,17 +12,12 @@ use Rattle.library_calls.specs.LinkRequests.{choices_in, forced_in}
 use Rattle.library_calls.specs.MapAnswers.{AreTaken, IsMapAnswer, IsMapped, MapMayRunOut, MapOf, MayRunOutInMap, map_asked, map_of_all, objects_each}
 use Rattle.library_calls.specs.{declared.cause.Cause.Cause, declared.cause.Refusal.Refusal, declared.map_call.LinkOutput.LinkOutput}
 use Rattle.library_calls.specs.{MemoryWanted.MayRunOutInParts, declared.run_call.Wants.Wants}
-use Rattle.library_calls.specs.{Causes.at, FileAnswers.object_in, LinkAnswers.numbered, LinkAnswers.refusal_of, internal.Taken.with_read}
+use Rattle.library_calls.specs.{Causes.at, LinkAnswers.numbered, LinkAnswers.refusal_of}
 
 -- with one more object, whether it is kept or left
 module _ (old new : Objects) (e : Labelled) (taken : split_of new ≡ with_object old.session.forced (split_of old) e) where
-  all_objects_more : objects (all_of new) ≡ objects (all_of old) ++ e.object ∷ []
-  all_objects_more = ap objects (all_more old new e taken) ∙ map-append (λ (x : Labelled). x.object) (all_of old) (e ∷ [])
-
-  pub read_more : (bytes : List ℕ) → object_in bytes ≡ Ok e.object → with_read (objects (all_of old)) bytes ≡ Ok (objects (all_of new))
-  read_more bytes is =
-      ap (λ (r : Result Contents Cause). and_then r (λ o. Ok (objects (all_of old) ++ o ∷ []))) is
-      ∙ ap (λ (os : List Contents). Ok os) (sym all_objects_more)
+  pub objects_more : objects (all_of new) ≡ objects (all_of old) ++ e.object ∷ []
+  objects_more = ap objects (all_more old new e taken) ∙ map-append (λ (x : Labelled). x.object) (all_of old) (e ∷ [])
 
   pub taken_more : new.session.forced ≡ old.session.forced → (forced : List (List ℕ)) → AreTaken forced (objects (all_of old)) old →
       AreTaken forced (objects (all_of new)) new

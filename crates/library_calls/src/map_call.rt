@@ -1,13 +1,13 @@
 //! The map of a link of objects whose bytes are apart, as records, with its file and its report.
-ghost use Rattle.std.specs.Prelude.{◌≡◌, ◌≢◌, ◌⊎◌, ℕ, List, length, Ok, Err, IfOk, IfErr, IsOk};
-ghost use Rattle.aout_core.specs.Refusals.{refused};
+ghost use Rattle.std.specs.Prelude.{◌≡◌, ◌≢◌, ◌⊎◌, ◌++◌, ◌∷◌, [], ℕ, List, length, Ok, Err, IfOk, IfErr, IsOk};
+ghost use Rattle.aout_core.specs.{Contents.Contents, Refusals.refused};
 ghost use Rattle.link_session.specs.Labelled.{objects};
 ghost use Rattle.link_maps.specs.{Links.read_inputs, Members.{all_of, cause_of}};
 ghost use Rattle.library_calls.specs.LinkAnswers.{each_of};
 ghost use Rattle.library_calls.specs.MapAnswers.{AreTaken, IsMapAnswer, IsMapped, MapMayRunOut, head_by, made_head, map_asked, map_given};
 ghost use Rattle.library_calls.specs.MapAnswers.{map_of_all, no_map, objects_each, placed_head, run_shown};
 ghost use Rattle.library_calls.specs.declared.cause.Cause.TheVariants.{Memory};
-ghost use Rattle.library_calls.specs.{MemoryWanted.{HasBody, MayRunOutInParts}, RunAnswers.results_of, internal.Taken.with_read};
+ghost use Rattle.library_calls.specs.{FileAnswers.object_in, MemoryWanted.{HasBody, MayRunOutInParts}, RunAnswers.results_of};
 
 use crate::cause::{Cause, Refusal};
 use crate::first::first_object;
@@ -75,14 +75,13 @@ impl LinkOutput {
 
 /// Takes the object that the bytes begin with, without a label.
 fn take_read(alloc: Global, all: &mut Objects, bytes: &[u8]) -> Result<(), Cause>
-    ensures read { IfOk result (λ _.
-        with_read (objects (all_of all.old)) bytes.now ≡ Ok (objects (all_of all.new))) }
+    ensures read { IfOk result (λ _. (object : Contents) × (object_in bytes.now ≡ Ok object)
+        × (objects (all_of all.new) ≡ objects (all_of all.old) ++ object ∷ [])) }
     ensures taken { IfOk result (λ _. (forced : List (List ℕ)) → AreTaken forced
         (objects (all_of all.old)) all.old → AreTaken forced (objects (all_of all.new)) all.new) }
-    ensures err { IfErr result (λ cause.
-        cause ≢ Memory refused → with_read (objects (all_of all.old)) bytes.now ≡ Err cause) }
-    ensures memory { IfErr result (λ cause. cause ≡ Memory refused
-        → HasBody bytes.now ⊎ IsOk (with_read (objects (all_of all.old)) bytes.now)) }
+    ensures err { IfErr result (λ cause. cause ≢ Memory refused → object_in bytes.now ≡ Err cause) }
+    ensures memory { IfErr result (λ cause.
+        cause ≡ Memory refused → HasBody bytes.now ⊎ IsOk (object_in bytes.now)) }
 {
     let object = first_object(alloc, bytes)?;
     all.take(alloc, String::new(alloc), object)?;

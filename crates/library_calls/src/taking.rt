@@ -1,32 +1,15 @@
 //! Objects taken into a session from their bytes.
-ghost use Rattle.std.specs.Prelude.{◌≡◌, ◌≢◌, ◌⊎◌, Ok, Err, IfOk, IfErr, IsOk};
+ghost use Rattle.std.specs.Prelude.{◌≡◌, ◌≢◌, Ok, Err, IfOk, IfErr};
 ghost use Rattle.aout_core.specs.Refusals.{refused};
 ghost use Rattle.link_session.specs.Labelled.{objects};
-ghost use Rattle.library_calls.specs.{internal.Taken.with_first, declared.cause.Cause.TheVariants.Memory};
-ghost use Rattle.library_calls.specs.{LinkAnswers.{each_of, taken_each}, MemoryWanted.{HasBody, MayRunOutInParts}};
+ghost use Rattle.library_calls.specs.declared.cause.Cause.TheVariants.{Memory};
+ghost use Rattle.library_calls.specs.{LinkAnswers.{each_of, taken_each}, MemoryWanted.MayRunOutInParts};
 
-use crate::cause::{Cause, Refusal};
+use crate::cause::Refusal;
 use crate::kept_calls::add_bytes;
 use crate::parts::ObjectBytes;
 use link_session::{Forced, Session};
 use std::alloc::Global;
-
-/// Adds the object that the bytes begin with.
-#[tactic(auto, using(crate::proofs::KeptLemmas::by_first))]
-fn take_first(alloc: Global, session: &mut Session, bytes: &[u8]) -> Result<(), Cause>
-    ensures forced { session.new.forced ≡ session.old.forced }
-    ensures ok { IfOk result (λ _. with_first session.old.forced
-        (objects session.old.entries) bytes.now ≡ Ok (objects session.new.entries)) }
-    ensures err { IfErr result (λ cause. cause ≢ Memory refused
-        → with_first session.old.forced (objects session.old.entries) bytes.now ≡ Err cause) }
-    ensures memory { IfErr result (λ cause. cause ≡ Memory refused → HasBody bytes.now
-        ⊎ IsOk (with_first session.old.forced (objects session.old.entries) bytes.now)) }
-{
-    match add_bytes(alloc, session, bytes) {
-        Ok(()) => Ok(()),
-        Err(cause) => Err(cause),
-    }
-}
 
 /// A session with the object that each of the parts begins with, in their order, up to the first that is not taken.
 pub(crate) fn take_each(
@@ -44,8 +27,8 @@ pub(crate) fn take_each(
 {
     let mut session = Session::with_forced(alloc, forced)?;
     for (place, part) in parts.iter().enumerate() {
-        match take_first(alloc, &mut session, part.bytes) {
-            Ok(_) => {}
+        match add_bytes(alloc, &mut session, part.bytes) {
+            Ok(()) => {}
             Err(cause) => return Err(Refusal { cause, place }),
         }
     }
