@@ -1,18 +1,17 @@
 //! A session that is kept from one call to the next.
-ghost use Rattle.std.specs.Prelude.{◌≡◌, ◌≢◌, [], None, Ok, Err, IsOk, IfOk, IfErr, OnOk, OnErr};
+ghost use Rattle.std.specs.Prelude.{◌≡◌, ◌≢◌, Ok, Err, IsOk, IfOk, IfErr, OnOk, OnErr};
 ghost use Rattle.aout_core.specs.Refusals.{refused};
-ghost use Rattle.link_session.specs.{Labelled.objects, Limits.refusal, Sessions.Adds};
-ghost use Rattle.link_out.specs.{Steps.unless, function.Link.link};
+ghost use Rattle.link_session.specs.Labelled.{objects};
+ghost use Rattle.link_out.specs.function.Link.{link};
 ghost use Rattle.library_calls.specs.KeptAnswers.{AddsBytes, HasJournal, MayRunOutToAdd, MayRunOutToLink, TakesLast, begun_in, kept_run, kept_with, last_in, shown_in, taken_in};
 ghost use Rattle.library_calls.specs.RunAnswers.{results_of};
-ghost use Rattle.library_calls.specs.declared.cause.Cause.TheVariants.{Memory, NotAdded, NothingKept};
+ghost use Rattle.library_calls.specs.declared.cause.Cause.TheVariants.{Memory, NothingKept};
 
 use crate::cause::{Cause, Refusal};
 use crate::first::first_object;
 use crate::requests::{forced_names, tool_options};
 use crate::run_call::{RunResult, Wants, given_of, link_kept};
 use crate::shown::{Form, shown_text};
-use aout_core::Object;
 use link_out::Options;
 use link_session::Session;
 use std::alloc::Global;
@@ -29,24 +28,6 @@ pub fn begin_session(alloc: Global, forced: &[u8]) -> Result<Session, Refusal>
     Ok(Session::with_forced(alloc, &forced)?)
 }
 
-/// Adds an object, without a label.
-fn add_object(alloc: Global, session: &mut Session, object: Object) -> Result<(), Cause>
-    ensures fits { OnOk result
-        (refusal session.old.forced (objects session.old.entries) object ≡ None) }
-    ensures added { OnOk result
-        (Adds session.old session.new (record { label = []; object = object })) }
-    ensures err { IfErr result (λ cause. cause ≢ Memory refused
-        → unless NotAdded (refusal session.old.forced (objects session.old.entries) object) object ≡ Err cause) }
-    ensures memory { IfErr result (λ cause. cause ≡ Memory refused
-        → refusal session.old.forced (objects session.old.entries) object ≡ None) }
-    ensures unchanged { OnErr result (session.new ≡ session.old) }
-{
-    match session.add(String::new(alloc), object) {
-        Ok(()) => Ok(()),
-        Err(refused) => Err(Cause::from(refused.cause)),
-    }
-}
-
 /// Adds the object that the bytes begin with. An error leaves the session as it was. (ld(1))
 ///
 /// Errors, the first that applies: `BadFile`, 11 to 14, if the bytes do not begin with a file; `BadObject`, 21 to 24, if it is not an
@@ -59,7 +40,10 @@ pub fn add_bytes(alloc: Global, session: &mut Session, bytes: &[u8]) -> Result<(
     ensures unchanged { OnErr result (session.new ≡ session.old) }
 {
     let object = first_object(alloc, bytes)?;
-    add_object(alloc, session, object)
+    match session.add(String::new(alloc), object) {
+        Ok(()) => Ok(()),
+        Err(refused) => Err(Cause::from(refused.cause)),
+    }
 }
 
 /// Takes the object away that was added last. (own choice)
