@@ -1,9 +1,7 @@
 //! A session that is kept from one call to the next.
 ghost use Rattle.std.specs.Prelude.{◌≡◌, ◌≢◌, Ok, Err, IsOk, IfOk, IfErr, OnOk, OnErr};
 ghost use Rattle.aout_core.specs.Refusals.{refused};
-ghost use Rattle.link_session.specs.Labelled.{objects};
-ghost use Rattle.link_out.specs.function.Link.{link};
-ghost use Rattle.library_calls.specs.KeptAnswers.{AddsBytes, HasJournal, MayRunOutToAdd, MayRunOutToLink, TakesLast, begun_in, kept_run, kept_with, last_in, shown_in, taken_in};
+ghost use Rattle.library_calls.specs.KeptAnswers.{AddsBytes, HasJournal, MayRunOutToAdd, MayRunOutToLink, TakesLast, begun_in, kept_run, last_in, shown_in, taken_in};
 ghost use Rattle.library_calls.specs.RunAnswers.{results_of};
 ghost use Rattle.library_calls.specs.declared.cause.Cause.TheVariants.{Memory, NothingKept};
 
@@ -12,7 +10,6 @@ use crate::first::first_object;
 use crate::requests::{forced_names, tool_options};
 use crate::run_call::{RunResult, Wants, given_of, link_kept};
 use crate::shown::{Form, shown_text};
-use link_out::Options;
 use link_session::Session;
 use std::alloc::Global;
 
@@ -62,28 +59,11 @@ pub fn withdraw_last(session: &mut Session) -> Result<(), Cause>
     }
 }
 
-/// The link of what a session keeps, with these options.
-#[tactic(auto, using(crate::proofs::MemoryLemmas::there_is_one))]
-fn run_kept(
-    alloc: Global,
-    session: &Session,
-    wants: Wants,
-    options: &Options,
-) -> Result<RunResult, Cause>
-    ensures ok { IfOk result (λ given. kept_with wants options.now session.now ≡ Ok (results_of given)) }
-    ensures err { IfErr result (λ cause.
-        cause ≢ Memory refused → kept_with wants options.now session.now ≡ Err cause) }
-    ensures memory { IfErr result (λ cause. cause ≡ Memory refused
-        → IsOk (link session.now.forced (objects session.now.entries) options.now)) }
-{
-    let linked = link_kept(alloc, session, options)?;
-    Ok(given_of(alloc, wants, &linked, Vec::new(alloc))?)
-}
-
 /// Links what a session keeps, and returns what is wanted of the report, but for the objects of what is reported. (ld(1))
 ///
 /// Errors, the first that applies: `NoOption`, 1, `Excluded`, 2, and `LongName`, 3, if the options or the name of the entry point are wrong;
 /// `NotLinked`, 41 to 43, if there is no link. `Memory`, 50, if memory runs out for the link.
+#[tactic(auto, using(crate::proofs::MemoryLemmas::there_is_one))]
 pub fn link_session(
     alloc: Global,
     session: &Session,
@@ -98,7 +78,8 @@ pub fn link_session(
         cause ≡ Memory refused → MayRunOutToLink options entry.now session.now) }
 {
     let options = tool_options(options, entry)?;
-    run_kept(alloc, session, wants, &options)
+    let linked = link_kept(alloc, session, &options)?;
+    Ok(given_of(alloc, wants, &linked, Vec::new(alloc))?)
 }
 
 /// What a session shows: with form 0 as lines, and with form 1 as JSON, by `shown_text`. (own choice)
