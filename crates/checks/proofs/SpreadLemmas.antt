@@ -1,9 +1,9 @@
 -- The places that lead to more, one after the other.
 use Rattle.std.proofs.Common.{◌≡◌, ℕ, zero, suc, ◌+◌, ◌-◌, ◌<◌, ◌≤◌, refl, sym, ap, ◌∙◌, inl, inr, arith, append_assoc}
 use Rattle.std.proofs.{lemmas.Bool.{cases_lt, eq-eqb, lt-ltb, le-ltb}, lemmas.List.{drop_more, get_or_past}, lemmas.List.Folds.list_any_at}
-use Rattle.std.specs.Prelude.{Option, map, [], ◌∷◌, Bool, true, false, eqb, if◌then◌else◌, List, ◌++◌, length, drop, get_or, slice_index}
+use Rattle.std.specs.Prelude.{Bool, true, false, eqb, if◌then◌else◌, List, ◌++◌, length, drop, get_or, slice_index}
 use Rattle.aout_core.specs.Contents.{Contents}
-use Rattle.checks.specs.{Found.Found, Reached.{leads_to, visited, visited_all, named, entry, nameless, evident, spread}}
+use Rattle.checks.specs.{Found.Found, Reached.{leads_to, visited_all, spread}}
 use Rattle.checks.specs.{declared.evidence.Evidence.Evidence, Suspicions.{suspicious_place, suspicious_words}, internal.Marks.AreMarks}
 
 -- the step of `spread`, if a place is left

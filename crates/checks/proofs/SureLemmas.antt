@@ -13,7 +13,7 @@ use Rattle.instructions.specs.{declared.unix.UnixLine.TheVariants.{Machine, Call
 use Rattle.instructions.proofs.UnixLemmas.{unix_short}
 use Rattle.disassemblies.specs.{Lines.unix_line_in, Starts.starts, Starts.is_start}
 use Rattle.checks.specs.Found.{Found}
-use Rattle.checks.specs.declared.finding.FindingKind.TheVariants.{RelocatedFirstWord, UnsuitablePcBit, BranchOutside, NoInstruction}
+use Rattle.checks.specs.declared.finding.FindingKind.TheVariants.{RelocatedFirstWord, UnsuitablePcBit, BranchOutside}
 use Rattle.checks.specs.Trust.{has_word_at, enters, entered_by, entered, overlaps, is_sure, trust}
 use Rattle.checks.specs.Branches.{of_lines, word_place, suspicious_entry, suspicious_branch}
 use Rattle.checks.specs.Suspicions.{reloc_place, may_begin, differ, is_immediate, is_foreign, suspicious_bit, suspicious_by}

@@ -5,7 +5,7 @@
 -- even address, not within another instruction, and not at the end of an object's text, where data begins; a linked file has `_etext` there.
 -- Some symbol is of text, or an absolute external has an address of the text by mistake. An address outside of text is odd in any file, and
 -- is not counted here.
-use Rattle.std.specs.Prelude.{ℕ, ◌+◌, ◌*◌, ◌/◌, ◌%◌, Bool, true, not, ◌&&◌, ◌||◌, eqb, nat_lt, if◌then◌else◌, List, [], ◌∷◌, ◌++◌, length}
+use Rattle.std.specs.Prelude.{ℕ, ◌+◌, ◌*◌, ◌/◌, ◌%◌, Bool, not, ◌&&◌, ◌||◌, eqb, nat_lt, if◌then◌else◌, List, [], ◌∷◌, ◌++◌, length}
 use Rattle.std.specs.{Prelude.{Option, Some, None, is_some}, List.{flat_map, list_any}}
 use Rattle.aout_core.specs.{declared.symbol.Symbol.Symbol, declared.symbol.Segment.TheVariants.Absolute, declared.reloc.Reloc.Reloc}
 use Rattle.aout_core.specs.{Contents.Contents, Placed.placed_words, declared.placed.PlacedWord.PlacedWord}

@@ -5,7 +5,7 @@
 use Rattle.std.specs.Prelude.{ℕ, ◌+◌, ◌-◌, ◌*◌, ◌/◌, ◌%◌, Bool, true, false, not, ◌&&◌, ◌||◌, eqb, nat_lt, nat_le, if◌then◌else◌, List, []}
 use Rattle.std.specs.{Prelude.{◌∷◌, ◌++◌, take, drop, length, bytes_eq, Option, Some, None, is_some}, List.{flat_map, list_any}}
 use Rattle.aout_core.specs.WellFormed.{is_external, is_undefined, kind_of, masked_type, segment_of, symbol_number}
-use Rattle.aout_core.specs.{declared.header.Header.Header, declared.symbol.Symbol.Symbol, declared.symbol.Segment.Segment}
+use Rattle.aout_core.specs.{declared.header.Header.Header, declared.symbol.Symbol.Symbol}
 use Rattle.aout_core.specs.{declared.reloc.Reloc.Reloc, declared.reloc.Kind.Kind, declared.reloc.Kind.TheVariants.External}
 use Rattle.aout_core.specs.{Contents.Contents, Encoding.symbols_at, Encoding.file_length, Addresses.target, Placed.placed_words}
 use Rattle.aout_core.specs.{declared.placed.PlacedWord.PlacedWord, declared.part.Part.TheVariants.Text, declared.part.Part.TheVariants.Data}

@@ -1,6 +1,6 @@
 -- What is damaged in a file: why it is refused, at which byte, and in which words. (a.out(5); the refusals: own choice)
-use Rattle.std.specs.Prelude.{ℕ, ◌+◌, ◌*◌, ◌-◌, ◌%◌, Bool, true, false, not, eqb, nat_lt, if◌then◌else◌, List, [], ◌∷◌, ◌++◌, take, length}
-use Rattle.std.specs.Prelude.{codes, Option, Some, None}
+use Rattle.std.specs.Prelude.{ℕ, ◌+◌, ◌*◌, ◌%◌, Bool, true, false, not, eqb, nat_lt, if◌then◌else◌, List, [], ◌∷◌, ◌++◌, take, length}
+use Rattle.std.specs.Prelude.{Option, Some, None}
 use Rattle.aout_core.specs.{declared.header.Header.Header, declared.reloc.Reloc.Reloc, declared.file.ReadFault.ReadFault}
 use Rattle.aout_core.specs.{declared.object.ObjectFault.ObjectFault, Contents.Contents, Encoding.relocation_at, Decoding.header_in}
 use Rattle.aout_core.specs.{WellFormed.word_fault}

@@ -1,15 +1,16 @@
 //! The places that are reached.
-ghost use Rattle.std.specs.Prelude.{◌≡◌, ◌<◌, ◌+◌, ◌++◌, ◌∷◌, [], ℕ, false, length, map, get_or, IfOk, OnOk};
-ghost use Rattle.instructions.specs.{Modes.counts_from_pc, UnixLines.unix_length, declared.line.Line.TheVariants.Decoded};
-ghost use Rattle.instructions.specs.{declared.unix.UnixLine.TheVariants.Machine, Instructions.word_count_of};
-ghost use Rattle.checks.specs.Reached.{leads_by, leads_to, visited, visited_all, is_still, begins, named, is_distance, has_distance, is_shown_by, shown, shown_from, entry, nameless, evident, spread, reached, is_reached};
+ghost use Rattle.std.specs.Prelude.{◌≡◌, ◌<◌, ◌+◌, ◌++◌, ℕ, false, length, get_or, IfOk, OnOk};
+ghost use Rattle.instructions.specs.{UnixLines.unix_length, declared.line.Line.TheVariants.Decoded};
+ghost use Rattle.instructions.specs.declared.unix.UnixLine.TheVariants.{Machine};
+ghost use Rattle.checks.specs.Reached.{leads_by, leads_to, visited, visited_all, begins, named, has_distance, is_shown_by};
+ghost use Rattle.checks.specs.Reached.{shown, shown_from, entry, evident, spread, is_reached};
 ghost use Rattle.checks.specs.internal.Marks.{AreMarks};
 
 use crate::evidence::Evidence;
 use crate::leads::{address_of, branch_of, calls_csv, jump, next_of, parent_of, reloc_at};
-use aout_core::{File, Header, Reloc, Segment, Symbol};
+use aout_core::{File, Header, Segment, Symbol};
 use disassemblies::Sweep;
-use instructions::{Addressing, Instruction, Line, Operand, UnixLine, is_relocated};
+use instructions::{Instruction, Line, Operand, UnixLine, is_relocated};
 use std::alloc::{AllocError, Global};
 
 pub(crate) fn is_marked(marks: &[bool], place: usize) -> bool

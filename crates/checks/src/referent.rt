@@ -1,17 +1,15 @@
 //! What the words of operands refer to.
-ghost use Rattle.std.specs.{Prelude.{◌≡◌, ◌+◌, ◌*◌, ◌^◌, ◌<◌, ◌≤◌, ◌++◌, option_map, slice_get}, List.list_any};
+ghost use Rattle.std.specs.{Prelude.{◌≡◌, ◌<◌, ◌≤◌, option_map}, List.list_any};
 ghost use Rattle.aout_core.specs.WellFormed.{kind_of};
 ghost use Rattle.checks.specs.{Segments.bss_to, Found.Finds};
-ghost use Rattle.checks.specs.Branches.{word_place};
-ghost use Rattle.checks.specs.Referents.{referent_of, referred, access_by, goes, is_after_text, is_storage, is_stored_at, common_size, wrong_external, mismatch_of};
-ghost use Rattle.checks.specs.Referents.{is_certain, suspicious_mismatch, suspicious_referent, suspicious_way, suspicious_reference, suspicious_references};
-ghost use Rattle.instructions.specs.{Modes.counts_from_pc, Instructions.{jumps, word_count_of}, Syntax.number};
+ghost use Rattle.checks.specs.Referents.{referent_of, referred, access_by, goes, is_after_text, is_storage, is_stored_at, common_size};
+ghost use Rattle.checks.specs.Referents.{wrong_external, mismatch_of, is_certain, suspicious_reference, suspicious_references};
 
 use crate::finding::{FindingKind, Findings};
 use crate::leads::{is_promised, reloc_at};
 use crate::suspect::{Suspect, doubt_text, word_place};
 use aout_core::{File, Header, Kind, Reloc, Segment, Symbol};
-use instructions::{Addressing, Instruction, Line, Operand, UnixLine, is_relocated};
+use instructions::{Addressing, Line, Operand, UnixLine, is_relocated};
 use std::fmt::{self, Display, Formatter, Write};
 
 /// What the word of an operand refers to. (a.out(5))

@@ -1,15 +1,10 @@
 //! What is suspicious in a text. Only tested: what the findings say.
-ghost use Rattle.std.specs.Prelude.{◌≡◌, ◌+◌, ◌*◌, ◌^◌, ◌<◌, ◌&&◌, ◌++◌, Some, length, slice_get, IfOk};
-ghost use Rattle.aout_core.specs.WellFormed.{is_pc_relative};
-ghost use Rattle.instructions.specs.{Modes.counts_from_pc, declared.unix.Decoder.TheVariants.Unix};
-ghost use Rattle.instructions.specs.{Instructions.{instruction_of, word_count_of}, Relocated.is_relocated};
-ghost use Rattle.disassemblies.specs.Starts.{starts, is_start};
-ghost use Rattle.checks.specs.Found.{all_found, Finds};
-ghost use Rattle.checks.specs.{declared.evidence.Evidence.TheVariants.Names, Reached.branch_of, internal.Marks.ShowReached};
-ghost use Rattle.checks.specs.Suspicions.{reloc_place, may_begin, suspicious_first, differ, is_immediate, suspicious_bit};
-ghost use Rattle.checks.specs.Suspicions.{suspicious_by, suspicious_operand, is_foreign, suspicious_lack, suspicious_plain};
+ghost use Rattle.std.specs.Prelude.{◌≡◌, ◌^◌, ◌<◌, length, IfOk};
+ghost use Rattle.instructions.specs.Instructions.{instruction_of};
+ghost use Rattle.checks.specs.{Found.{all_found, Finds}, Trust.trust, Branches.of_lines, internal.Marks.ShowReached};
+ghost use Rattle.checks.specs.declared.evidence.Evidence.TheVariants.{Names};
+ghost use Rattle.checks.specs.Suspicions.{reloc_place, may_begin, suspicious_operand, is_foreign, suspicious_lack, suspicious_plain};
 ghost use Rattle.checks.specs.Suspicions.{suspicious_line, suspicious_at, suspicious_place, suspicious_words, suspicions, all_odd};
-ghost use Rattle.checks.specs.{Trust.trust, Branches.{of_lines, suspicious_branch}};
 
 use crate::addresses::find_addresses;
 use crate::branches::find_branch;
@@ -23,7 +18,7 @@ use crate::referent::find_references;
 use crate::suspect::{Suspect, doubt_text, word_place};
 use crate::trust::{Trust, is_sure};
 use crate::uses::find_uses;
-use aout_core::{File, Reloc};
+use aout_core::File;
 use disassemblies::Sweep;
 use instructions::{Addressing, Instruction, Line, Operand, UnixLine, decode, is_relocated};
 use std::alloc::{AllocError, Global};

@@ -1,9 +1,9 @@
 //! What is suspicious of instructions by themselves.
-ghost use Rattle.std.specs.Prelude.{◌≡◌, ◌+◌, ◌++◌, ◌&&◌, ◌^◌, ◌<◌, ◌≤◌, eqb, false, true, length, slice_get, slice_index};
+ghost use Rattle.std.specs.Prelude.{◌≡◌, ◌+◌, ◌&&◌, ◌^◌, ◌<◌, ◌≤◌, eqb, false, true, length};
 ghost use Rattle.checks.specs.{Branches.word_place, Reached.flows};
 ghost use Rattle.checks.specs.Uses.{leads_nowhere, has_words, counts_from_even, is_odd, odd_operand, suspicious_uses};
 ghost use Rattle.checks.specs.{Found.{Finds, found_as}, declared.finding.FindingKind.TheVariants.NoEnd};
-ghost use Rattle.instructions.specs.{Instructions.word_count_of, UnixLines.unix_length};
+ghost use Rattle.instructions.specs.UnixLines.{unix_length};
 
 use crate::finding::FindingKind::{self, NoEnd, OddOperand, UnsuitableJump};
 use crate::finding::Findings;

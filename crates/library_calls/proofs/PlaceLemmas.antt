@@ -1,5 +1,5 @@
 -- What an index of names gives for a report.
-use Rattle.std.proofs.Common.{◌≡◌, ℕ, List, IfOk, Result, Ok, Err, ap, subst, ◌∙◌}
+use Rattle.std.proofs.Common.{◌≡◌, ℕ, List, IfOk, Result, Ok, Err, ap, ◌∙◌}
 use Rattle.std.specs.{Prelude.Vec, declared.alloc.Global.Global}
 use Rattle.link_session.specs.Labelled.{Labelled, objects}
 use Rattle.link_out.specs.Results.{ReportNames}

@@ -1,5 +1,5 @@
 -- A report has at most as many names as its link has mentions, and four more: the reserved names and the entry point.
-use Rattle.std.proofs.Common.{◌≡◌, ℕ, suc, ◌+◌, ◌≤◌, Bool, true, false, cond, not, List, [], ◌∷◌, ◌++◌, map, length, Option, Some, None}
+use Rattle.std.proofs.Common.{◌≡◌, ℕ, suc, ◌+◌, ◌≤◌, Bool, true, false, cond, not, List, [], ◌∷◌, ◌++◌, length, Option, Some, None}
 use Rattle.std.proofs.Common.{refl, ap, ◌∙◌, subst, arith, rules, append_assoc, length-append}
 use Rattle.std.proofs.{lemmas.List.length-map, lemmas.List.map-append, lemmas.Slice.Eq.bytes_eq-Decides}
 use Rattle.std.specs.Prelude.{bytes_eq, filter, option_to_list}

@@ -1,5 +1,5 @@
 //! Words as instructions: those of the text of a file, and words alone.
-ghost use Rattle.std.specs.Prelude.{◌≡◌, ◌≢◌, [], Ok, Err, IsOk, IfOk, IfErr};
+ghost use Rattle.std.specs.Prelude.{◌≡◌, ◌≢◌, [], Err, IsOk, IfOk, IfErr};
 ghost use Rattle.aout_core.specs.Refusals.{refused};
 ghost use Rattle.library_calls.specs.{FileAnswers.{IsAny, IsTextOf, file_in}, declared.cause.Cause.TheVariants.Memory};
 

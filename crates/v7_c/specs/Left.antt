@@ -7,11 +7,9 @@ use Rattle.std.specs.Prelude.{◌≡◌, ◌≢◌, ℕ, Bool, ◌||◌, nat_lt,
 use Rattle.aout_core.specs.declared.header.Header.{Header}
 use Rattle.aout_core.specs.Refusals as memory
 use Rattle.library_calls.specs.{declared.cause.Cause.Cause, declared.cause.Cause.TheVariants.Memory, declared.cause.Refusal.Refusal}
-use Rattle.library_calls.specs.{declared.parts.FileLists.FileLists, declared.parts.ObjectWord.ObjectWord}
-use Rattle.library_calls.specs.{declared.parts.PartLists.PartLists, declared.parts.SymbolRow.SymbolRow}
-use Rattle.library_calls.specs.{declared.remarks_call.RemarkRecord.RemarkRecord, declared.remarks_call.Remarks.Remarks}
-use Rattle.library_calls.specs.{Causes.{at, number_of, word_of}, FileAnswers.IsTextOf, ObjectParts.{Pieces, Whole, pieces_in, whole_of}}
-use Rattle.library_calls.specs.RemarkAnswers.{IsRemarked, Output, remarks_in}
+use Rattle.library_calls.specs.{declared.parts.ObjectWord.ObjectWord, declared.parts.SymbolRow.SymbolRow}
+use Rattle.library_calls.specs.{declared.remarks_call.RemarkRecord.RemarkRecord, RemarkAnswers.{IsRemarked, Output}}
+use Rattle.library_calls.specs.{Causes.{at, number_of, word_of}, FileAnswers.IsTextOf, ObjectParts.{Pieces, Whole}}
 use Rattle.v7_c.specs.{declared.answer.Answer.Answer, declared.answer.Counts.Counts, declared.answer.FileHeader.FileHeader}
 
 -- these at the beginning of a buffer

@@ -1,4 +1,3 @@
-use Rattle.std.proofs.Common.{◌++◌}
 use Rattle.std.specs.List.{flat_map}
 use Rattle.aout_core.specs.{Placed.placed_words, declared.part.Part.TheVariants.{Text, Data}}
 use Rattle.checks.specs.Odd.{odd_header, odd_word, odd_symbols}
