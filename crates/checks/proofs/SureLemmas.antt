@@ -55,7 +55,7 @@ lack_is_reported sure place w o s f q = search (rules, loud)
 -- a plain word at a sure place is suspicious
 plain_is_reported : (moves reached begins : Bool) (first : Found) (lack : List Found) → reached ≡ true → first.is_sure ≡ true →
     (NoneIsSure lack → ⊥) →
-    NoneIsSure (if moves then (if moves && (reached || begins) then first ∷ [] else []) else (if reached then lack else [])) → ⊥
+    NoneIsSure (if moves then (if reached || begins then first ∷ [] else []) else (if reached then lack else [])) → ⊥
 plain_is_reported moves reached begins first lack r s l q = search (rules, loud)
 
 -- no line that was looked at has the word
@@ -201,7 +201,7 @@ sure_places e c none place s =
 
 -- a relocated word there is reported
 moved_is_reported : (moves reached begins : Bool) (first : Found) (others : List Found) → moves ≡ true → reached ≡ true →
-    first.is_sure ≡ true → NoneIsSure (if moves then (if moves && (reached || begins) then first ∷ [] else []) else others) → ⊥
+    first.is_sure ≡ true → NoneIsSure (if moves then (if reached || begins then first ∷ [] else []) else others) → ⊥
 moved_is_reported moves reached begins first others m r s q = search (rules, loud)
 
 not_moved : (v : Evidence) (c : Contents) (t : Trust) (place : ℕ) (b : Bool) → is_relocated (slice_get c.text_reloc place) ≡ b →

@@ -36,12 +36,6 @@ begins_words c place n = nat_lt 1 n && not (is_relocated (slice_get c.text_reloc
 abbrev pub may_begin : Contents → ℕ → Bool
 may_begin c place = begins_words c place (line_length (line_at c.text_words place))
 
--- a plain word at a place
-abbrev pub suspicious_first : Contents → Trust → ℕ → List Found
-suspicious_first c t place =
-    found_as t.is_sure (is_relocated (slice_get c.text_reloc place) && (t.is_reached || may_begin c place)) (reloc_place c place)
-    RelocatedFirstWord
-
 -- the pc bit does not suit the mode
 abbrev pub differ : Bool → Bool → Bool
 differ true b = not b
@@ -77,9 +71,11 @@ suspicious_lack is_sure place w None =
     found_as is_sure (not (is_foreign w)) (word_place place) NoInstruction
 suspicious_lack is_sure place w (Some i) = found_as is_sure true (word_place place) CutInstruction
 
+-- a plain word at a place
 abbrev pub suspicious_plain : Contents → Trust → ℕ → ℕ → List Found
 suspicious_plain c t place w =
-    if is_relocated (slice_get c.text_reloc place) then suspicious_first c t place
+    if is_relocated (slice_get c.text_reloc place)
+    then found_as t.is_sure (t.is_reached || may_begin c place) (reloc_place c place) RelocatedFirstWord
     else (if t.is_reached then suspicious_lack t.is_sure place w (instruction_of w) else [])
 
 -- the line at a place, by the evidence of the lines that a branch may enter
