@@ -1,5 +1,5 @@
 -- What is found in a file: at which byte, and what it is. What a finding says in words is in no definition. (own choice)
-use Rattle.std.specs.Prelude.{◌≡◌, ℕ, Bool, true, false, if◌then◌else◌, List, [], ◌∷◌, ◌++◌, map}
+use Rattle.std.specs.Prelude.{◌≡◌, ℕ, Bool, true, false, if◌then◌else◌, List, [], ◌∷◌, ◌++◌, map, Option, Some, None}
 use Rattle.checks.specs.{declared.finding.Finding.Finding, declared.finding.FindingKind.FindingKind}
 use Rattle.checks.specs.declared.finding.FindingKind.TheVariants as kinds
 
@@ -58,6 +58,11 @@ found_as is_sure test place kind = if test then record { place = place; kind = k
 
 abbrev pub found_if : Bool → ℕ → FindingKind → List Found
 found_if test place kind = found_as true test place kind
+
+-- what is found of a thing, if it is there
+abbrev pub found_of : {A : Type 0} → Option A → (A → List Found) → List Found
+found_of None found = []
+found_of (Some x) found = found x
 
 -- what is found so far; once memory ran out it is cut, and nothing is known of it
 pub record Collected : Type 0 where
