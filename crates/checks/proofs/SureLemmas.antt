@@ -3,9 +3,9 @@ use Rattle.std.proofs.Common.{◌≡◌, ℕ, zero, suc, ◌+◌, ◌-◌, ◌*�
 use Rattle.std.proofs.{Common.arith, lemmas.Bool.{cases_lt, eqb-true, lt-ltb, le-ltb, ltb-false, or_cases, or_right, and_parts}}
 use Rattle.std.specs.Prelude.{Bool, true, false, not, ◌&&◌, ◌||◌, eqb, nat_lt, if◌then◌else◌, List, [], ◌∷◌, ◌++◌, length, slice_get}
 use Rattle.std.specs.{Prelude.slice_index, List.list_any}
-use Rattle.aout_core.specs.{declared.reloc.Reloc.Reloc, Contents.Contents, WellFormed.is_pc_relative}
+use Rattle.aout_core.specs.{Contents.Contents, WellFormed.is_pc_relative}
 use Rattle.instructions.specs.declared.operand.Operand.TheVariants.{General, Accumulator, Register, Forward, Backward, Number}
-use Rattle.instructions.specs.{declared.mode.Addressing.Addressing, Modes.counts_from_pc, declared.operand.Operand.Operand}
+use Rattle.instructions.specs.{Modes.counts_from_pc, declared.operand.Operand.Operand}
 use Rattle.instructions.specs.{declared.unix.Decoder.TheVariants.Unix, declared.unix.UnixLine.UnixLine}
 use Rattle.instructions.specs.{Instructions.{instruction_of, word_count_of}, UnixLines.{unix_length, unix_line_at}}
 use Rattle.instructions.specs.{declared.instruction.Instruction.Instruction, declared.line.Line.TheVariants.{Plain, Decoded}}
@@ -16,7 +16,7 @@ use Rattle.checks.specs.Found.{Found}
 use Rattle.checks.specs.declared.finding.FindingKind.TheVariants.{RelocatedFirstWord, UnsuitablePcBit, BranchOutside}
 use Rattle.checks.specs.Trust.{has_word_at, enters, entered_by, entered, overlaps, is_sure, trust}
 use Rattle.checks.specs.Branches.{of_lines, word_place, suspicious_entry, suspicious_branch}
-use Rattle.checks.specs.Suspicions.{reloc_place, may_begin, differ, is_immediate, is_foreign, suspicious_bit, suspicious_by}
+use Rattle.checks.specs.Suspicions.{reloc_place, may_begin, differ, is_immediate, is_foreign}
 use Rattle.checks.specs.Suspicions.{suspicious_lack, suspicious_operand, suspicious_line, suspicious_at, suspicious_place}
 use Rattle.checks.specs.Uses.{suspicious_uses}
 use Rattle.checks.specs.SureLaw.{NoneIsSure, targets, is_whole, IsInside, AreInside, SureLaw, SuitsMode, SuitsModes, SureWordsLaw}
@@ -233,11 +233,8 @@ suits : (c : Contents) (sure : Bool) (place : ℕ) (x : Option Operand) → sure
     NoneIsSure (suspicious_operand c sure place x) → SuitsMode c place x
 suits c sure place None s q = tt
 suits c sure place (Some (General m register)) s q =
-    λ a r way at moved other.
-    let of_mode : NoneIsSure (suspicious_bit c sure place a (slice_get c.text_reloc place)) =
-    subst (λ (o : Option Addressing). NoneIsSure (suspicious_by c sure place o)) way q in
-    let none : NoneIsSure (suspicious_bit c sure place a (Some r)) =
-    subst (λ (o : Option Reloc). NoneIsSure (suspicious_bit c sure place a o)) at of_mode in
+    λ a r way there moved other.
+    let none = rw (way, there) at q in
     agree (is_relocated (Some r)) (is_pc_relative r) (counts_from_pc a) (bit_found c (sure && not (is_immediate a)) place) moved
     (sure_bit sure (is_immediate a) s other) none
 suits c sure place (Some (Accumulator v)) s q = tt

@@ -11,7 +11,7 @@
 -- `add $_x-.,r0`. A word that begins an instruction of another PDP-11 is not suspicious.
 use Rattle.std.specs.Prelude.{ℕ, ◌+◌, ◌-◌, ◌*◌, ◌/◌, Bool, true, false, not, ◌&&◌, ◌||◌, eqb, nat_lt, if◌then◌else◌, List, [], ◌∷◌, ◌++◌, slice_get}
 use Rattle.std.specs.Prelude.{Option, Some, None}
-use Rattle.aout_core.specs.{declared.reloc.Reloc.Reloc, Contents.Contents, Encoding.relocation_at, WellFormed.is_pc_relative}
+use Rattle.aout_core.specs.{Contents.Contents, Encoding.relocation_at, WellFormed.is_pc_relative}
 use Rattle.instructions.specs.{declared.mode.Addressing.Addressing, declared.mode.Addressing.TheVariants.Immediate}
 use Rattle.instructions.specs.{declared.operand.Operand.Operand, declared.operand.Operand.TheVariants.General}
 use Rattle.instructions.specs.{declared.unix.Decoder.TheVariants.Unix, declared.unix.UnixLine.UnixLine}
@@ -20,7 +20,7 @@ use Rattle.instructions.specs.{declared.unix.UnixLine.TheVariants.{Machine, Call
 use Rattle.instructions.specs.{Instructions.{instruction_of, word_count_of}, Lines.{line_at, line_length}, Relocated.is_relocated}
 use Rattle.disassemblies.specs.{Lines.unix_line_in, Starts.starts, Starts.is_start}
 use Rattle.checks.specs.declared.finding.FindingKind.TheVariants.{RelocatedFirstWord, UnsuitablePcBit, CutInstruction, NoInstruction}
-use Rattle.checks.specs.{Found.{Found, found_as}, Odd.odd, Branches.{of_lines, word_place, suspicious_branch}}
+use Rattle.checks.specs.{Found.{Found, found_as, found_of}, Odd.odd, Branches.{of_lines, word_place, suspicious_branch}}
 use Rattle.checks.specs.{Addresses.suspicious_addresses, Referents.suspicious_references, Uses.suspicious_uses}
 use Rattle.checks.specs.{declared.evidence.Evidence.Evidence, declared.trust.Trust.Trust, Reached.branch_of, Trust.trust}
 
@@ -46,19 +46,12 @@ abbrev pub is_immediate : Addressing → Bool
 is_immediate Immediate = true
 is_immediate _ = false
 
--- the operand word at a place, with this relocation word, if the file has relocation
-abbrev pub suspicious_bit : Contents → Bool → ℕ → Addressing → Option Reloc → List Found
-suspicious_bit c is_sure place a None = []
-suspicious_bit c is_sure place a (Some r) =
-    found_as (is_sure && not (is_immediate a)) (is_relocated (Some r) && differ (is_pc_relative r) (counts_from_pc a)) (reloc_place c place)
-    UnsuitablePcBit
-
-abbrev pub suspicious_by : Contents → Bool → ℕ → Option Addressing → List Found
-suspicious_by c is_sure place None = []
-suspicious_by c is_sure place (Some a) = suspicious_bit c is_sure place a (slice_get c.text_reloc place)
-
+-- the operand whose word, if it has one, is at a place
 abbrev pub suspicious_operand : Contents → Bool → ℕ → Option Operand → List Found
-suspicious_operand c is_sure place (Some (General m r)) = suspicious_by c is_sure place (addressing m r)
+suspicious_operand c is_sure place (Some (General m r)) =
+    found_of (addressing m r) (λ a. found_of (slice_get c.text_reloc place) (λ reloc.
+    found_as (is_sure && not (is_immediate a)) (is_relocated (Some reloc) && differ (is_pc_relative reloc) (counts_from_pc a))
+    (reloc_place c place) UnsuitablePcBit))
 suspicious_operand c is_sure place _ = []
 
 -- a word begins an instruction of another PDP-11: `mtps`, `mfps`, or one of the floating or the commercial instruction set
