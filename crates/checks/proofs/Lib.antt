@@ -1,6 +1,5 @@
 pub mod BadWordLemmas
 pub mod SymbolLemmas
-pub mod WordLemmas
 pub mod WrongLemmas
 pub mod SpreadLemmas
 pub mod ReachLemmas

@@ -1,19 +1,15 @@
 -- The places that lead to more, one after the other.
-use Rattle.std.proofs.Common.{◌≡◌, ℕ, zero, suc, ◌+◌, ◌-◌, ◌<◌, ◌≤◌, refl, sym, ap, ◌∙◌, inl, inr, arith, append_assoc}
-use Rattle.std.proofs.{lemmas.Bool.{cases_lt, eq-eqb, lt-ltb, le-ltb}, lemmas.List.{drop_more, get_or_past}, lemmas.List.Folds.list_any_at}
-use Rattle.std.specs.Prelude.{Bool, true, false, eqb, if◌then◌else◌, List, ◌++◌, length, drop, get_or, slice_index}
+use Rattle.std.proofs.Common.{◌≡◌, ℕ, zero, suc, ◌+◌, ◌-◌, ◌<◌, ◌≤◌, refl, sym, ap, ◌∙◌, inl, inr, arith}
+use Rattle.std.proofs.{lemmas.Bool.{cases_lt, eq-eqb, lt-ltb, le-ltb}, lemmas.List.get_or_past, lemmas.List.Folds.list_any_at}
+use Rattle.std.specs.Prelude.{Bool, true, false, eqb, List, length, get_or, slice_index}
 use Rattle.aout_core.specs.Contents.{Contents}
-use Rattle.checks.specs.{Found.Found, Reached.{leads_to, visited_all, spread}}
-use Rattle.checks.specs.{declared.evidence.Evidence.Evidence, Suspicions.{suspicious_place, suspicious_words}, internal.Marks.AreMarks}
+use Rattle.checks.specs.{declared.evidence.Evidence.Evidence, Reached.{leads_to, visited_all, spread}, internal.Marks.AreMarks}
 
 -- the step of `spread`, if a place is left
 first : (e : Evidence) (c : Contents) (more next : ℕ) (found : List ℕ) → next < length found →
     spread e c (suc more) next found
     ≡ spread e c more (next + 1) (visited_all (length c.text_words) found (leads_to e c (slice_index found next)))
-first e c more next found h =
-    ap (λ (b : Bool). if b then spread e c more (next + 1)
-    (visited_all (length c.text_words) found (leads_to e c (slice_index found next))) else found)
-    (lt-ltb next (length found) h)
+first e c more next found h = rw (lt-ltb next (length found) h) refl
 
 pub spread_more : (e : Evidence) (c : Contents) (n next : ℕ) (found new whole : List ℕ) → next < n → next < length found →
     new ≡ visited_all (length c.text_words) found (leads_to e c (slice_index found next)) → spread e c (n - next) next found ≡ whole →
@@ -27,10 +23,7 @@ spread_more e c n next found new whole inside h is so_far =
 -- no place is left
 pub spread_all : (e : Evidence) (c : Contents) (more next : ℕ) (found : List ℕ) → length found ≤ next → spread e c more next found ≡ found
 spread_all e c zero next found h = refl
-spread_all e c (suc more) next found h =
-    ap (λ (b : Bool). if b then spread e c more (next + 1)
-    (visited_all (length c.text_words) found (leads_to e c (slice_index found next))) else found)
-    (le-ltb next (length found) h)
+spread_all e c (suc more) next found h = rw (le-ltb next (length found) h) refl
 
 -- each place that has been found is one of the text
 pub found_inside : (marks : List Bool) (found : List ℕ) (next d : ℕ) → AreMarks marks found → next < length found →
@@ -43,14 +36,3 @@ found_inside marks found next d h inside =
       | inl below ↦ below
       | inr above ↦ let none : get_or marks place false ≡ false = get_or_past marks place false above in absurd cc
     ]
-
--- what is suspicious at one place more
-pub places_more : (e : Evidence) (c : Contents) (words : List ℕ) (i : ℕ) (old new whole : List Found) → i < length words →
-    new ≡ old ++ suspicious_place e c i → old ++ suspicious_words e c i (drop i words) ≡ whole →
-    new ++ suspicious_words e c (i + 1) (drop (i + 1) words) ≡ whole
-places_more e c words i old new whole inside put so_far =
-    let rest : List Found = suspicious_words e c (i + 1) (drop (i + 1) words) in
-    ap (λ (l : List Found). l ++ rest) put
-    ∙ append_assoc old (suspicious_place e c i) rest
-    ∙ ap (λ (l : List ℕ). old ++ suspicious_words e c i l) (sym (drop_more words i 0 inside))
-    ∙ so_far

@@ -1,22 +1,10 @@
--- One more symbol of a table: what is odd in it, and that its name is noted.
+-- One more symbol of a table: its name is noted.
 use Rattle.std.proofs.Common.{◌≡◌, refl, ℕ, ◌+◌, ◌<◌, Bool, true, false, if◌then◌else◌, not, ◌&&◌, is_some, Option, Some, None, List, []}
-use Rattle.std.proofs.Common.{◌∷◌, ◌++◌, take, drop, length, get_or, sym, ◌∙◌, ap, arith, append_assoc}
-use Rattle.std.proofs.{lemmas.List.{drop_more, take_more, length-take}, lemmas.Slice.Eq.bytes_eq-Decides, lemmas.Bool.and_parts}
+use Rattle.std.proofs.Common.{◌∷◌, ◌++◌, take, length, get_or, sym, ◌∙◌, ap, arith}
+use Rattle.std.proofs.{lemmas.List.{take_more, length-take}, lemmas.Slice.Eq.bytes_eq-Decides, lemmas.Bool.and_parts}
 use Rattle.std.specs.Prelude.{bytes_eq}
-use Rattle.aout_core.specs.{declared.symbol.Symbol.Symbol, Contents.Contents, WellFormed.first_of, WellFormed.is_external}
-use Rattle.checks.specs.{Found.Found, Odd.{first_named_from, first_named, odd_symbol, odd_symbols, first_alike, has_name}}
-
-pub symbols_more : (commons : Bool) (c : Contents) (bytes : List ℕ) (symbols : List Symbol) (i : ℕ) (s : Symbol) (old new whole : List Found) →
-    i < length symbols → s ≡ get_or symbols i s →
-    new ≡ old ++ odd_symbol commons c bytes (first_alike s (take i c.symbols)) i s → old ++ odd_symbols commons c bytes i
-    (drop i symbols) ≡ whole → new ++ odd_symbols commons c bytes (i + 1) (drop (i + 1) symbols) ≡ whole
-symbols_more commons c bytes symbols i s old new whole inside is put so_far =
-    let rest : List Found = odd_symbols commons c bytes (i + 1) (drop (i + 1) symbols) in
-    ap (λ (l : List Found). l ++ rest) put
-    ∙ append_assoc old (odd_symbol commons c bytes (first_alike s (take i c.symbols)) i s) rest
-    ∙ ap (λ (l : List Symbol). old ++ odd_symbols commons c bytes i l)
-    (sym (drop_more symbols i s inside ∙ ap (λ (x : Symbol). x ∷ drop (i + 1) symbols) (sym is)))
-    ∙ so_far
+use Rattle.aout_core.specs.{declared.symbol.Symbol.Symbol, WellFormed.first_of, WellFormed.is_external}
+use Rattle.checks.specs.Odd.{first_named_from, first_named, has_name}
 
 first_named-joined : (name : List ℕ) (n : ℕ) (ss : List Symbol) (s : Symbol) → first_named_from n name (ss ++ s ∷ [])
     ≡ first_of (first_named_from n name ss) (if has_name s name then Some (n + length ss) else None)
@@ -61,11 +49,3 @@ noted_more symbols i s other found old new inside is put looked so_far =
     ∙ ap (λ (k : ℕ). first_of (first_named other before) (if has_name s other then Some k else None)) (sym count)
     ∙ sym (first_named-joined other 0 before s)
     ∙ ap (λ (l : List Symbol). first_named other l) (sym joined)
-
--- four lists that are added one after another
-pub four_parts : (old first second third fourth ks ls ms ns : List Found) → first ≡ old ++ ks → second ≡ first ++ ls →
-    third ≡ second ++ ms → fourth ≡ third ++ ns → fourth ≡ old ++ (ks ++ ls ++ ms ++ ns)
-four_parts old first second third fourth ks ls ms ns a b c d =
-    let two : second ≡ old ++ (ks ++ ls) = b ∙ ap (λ (l : List Found). l ++ ls) a ∙ append_assoc old ks ls in
-    let three : third ≡ old ++ (ks ++ ls ++ ms) = c ∙ ap (λ (l : List Found). l ++ ms) two ∙ append_assoc old (ks ++ ls) ms in
-    d ∙ ap (λ (l : List Found). l ++ ns) three ∙ append_assoc old (ks ++ ls ++ ms) ns
