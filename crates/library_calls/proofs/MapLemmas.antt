@@ -1,18 +1,16 @@
 -- Objects read for a map, one after another, with what a session takes of them.
-use Rattle.std.proofs.{Common.{◌≡◌, ℕ, List, [], ◌∷◌, ◌++◌, Result, Ok, Err, refl, sym, ap, ◌∙◌, subst, inr}, lemmas.List.map-append}
-use Rattle.std.specs.Prelude.{IsOk, IsOkAnd}
+use Rattle.std.proofs.{Common.{◌≡◌, ℕ, List, [], ◌∷◌, ◌++◌, Result, Ok, Err, refl, ap, ◌∙◌, inr}, lemmas.List.map-append}
 use Rattle.aout_core.specs.Contents.{Contents}
 use Rattle.link_session.specs.Labelled.{Labelled, objects}
-use Rattle.link_out.specs.Steps.{and_then, refused_as}
+use Rattle.link_out.specs.Steps.{refused_as}
 use Rattle.link_out.specs.Inputs as inputs
 use Rattle.tool_options.specs.Choices.{Choices}
 use Rattle.link_maps.specs.{declared.members.Objects.Objects, Links.read_inputs, Members.all_of, Taking.split_of, Taking.with_object}
 use Rattle.link_maps.proofs.TakingLemmas.{all_more, split_more}
 use Rattle.library_calls.specs.LinkRequests.{choices_in, forced_in}
-use Rattle.library_calls.specs.MapAnswers.{AreTaken, IsMapAnswer, IsMapped, MapMayRunOut, MapOf, MayRunOutInMap, map_asked, map_of_all, objects_each}
-use Rattle.library_calls.specs.{declared.cause.Cause.Cause, declared.cause.Refusal.Refusal, declared.map_call.LinkOutput.LinkOutput}
-use Rattle.library_calls.specs.{MemoryWanted.MayRunOutInParts, declared.run_call.Wants.Wants}
-use Rattle.library_calls.specs.{Causes.at, LinkAnswers.numbered, LinkAnswers.refusal_of}
+use Rattle.library_calls.specs.MapAnswers.{AreTaken, IsMapAnswer, IsMapped, MapMayRunOut, map_asked, map_of_all, objects_each}
+use Rattle.library_calls.specs.{declared.map_call.LinkOutput.LinkOutput, MemoryWanted.MayRunOutInParts, declared.run_call.Wants.Wants}
+use Rattle.library_calls.specs.LinkAnswers.{numbered, refusal_of}
 
 -- with one more object, whether it is kept or left
 module _ (old new : Objects) (e : Labelled) (taken : split_of new ≡ with_object old.session.forced (split_of old) e) where
@@ -36,20 +34,10 @@ pub mapped_all : (w : Wants) (bits : ℕ) (entry bytes : List ℕ) (parts : List
     (m : LinkOutput) → Ok o ≡ choices_in bits entry → Ok forced ≡ forced_in bytes → objects_each parts ≡ Ok os →
     (read_inputs (numbered 0 parts) ≡ Ok os → IsMapped w (map_of_all o forced (numbered 0 parts) os) m) → IsMapAnswer w (map_asked bits entry bytes parts) m
 mapped_all w bits entry bytes parts o forced os m first second third mapped =
-    subst (λ (r : Result MapOf Refusal). IsMapAnswer w r m)
-    (sym (ap (λ (r : Result Choices Cause).
-    and_then (at 0 r) (λ x. and_then (forced_in bytes)
-    (λ names. and_then (objects_each parts) (λ l. Ok (map_of_all x names (numbered 0 parts) l))))) (sym first)
-    ∙ ap (λ (r : Result (List (List ℕ)) Refusal). and_then r (λ names. and_then (objects_each parts) (λ l. Ok (map_of_all o names (numbered 0 parts) l))))
-    (sym second)
-    ∙ ap (λ (r : Result (List Contents) Refusal). and_then r (λ l. Ok (map_of_all o forced (numbered 0 parts) l))) third))
-    (mapped (read_all (read_inputs (numbered 0 parts)) os third))
+    rw (← first, ← second, third) (mapped (read_all (read_inputs (numbered 0 parts)) os third))
 
 -- memory may run out in a map, once the options and the forced names are accepted
 pub map_runs_out : (bits : ℕ) (entry bytes : List ℕ) (parts : List (List ℕ)) (o : Choices) (forced : List (List ℕ)) (place : ℕ) →
     Ok o ≡ choices_in bits entry → Ok forced ≡ forced_in bytes → MayRunOutInParts objects_each forced parts place →
     MapMayRunOut bits entry bytes parts place
-map_runs_out bits entry bytes parts o forced place first second h = (
-  subst IsOk first refl,
-  subst (λ (r : Result (List (List ℕ)) Refusal). IsOkAnd r (λ names. MayRunOutInMap names parts place)) second (inr h),
-)
+map_runs_out bits entry bytes parts o forced place first second h = (rw (← first) refl, rw (← second) (inr h))

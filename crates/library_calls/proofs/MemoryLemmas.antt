@@ -1,6 +1,6 @@
 -- Where memory may run out, stage by stage.
-use Rattle.std.proofs.Common.{◌≡◌, ℕ, List, [], Result, Ok, Err, refl, sym, ap, ◌∙◌, subst, inl}
-use Rattle.std.specs.Prelude.{IfErr, IsOk, IsOkAnd}
+use Rattle.std.proofs.Common.{◌≡◌, ℕ, List, [], Result, Ok, Err, refl, ap, ◌∙◌, inl}
+use Rattle.std.specs.Prelude.{IfErr, IsOk}
 use Rattle.aout_core.specs.{Refusals.refused, Contents.Contents}
 use Rattle.link_session.specs.{Labelled.Labelled, Labelled.objects, Undo.Kept}
 use Rattle.tool_options.specs.Choices.{Choices}
@@ -45,12 +45,7 @@ module _ (forced : List (List ℕ)) (o : Choices) (parts : List (List ℕ)) wher
   run_is : (w : Wants) (k : Kept) → k.forced ≡ forced → taken_each forced parts ≡ Ok (objects k.entries) →
       parts_run w forced o parts ≡ at 0 (objects_run w k.forced o (objects k.entries))
   run_is w k names taken =
-      let os = objects k.entries in
-      ap (λ (r : Result (List Contents) Refusal).
-      and_then r (λ l. and_then (parts_linked forced o parts) (λ x. Ok (run_output w forced l x)))) taken
-      ∙ ap (λ (r : Result Outcome Refusal). and_then r (λ x. Ok (run_output w forced os x))) (parts_link os taken)
-      ∙ run_by w os (link forced os o)
-      ∙ ap (λ (f : List (List ℕ)). at 0 (objects_run w f o os)) (sym names)
+      let os = objects k.entries in rw (taken, parts_link os taken, names) (run_by w os (link forced os o))
 
   pub parts_given : (w : Wants) (k : Kept) (x : RunOutput) → k.forced ≡ forced → taken_each forced parts ≡ Ok (objects k.entries) →
       objects_run w k.forced o (objects k.entries) ≡ Ok x → parts_run w forced o parts ≡ Ok x
@@ -62,9 +57,7 @@ module _ (forced : List (List ℕ)) (o : Choices) (parts : List (List ℕ)) wher
   parts_not_linked w k cause names taken refused_so = run_is w k names taken ∙ ap (at 0) refused_so
 
   pub parts_not_taken : (w : Wants) (r : Refusal) → taken_each forced parts ≡ Err r → parts_run w forced o parts ≡ Err r
-  parts_not_taken w r taken =
-      ap (λ (t : Result (List Contents) Refusal).
-      and_then t (λ l. and_then (parts_linked forced o parts) (λ x. Ok (run_output w forced l x)))) taken
+  parts_not_taken w r taken = rw taken refl
 
   is_linked : (r : Result Outcome LinkFault) → IsOk r → IsOk (at 0 (refused_as NotLinked r))
   is_linked (Ok x) h = refl
@@ -74,12 +67,7 @@ module _ (forced : List (List ℕ)) (o : Choices) (parts : List (List ℕ)) wher
   pub parts_without_memory : (k : Kept) → k.forced ≡ forced → taken_each forced parts ≡ Ok (objects k.entries) →
       IsOk (link k.forced (objects k.entries) o) → MayRunOutInLink forced o parts 0
   parts_without_memory k names taken linked =
-      inl (
-        refl,
-        subst IsOk (sym (parts_link (objects k.entries) taken))
-            (is_linked (link forced (objects k.entries) o)
-            (subst (λ (f : List (List ℕ)). IsOk (link f (objects k.entries) o)) names linked)),
-      )
+      inl (refl, rw (parts_link (objects k.entries) taken) (is_linked (link forced (objects k.entries) o) (rw names at linked)))
 
 -- memory may run out in a link, once the options and the forced names are accepted
 pub link_runs_out : {A : Type 0} (bits : ℕ) (entry bytes : List ℕ) (parts : List (List ℕ)) (o : Choices) (forced : List (List ℕ))
@@ -87,6 +75,4 @@ pub link_runs_out : {A : Type 0} (bits : ℕ) (entry bytes : List ℕ) (parts : 
     IfErr given (λ r. r.cause ≡ Memory refused → MayRunOutInLink forced o parts r.place) →
     IfErr given (λ r. r.cause ≡ Memory refused → LinkMayRunOut bits entry bytes parts r.place)
 link_runs_out bits entry bytes parts o forced (Ok a) first second h = tt
-link_runs_out bits entry bytes parts o forced (Err r) first second h = λ memory.
-    subst (λ (c : Result Choices Cause). IsOkAnd c (λ x. IsOkAnd (forced_in bytes) (λ names. MayRunOutInLink names x parts r.place))) first
-    (subst (λ (n : Result (List (List ℕ)) Refusal). IsOkAnd n (λ names. MayRunOutInLink names o parts r.place)) second (h memory))
+link_runs_out bits entry bytes parts o forced (Err r) first second h = λ memory. rw (← first, ← second) (h memory)
