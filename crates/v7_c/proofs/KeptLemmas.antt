@@ -1,5 +1,5 @@
 -- What calls on a session that is kept leave, by what the library returned.
-use Rattle.std.proofs.Common.{◌≡◌, ◌≢◌, ℕ, List, Option, Some, None, Result, Ok, Err, ap, sym, ◌∙◌}
+use Rattle.std.proofs.Common.{◌≡◌, ◌≢◌, ℕ, List, Option, Some, None, Result, Ok, Err}
 use Rattle.std.specs.{Prelude.{IfOk, IfErr, IsOk, OnOk, OnErr, Vec}, declared.alloc.Global.Global}
 use Rattle.aout_core.specs.Refusals.{refused}
 use Rattle.link_session.specs.Undo.{Kept}
@@ -8,8 +8,8 @@ use Rattle.library_calls.specs.{declared.map_call.LinkOutput.LinkOutput, KeptAns
 use Rattle.library_calls.specs.RunAnswers.{RunOutput, results_of}
 use Rattle.v7_c.specs.KeptLeft.{Keeps, LeavesChange, LeavesShown, LinkMayRunOut, kept_in, of_session}
 use Rattle.v7_c.specs.Left.{IsGiven, Left, Unplaced, bytes_left, bytes_or, done_by, of_none, refusal_in}
-use Rattle.v7_c.specs.{RunLeft.or_unread, RunLeft.results_or, RunLeft.unread, RunLeft.wants_of, declared.run.Request.Request}
-use Rattle.v7_c.proofs.{LeftLemmas.refusal_by, RunLemmas.never_memory}
+use Rattle.v7_c.specs.{RunLeft.{results_or, unread, wants_of}, declared.run.Request.Request}
+use Rattle.v7_c.proofs.{LeftLemmas.refusal_by, RunLemmas.unread_refused}
 
 pub change_left : {A B : Type 0} (asked : Result A Refusal) (MayRunOut : Type 0) (Changes : Option Kept → Option Kept → Type 0)
     (old new : Option Kept) (l : Left (List ℕ)) (r : Result B Refusal) → l ≡ done_by (refusal_in r) → OnOk r (Changes old new) →
@@ -38,23 +38,17 @@ module _ (kept : Option Kept) (q : Request) (size : ℕ) where
   abbrev pub run : Result RunOutput Refusal
   run = of_session (kept_run (wants_of q.wants) q.options q.entry.now) kept
 
-  by_request : (o : Option Cause) → unread 3 q size ≡ o → kept_in kept q size ≡ or_unread o run
-  by_request o is = ap (λ (x : Option Cause). or_unread x run) is
-
   pub link_given : (r : Result LinkOutput Refusal) → unread 3 q size ≡ None → IfOk r (λ given. run ≡ Ok (results_of given.run)) →
       IfErr r (λ refusal. refusal.cause ≢ Memory refused → run ≡ Err refusal) →
       IfErr r (λ refusal. refusal.cause ≡ Memory refused → (refusal.place ≡ 0) × Keeps (MayRunOutToLink q.options q.entry.now) kept) →
       IsGiven (kept_in kept q size) (Unplaced (LinkMayRunOut kept q size)) (results_or r)
-  link_given (Ok given) known ok err memory = by_request None known ∙ ok
+  link_given (Ok given) known ok err memory = rw known ok
   link_given (Err refusal) known ok err memory =
-      refusal_by (kept_in kept q size) (Unplaced (LinkMayRunOut kept q size)) refusal (λ other. by_request None known ∙ err other)
+      refusal_by (kept_in kept q size) (Unplaced (LinkMayRunOut kept q size)) refusal (λ other. rw known (err other))
       (λ out. ((memory out).0, (known, (memory out).1)))
 
   pub link_unread : (r : Refusal) (cause : Cause) → unread 3 q size ≡ Some cause → r ≡ of_none cause →
       IsGiven (kept_in kept q size) (Unplaced (LinkMayRunOut kept q size)) (Err r)
-  link_unread r cause is same =
-      refusal_by (kept_in kept q size) (Unplaced (LinkMayRunOut kept q size)) r
-      (λ other. by_request (Some cause) is ∙ ap (λ (x : Refusal). Err x) (sym same))
-      (λ out. absurd (never_memory 3 q size r cause is same out))
+  link_unread r cause is same = unread_refused 3 q size run (Unplaced (LinkMayRunOut kept q size)) r cause is same
 
 pub ruleset by_link = (link_given, link_unread)

@@ -1,5 +1,5 @@
 -- What the library answers to a request.
-use Rattle.std.proofs.Common.{◌≡◌, ◌≢◌, ℕ, Bool, true, false, nat_lt, if◌then◌else◌, Option, Some, None, Result, Ok, Err, IfOk, IfErr, ap, ◌∙◌}
+use Rattle.std.proofs.Common.{◌≡◌, ◌≢◌, ℕ, Bool, true, false, nat_lt, if◌then◌else◌, Some, None, Result, Ok, Err, IfOk, IfErr, refl, ap, ◌∙◌}
 use Rattle.std.proofs.Common.{subst, sym}
 use Rattle.aout_core.specs.Refusals.{refused}
 use Rattle.library_calls.specs.MapAnswers.{IsMapAnswer, MapGiven, MapMayRunOut, MapOf, map_asked, map_given, no_map}
@@ -7,7 +7,7 @@ use Rattle.library_calls.specs.RunAnswers.{RunOutput, link_run, no_run, results_
 use Rattle.library_calls.specs.declared.cause.Cause.TheVariants.{Memory, NoWant, NotKept, ShortStruct}
 use Rattle.library_calls.specs.{declared.cause.Cause.Cause, declared.cause.Refusal.Refusal, declared.map_call.LinkOutput.LinkOutput, declared.run_call.RunResult.RunResult}
 use Rattle.library_calls.specs.{FileAnswers.has_bit, LinkAnswers.each_of, MemoryWanted.LinkMayRunOut}
-use Rattle.v7_c.specs.{Left.{refused as refused_as_said, of_none}, declared.answer.Answer.Answer, declared.run.Request.Request}
+use Rattle.v7_c.specs.{Left.{refused as refused_as_said, of_none, IsRefusal}, declared.answer.Answer.Answer, declared.run.Request.Request}
 use Rattle.v7_c.specs.RunLeft.{AnswerBy, IsAnswer, MapRunsOut, RunMayRunOut, RunLeft, answered, is_enough, map_in}
 use Rattle.v7_c.specs.RunLeft.{or_unread, run_in, unread, wants_of}
 use Rattle.v7_c.proofs.LeftLemmas.{refusal_by}
@@ -20,12 +20,13 @@ never_by false false true enough h = absurd (cc)
 never_by false false false true h = absurd (cc)
 never_by false false false false h = absurd (cc)
 
--- memory is not why a request cannot be read
-pub never_memory : (most : ℕ) (q : Request) (size : ℕ) (r : Refusal) (cause : Cause) → unread most q size ≡ Some cause → r ≡ of_none cause →
-    r.cause ≡ Memory refused → ⊥
-never_memory most q size r cause is same out =
-    never_by (nat_lt q.size 64) (nat_lt 15 q.wants) (nat_lt most q.wants) (is_enough q.wants size)
-    (is ∙ ap (λ (c : Cause). Some c) (sym (ap (λ (x : Refusal). x.cause) same) ∙ out))
+-- a request that cannot be read is refused, whatever it asks for, and memory is not why
+pub unread_refused : {A : Type 0} (most : ℕ) (q : Request) (size : ℕ) (asked : Result A Refusal) (MayRunOut : ℕ → Type 0) (r : Refusal)
+    (cause : Cause) → unread most q size ≡ Some cause → r ≡ of_none cause → IsRefusal (or_unread (unread most q size) asked) MayRunOut r
+unread_refused most q size asked MayRunOut r cause is same =
+    refusal_by (or_unread (unread most q size) asked) MayRunOut r (λ other. rw (is, same) refl)
+    (λ out. absurd (never_by (nat_lt q.size 64) (nat_lt 15 q.wants) (nat_lt most q.wants) (is_enough q.wants size)
+    (is ∙ ap (λ (c : Cause). Some c) (sym (ap (λ (x : Refusal). x.cause) same) ∙ out))))
 
 module _ (q : Request) (size : ℕ) where
   abbrev run_asked : Result RunOutput Refusal
@@ -33,12 +34,6 @@ module _ (q : Request) (size : ℕ) where
 
   abbrev asked : Result MapOf Refusal
   asked = map_asked q.options q.entry.now q.forced.now (each_of q.objects.now)
-
-  run_is : (o : Option Cause) → unread 15 q size ≡ o → run_in q size ≡ or_unread o run_asked
-  run_is o is = ap (λ (x : Option Cause). or_unread x run_asked) is
-
-  map_is : (o : Option Cause) → unread 15 q size ≡ o → map_in q size ≡ or_unread o asked
-  map_is o is = ap (λ (x : Option Cause). or_unread x asked) is
 
   by_bit : (b : Bool) (r : Result LinkOutput Refusal) → has_bit q.wants 8 ≡ b → AnswerBy b q size r → IsAnswer q size r
   by_bit b r is h = subst (λ (x : Bool). AnswerBy x q size r) (sym is) h
@@ -48,19 +43,15 @@ module _ (q : Request) (size : ℕ) where
       IfErr r (λ refusal. refusal.cause ≢ Memory refused → asked ≡ Err refusal) →
       IfErr r (λ refusal. refusal.cause ≡ Memory refused → MapMayRunOut q.options q.entry.now q.forced.now
       (each_of q.objects.now) refusal.place) → IsAnswer q size r
-  map_answer (Ok x) known wanted ok err memory =
-      by_bit true (Ok x) wanted (subst (λ (r : Result MapOf Refusal). IsMapAnswer (wants_of q.wants) r x) (sym (map_is None known)) ok)
+  map_answer (Ok x) known wanted ok err memory = by_bit true (Ok x) wanted (rw known ok)
   map_answer (Err refusal) known wanted ok err memory =
       by_bit true (Err refusal) wanted
-      (refusal_by (map_in q size) (MapRunsOut q size) refusal (λ other. map_is None known ∙ err other) (λ out. (known, memory out)))
+      (refusal_by (map_in q size) (MapRunsOut q size) refusal (λ other. rw known (err other)) (λ out. (known, memory out)))
 
   pub run_answer : (x : LinkOutput) (run : RunResult) → unread 15 q size ≡ None → has_bit q.wants 8 ≡ false → x.run ≡ run →
       map_given x ≡ no_map → run_asked ≡ Ok (results_of run) → IsAnswer q size (Ok x)
   run_answer x run known unwanted same no_map ok =
-      by_bit false (Ok x) unwanted (
-        run_is None known ∙ ok ∙ ap (λ (r : RunResult). Ok (results_of r)) (sym same),
-        no_map,
-      )
+      by_bit false (Ok x) unwanted (rw (known, same) ok, no_map)
 
   pub run_refused : (refusal : Refusal) → unread 15 q size ≡ None → has_bit q.wants 8 ≡ false →
       (refusal.cause ≢ Memory refused → run_asked ≡ Err refusal) →
@@ -68,19 +59,15 @@ module _ (q : Request) (size : ℕ) where
       IsAnswer q size (Err refusal)
   run_refused refusal known unwanted err memory =
       by_bit false (Err refusal) unwanted
-      (refusal_by (run_in q size) (RunMayRunOut q size) refusal (λ other. run_is None known ∙ err other) (λ out. (known, memory out)))
+      (refusal_by (run_in q size) (RunMayRunOut q size) refusal (λ other. rw known (err other)) (λ out. (known, memory out)))
 
   pub unread_answer : (r : Refusal) (cause : Cause) → unread 15 q size ≡ Some cause → r ≡ of_none cause → IsAnswer q size (Err r)
   unread_answer r cause is same =
       by_bits (has_bit q.wants 8)
     where
       by_bits : (b : Bool) → AnswerBy b q size (Err r)
-      by_bits true =
-          refusal_by (map_in q size) (MapRunsOut q size) r (λ other. map_is (Some cause) is ∙ ap (λ (x : Refusal). Err x) (sym same))
-          (λ out. absurd (never_memory 15 q size r cause is same out))
-      by_bits false =
-          refusal_by (run_in q size) (RunMayRunOut q size) r (λ other. run_is (Some cause) is ∙ ap (λ (x : Refusal). Err x) (sym same))
-          (λ out. absurd (never_memory 15 q size r cause is same out))
+      by_bits true = unread_refused 15 q size asked (MapRunsOut q size) r cause is same
+      by_bits false = unread_refused 15 q size run_asked (RunMayRunOut q size) r cause is same
 
 pub ruleset by_answer = (map_answer, run_answer, run_refused, unread_answer)
 
