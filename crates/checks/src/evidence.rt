@@ -8,11 +8,11 @@ use disassemblies::Sweep;
 pub enum Evidence {
     /// The symbols of text, and operand words that count from the pc and are relocated so, which no data has. It may be data.
     Names,
-    /// Control comes there for sure, from the entry of a linked file, or from a function that begins as those of the Seventh Edition's C
-    /// compiler do; so not after a branch or a call.
+    /// Control is sure to come there, from the entry of a linked file, or from a function that begins as the Seventh Edition's C compiler
+    /// begins each. After a branch or a call it is not sure.
     Flow,
-    /// The caller promises that all of the text is instructions, and nothing else is: then one begins at its beginning, at each symbol of text, and after each
-    /// other one.
+    /// The caller promises that all of the text is instructions. So one begins at the beginning of the text, at each symbol of text, and
+    /// after each other one.
     Promise,
 }
 

@@ -136,7 +136,7 @@ impl Findings {
         }
     }
 
-    /// Where they have their memory.
+    /// The allocator of their memory.
     pub fn allocator(&self) -> Global {
         *self.list.allocator()
     }
@@ -164,7 +164,7 @@ impl Findings {
         }
     }
 
-    /// Adds a finding that is sure, if a condition holds. Its text is what is written; no contract says which.
+    /// Adds a finding that is sure, with this text, if a condition holds.
     pub fn find_if<D: Display + Drop>(
         &mut self,
         holds: bool,
@@ -177,7 +177,7 @@ impl Findings {
         self.find_if_as(true, holds, place, kind, says);
     }
 
-    /// The same of one that is sure or in doubt; then its text ends with an `if`.
+    /// Adds a finding that is sure or in doubt, if a condition holds. In doubt, its text ends with an `if`.
     pub fn find_if_as<D: Display + Drop>(
         &mut self,
         is_sure: bool,

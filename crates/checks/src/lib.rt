@@ -1,10 +1,10 @@
 //! What kind of file some bytes are, and what is wrong, odd or suspicious in it, for `v7-explain` and libv7.
 //!
-//! A finding has the byte of the file where it is, counted from 0. `wrong_bytes` and `wrong_words` find what is damaged, and why; `odd_of`
-//! finds what is not refused, but unusual. `suspicions_of` finds where a text is not one of instructions that lead to instructions: those
-//! never begin with a relocated word, and an operand word has the pc bit exactly if its operand counts from the pc. docs/OBJECTS.md shows
-//! all three. Proved: which findings there are, at which bytes, and whether each is sure. Only tested: what findings and notes say, what a
-//! file is that is not an a.out file, and what is there of one that ends early.
+//! A finding has the byte of the file where it is, counted from 0. `wrong_bytes` and `wrong_words` find what is damaged, and why. `odd_of`
+//! finds what is not refused, but unusual. `suspicions_of` finds words of a text that are unlikely as instructions: no instruction begins
+//! with a relocated word, and a relocated operand word has the pc bit if and only if its operand counts from the pc. docs/OBJECTS.md shows
+//! all three. Proved: which findings there are, at which bytes, and whether each is sure. Only tested: the words of findings and notes, what
+//! other kind of file some bytes are, and what is there of a file that ends early.
 //!
 //! An example:
 //!

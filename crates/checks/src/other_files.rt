@@ -142,8 +142,8 @@ pub fn likeness(bytes: &[u8]) -> Option<&'static str> {
     other_form(bytes).map(form_text)
 }
 
-/// Whether a refusal by `convert` is one of an object in the form of GNU's assembler. Of some refusals it is one only if `is_odd`.
-fn is_of_gnu_refused(refusal: Refusal, is_odd: bool) -> bool {
+/// Whether a file that `convert` refuses is in the form of GNU's assembler. After some refusals it is only if nothing else reads it.
+fn is_of_gnu_refused(refusal: Refusal, is_unread: bool) -> bool {
     match refusal {
         Refusal::Linked(_)
         | Refusal::TooManySymbols(_)
@@ -152,17 +152,18 @@ fn is_of_gnu_refused(refusal: Refusal, is_odd: bool) -> bool {
         | Refusal::LocalWord(_, _)
         | Refusal::BadWord(_) => true,
         Refusal::Overlay(_) | Refusal::BadPlace(_) | Refusal::Stab(_) | Refusal::Description(_) => {
-            is_odd
+            is_unread
         }
         _ => false,
     }
 }
 
 /// Whether a file is in the form of GNU's assembler and of 2.11BSD, with symbols of 8 bytes and their names after them.
-/// A file without symbols has both forms, and is not recognized, and neither is one of another magic than 0407.
+/// A file without symbols has both forms, and is not recognized, and neither is one of another magic than 0407. `is_unread` says that the
+/// bytes are not a file of the Seventh Edition. (own choice)
 ///
 /// An error: out of memory.
-pub fn is_of_gnu(alloc: Global, bytes: &[u8], is_odd: bool) -> Result<bool, AllocError> {
+pub fn is_of_gnu(alloc: Global, bytes: &[u8], is_unread: bool) -> Result<bool, AllocError> {
     match header_of(bytes) {
         Some(header) if header.symbol_size > 0 => {}
         _ => return Ok(false),
@@ -174,6 +175,6 @@ pub fn is_of_gnu(alloc: Global, bytes: &[u8], is_odd: bool) -> Result<bool, Allo
     match convert(alloc, bytes, options) {
         Ok(_) => Ok(true),
         Err(Refusal::Memory(refused)) => Err(AllocError::from(refused)),
-        Err(refusal) => Ok(is_of_gnu_refused(refusal, is_odd)),
+        Err(refusal) => Ok(is_of_gnu_refused(refusal, is_unread)),
     }
 }

@@ -26,7 +26,7 @@ pub enum LongPart {
 /// Why a call has no answer. If memory runs out it is `Memory`, whatever was being done. (own choice)
 #[derive(Clone, Copy, Debug, PartialEq, Eq)]
 pub enum Cause {
-    /// 1: a bit of the options stands for none, or the form for none.
+    /// 1: a bit is not an option, or the number of a form is not a form.
     NoOption,
     /// 2: options exclude each other.
     Excluded,
@@ -42,7 +42,7 @@ pub enum Cause {
     ShortStruct,
     /// 8: no session is begun.
     NoSession,
-    /// 9: a bit of what is wanted stands for nothing.
+    /// 9: a bit is not of what can be wanted.
     NoWant,
     /// 10: a session is begun already.
     SessionOpen,

@@ -28,7 +28,8 @@ pub fn begin_session(alloc: Global, forced: &[u8]) -> Result<Session, Refusal>
 /// Adds the object that the bytes begin with. An error leaves the session as it was. (ld(1))
 ///
 /// Errors, the first that applies: `BadFile`, 11 to 14, if the bytes do not begin with a file; `BadObject`, 21 to 24, if it is not an
-/// object; `NotAdded`, 31 to 34, if it passes a limit. `Memory`, 50, if memory runs out for a whole file, or for an object that is accepted.
+/// object; `NotAdded`, 31 to 34, if it passes a limit. `Memory`, 50, if memory runs out for a whole file, or for an object that is
+/// accepted.
 pub fn add_bytes(alloc: Global, session: &mut Session, bytes: &[u8]) -> Result<(), Cause>
     ensures ok { OnOk result (AddsBytes bytes.now session.old session.new) }
     ensures err { IfErr result (λ cause. cause ≢ Memory refused → taken_in bytes.now session.old ≡ Err cause) }
@@ -61,8 +62,8 @@ pub fn withdraw_last(session: &mut Session) -> Result<(), Cause>
 
 /// Links what a session keeps, and returns what is wanted of the report, but for the objects of what is reported. (ld(1))
 ///
-/// Errors, the first that applies: `NoOption`, 1, `Excluded`, 2, and `LongName`, 3, if the options or the name of the entry point are wrong;
-/// `NotLinked`, 41 to 43, if there is no link. `Memory`, 50, if memory runs out for the link.
+/// Errors, the first that applies: `NoOption`, 1, `Excluded`, 2, and `LongName`, 3, if the options or the name of the entry point are
+/// wrong; `NotLinked`, 41 to 43, if there is no link. `Memory`, 50, if memory runs out for the link.
 #[tactic(auto, using(crate::proofs::MemoryLemmas::there_is_one))]
 pub fn link_session(
     alloc: Global,

@@ -197,9 +197,8 @@ fn run_parts(
     }
 }
 
-/// Links the object that each of the parts begins with, in their order, and returns what is wanted of the report. Each is read, checked and added before the next one is read, and a refusal ends the
-/// link. The bytes after an object in its part are not looked at, so an object that is cut short is refused itself, as in ld. Without
-/// parts there are no objects. (ld(1))
+/// Links the object that each of the parts begins with, in their order, and returns what is wanted of the report. Each is read, checked
+/// and added before the next one is read, and a refusal ends the link. The bytes after an object in its part are not looked at. (ld(1))
 ///
 /// Errors, the first that applies:
 ///

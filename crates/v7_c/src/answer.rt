@@ -13,11 +13,11 @@ pub struct Answer {
     pub fault: u32,
     /// The index of the bad word, if the fault is in a word.
     pub word: u32,
-    /// The number of the object, of the forced name, or of the edit that has the fault.
+    /// The number of the object or of the forced name that has the fault, the line of a listing, or the byte of an object in GNU's form.
     pub place: usize,
     /// How many bytes there are for the first buffer.
     pub size: usize,
-    /// How many bytes there are for the second buffer.
+    /// How many remarks there are.
     pub report_size: usize,
 }
 
