@@ -1,9 +1,7 @@
 //! Notes on a file, a line each. Only tested: what they say.
-ghost use Rattle.std.specs.Prelude.{◌≡◌, []};
 
 use std::alloc::{AllocError, Global};
 use std::fmt::Display;
-use std::marker::Model;
 use texts::Text;
 
 /// Notes while they are collected. Once memory runs out they are cut, and `whole` returns the error.
@@ -13,21 +11,9 @@ pub struct Notes {
     refused: Option<AllocError>,
 }
 
-impl Model for Notes {
-    ghost use Rattle.std.specs.Prelude.{ℕ, List, map};
-
-    ghost Value = { List (List ℕ) };
-
-    ghost view = { λ n. map (λ v. v.items) n.list.items };
-}
-
 impl Notes {
-    ghost use Rattle.std.specs.Prelude.{◌≡◌, [], map};
-
     /// None yet.
-    pub fn new(alloc: Global) -> Notes
-        ensures { result ≡ [] }
-    {
+    pub fn new(alloc: Global) -> Notes {
         Notes {
             list: Vec::new(alloc),
             refused: None,
@@ -71,9 +57,7 @@ impl Notes {
     }
 
     /// The notes so far.
-    pub fn lines(&self) -> &[Vec<u8>]
-        ensures { map (λ v. v.items) result.now ≡ self.now }
-    {
+    pub fn lines(&self) -> &[Vec<u8>] {
         &self.list
     }
 }
