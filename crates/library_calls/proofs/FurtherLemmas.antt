@@ -11,14 +11,11 @@ use Rattle.library_calls.specs.FindingPlaces.{differing, further_among}
 pub all_but_last : (r : Option (String Global × Contents)) (old new : Kept) → (IsNone r → (old.entries ≡ []) × (new ≡ old)) →
     IfSome r (λ last. Withdraws old new (labelled last.0 last.1)) → new.entries ≡ take (length old.entries - 1) old.entries
 all_but_last None old new none some =
-    let h = none refl in
-    ap (λ (k : Kept). k.entries) h.1 ∙ h.0 ∙ sym (ap (λ (es : List Labelled). take (length es - 1) es) h.0)
+    let h = none refl in rw (h.1, h.0) refl
 all_but_last (Some last) old new none some =
     let e : Labelled = labelled last.0 last.1 in
     let shorter : length new.entries ≡ length (new.entries ++ e ∷ []) - 1 = omega (arith, length-append new.entries (e ∷ [])) in
-    sym (take-append_seam new.entries (e ∷ []))
-    ∙ ap (λ (n : ℕ). take n (new.entries ++ e ∷ [])) shorter
-    ∙ sym (ap (λ (es : List Labelled). take (length es - 1) es) some.entries)
+    rw (some.entries, ← shorter) (sym (take-append_seam new.entries (e ∷ [])))
 
 pub same_forced : (r : Option (String Global × Contents)) (old new : Kept) → (IsNone r → (old.entries ≡ []) × (new ≡ old)) →
     IfSome r (λ last. Withdraws old new (labelled last.0 last.1)) → new.forced ≡ old.forced
@@ -36,10 +33,7 @@ reverse_replicate (suc n) x =
 module _ (forced : List (List ℕ)) (es : List Labelled) where
   count_of : (k : Kept) (n : ℕ) → k.forced ≡ forced → k.entries ≡ take n es →
       differing k.forced (objects k.entries) ≡ differing forced (take n (objects es))
-  count_of k n same are =
-      ap (λ (f : List (List ℕ)). differing f (objects k.entries)) same
-      ∙ ap (λ (l : List Labelled). differing forced (objects l)) are
-      ∙ ap (differing forced) (sym (take-map (λ (e : Labelled). e.object) n es))
+  count_of k n same are = rw (same, are) (ap (differing forced) (sym (take-map (λ (e : Labelled). e.object) n es)))
 
   -- one object less is left, and its number is put in so often
   pub one_less : (n times : ℕ) (old new : Kept) (numbers more whole : List ℕ) → old.forced ≡ forced → old.entries ≡ take (n + 1) es →
@@ -55,10 +49,5 @@ module _ (forced : List (List ℕ)) (es : List Labelled) where
       ∙ ap (λ (k : ℕ). k - differing new.forced (objects new.entries))
       (count_of old (n + 1) old_forced old_are ∙ ap (λ (k : ℕ). differing forced (take k (objects es))) on)
       ∙ ap (λ (k : ℕ). differing forced (take (suc n) (objects es)) - k) (count_of new n new_forced new_are) in
-      ap (λ (l : List ℕ). front ++ reverse l) put
-      ∙ ap (λ (l : List ℕ). front ++ l) (reverse-append numbers (replicate times n)
-      ∙ ap (λ (l : List ℕ). l ++ reverse numbers) (reverse_replicate times n))
-      ∙ sym (append_assoc front (replicate times n) (reverse numbers))
-      ∙ ap (λ (k : ℕ). (front ++ replicate k n) ++ reverse numbers) often
-      ∙ ap (λ (k : ℕ). further_among forced (objects es) k ++ reverse numbers) (sym on)
-      ∙ so_far
+      rw (put, reverse-append numbers (replicate times n), reverse_replicate times n,
+      ← append_assoc front (replicate times n) (reverse numbers), often) (rw on at so_far)
