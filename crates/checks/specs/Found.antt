@@ -46,11 +46,11 @@ pub record Found : Type 0 where
   -- it is not in doubt
   pub is_sure : Bool
 
-abbrev pub found_in : Finding → Found
-found_in f = record { place = f.place; kind = f.kind; is_sure = f.is_sure }
+abbrev pub found_of : Finding → Found
+found_of f = record { place = f.place; kind = f.kind; is_sure = f.is_sure }
 
-abbrev pub all_found : List Finding → List Found
-all_found findings = map found_in findings
+abbrev pub each_found : List Finding → List Found
+each_found findings = map found_of findings
 
 -- one finding at a byte, if the test holds, which is sure or in doubt
 abbrev pub found_as : Bool → Bool → ℕ → FindingKind → List Found
@@ -60,9 +60,9 @@ abbrev pub found_if : Bool → ℕ → FindingKind → List Found
 found_if test place kind = found_as true test place kind
 
 -- what is found of a thing, if it is there
-abbrev pub found_of : {A : Type 0} → Option A → (A → List Found) → List Found
-found_of None found = []
-found_of (Some x) found = found x
+abbrev pub found_by : {A : Type 0} → Option A → (A → List Found) → List Found
+found_by None found = []
+found_by (Some x) found = found x
 
 -- what is found so far; once memory ran out it is cut, and nothing is known of it
 pub record Collected : Type 0 where

@@ -27,7 +27,7 @@ use Rattle.checks.specs.declared.referent.Mismatch.TheVariants.{Unmarked, Unrelo
 use Rattle.checks.specs.{declared.referent.Referent.Referent, declared.referent.Access.Access, declared.referent.Mismatch.Mismatch}
 use Rattle.checks.specs.{declared.evidence.Evidence.Evidence, declared.trust.Trust.Trust, Reached.is_promised}
 use Rattle.checks.specs.Branches.{word_place}
-use Rattle.checks.specs.{declared.finding.FindingKind.TheVariants.UnsuitableReference, Found.{Found, found_as, found_of}, Segments.bss_to}
+use Rattle.checks.specs.{declared.finding.FindingKind.TheVariants.UnsuitableReference, Found.{Found, found_as, found_by}, Segments.bss_to}
 
 -- what a number refers to, by the kind of its relocation word
 abbrev pub referent_of : Reloc → ℕ → Option Kind → Referent
@@ -110,8 +110,8 @@ is_certain promised _ = true
 -- the operand that has this word at a place
 abbrev pub suspicious_reference : Evidence → Contents → Trust → ℕ → Bool → Option Operand → ℕ → List Found
 suspicious_reference e c t place jumps (Some (General m r)) word =
-    found_of (addressing m r) (λ a. found_of (slice_get c.text_reloc place) (λ reloc.
-    found_of (mismatch_of c (access_by jumps a) (referred (counts_from_pc a) reloc (2 * place + 2) word)) (λ wrong.
+    found_by (addressing m r) (λ a. found_by (slice_get c.text_reloc place) (λ reloc.
+    found_by (mismatch_of c (access_by jumps a) (referred (counts_from_pc a) reloc (2 * place + 2) word)) (λ wrong.
     found_as (t.is_sure && is_certain (is_promised e) wrong) true (word_place place) UnsuitableReference)))
 suspicious_reference e c t place jumps _ word = []
 

@@ -20,7 +20,7 @@ use Rattle.instructions.specs.{declared.unix.UnixLine.TheVariants.{Machine, Call
 use Rattle.instructions.specs.{Instructions.{instruction_of, word_count_of}, Lines.{line_at, line_length}, Relocated.is_relocated}
 use Rattle.disassemblies.specs.{Lines.unix_line_in, Starts.starts, Starts.is_start}
 use Rattle.checks.specs.declared.finding.FindingKind.TheVariants.{RelocatedFirstWord, UnsuitablePcBit, CutInstruction, NoInstruction}
-use Rattle.checks.specs.{Found.{Found, found_as, found_of}, Odd.odd, Branches.{of_lines, word_place, suspicious_branch}}
+use Rattle.checks.specs.{Found.{Found, found_as, found_by}, Odd.odd, Branches.{of_lines, word_place, suspicious_branch}}
 use Rattle.checks.specs.{Addresses.suspicious_addresses, Referents.suspicious_references, Uses.suspicious_uses}
 use Rattle.checks.specs.{declared.evidence.Evidence.Evidence, declared.trust.Trust.Trust, Reached.branch_of, Trust.trust}
 
@@ -49,7 +49,7 @@ is_immediate _ = false
 -- the operand whose word, if it has one, is at a place
 abbrev pub suspicious_operand : Contents → Bool → ℕ → Option Operand → List Found
 suspicious_operand c is_sure place (Some (General m r)) =
-    found_of (addressing m r) (λ a. found_of (slice_get c.text_reloc place) (λ reloc.
+    found_by (addressing m r) (λ a. found_by (slice_get c.text_reloc place) (λ reloc.
     found_as (is_sure && not (is_immediate a)) (is_relocated (Some reloc) && differ (is_pc_relative reloc) (counts_from_pc a))
     (reloc_place c place) UnsuitablePcBit))
 suspicious_operand c is_sure place _ = []

@@ -114,16 +114,16 @@ pub struct Findings {
 
 impl Model for Findings {
     ghost use Rattle.std.specs.Option.{is_some};
-    ghost use Rattle.checks.specs.Found.{Collected, all_found};
+    ghost use Rattle.checks.specs.Found.{Collected, each_found};
 
     ghost Value = { Collected };
 
-    ghost view = { λ f. record { found = all_found f.list.items; is_cut = is_some f.refused } };
+    ghost view = { λ f. record { found = each_found f.list.items; is_cut = is_some f.refused } };
 }
 
 impl Findings {
     ghost use Rattle.std.specs.Prelude.{◌≡◌, [], false, true, IfOk};
-    ghost use Rattle.checks.specs.Found.{all_found, Finds, found_as, found_if};
+    ghost use Rattle.checks.specs.Found.{each_found, Finds, found_as, found_if};
 
     /// None yet.
     pub fn new(alloc: Global) -> Findings
@@ -208,7 +208,7 @@ impl Findings {
     /// The findings. An error, out of memory, if they are cut.
     pub fn finish(self) -> Result<Vec<Finding>, AllocError>
         ensures { IfOk result (λ list.
-            (self.is_cut ≡ false) × (all_found list.items ≡ self.found)) }
+            (self.is_cut ≡ false) × (each_found list.items ≡ self.found)) }
     {
         let Findings { list, refused } = self;
         match refused {

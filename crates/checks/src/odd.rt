@@ -5,7 +5,7 @@ ghost use Rattle.std.specs.{Prelude.{OnOk, List, ℕ}, List.{flat_map, list_any}
 ghost use Rattle.aout_core.specs.{WellFormed.is_external, Placed.{placed_word, placed_words, relocs_of, words_of}};
 ghost use Rattle.checks.specs.Odd.{after_name, first_alike, has_name, has_type, ignores_number, is_hidden, odd, odd_fields, odd_header};
 ghost use Rattle.checks.specs.Odd.{odd_rest, odd_name, refers_to, is_unused, odd_reloc, odd_symbol, odd_symbols, odd_word};
-ghost use Rattle.checks.specs.{Found.{all_found, Finds}, Segments.segment_meant, Outside.is_byte};
+ghost use Rattle.checks.specs.{Found.{each_found, Finds}, Segments.segment_meant, Outside.is_byte};
 
 use crate::finding::{Finding, FindingKind, Findings};
 use crate::outside::{has_byte, is_sure_value, is_sure_word};
@@ -375,7 +375,7 @@ pub fn odd_of(
     commons: bool,
 ) -> Result<Vec<Finding>, AllocError>
     ensures { IfOk result (λ findings.
-        all_found findings.items ≡ odd commons bytes.now sweep.now) }
+        each_found findings.items ≡ odd commons bytes.now sweep.now) }
 {
     let mut findings = Findings::new(alloc);
     let source = Source {

@@ -1,7 +1,7 @@
 //! What is suspicious in a text. Only tested: what the findings say.
 ghost use Rattle.std.specs.Prelude.{◌≡◌, ◌^◌, ◌<◌, length, IfOk};
 ghost use Rattle.instructions.specs.Instructions.{instruction_of};
-ghost use Rattle.checks.specs.{Found.{all_found, Finds}, Trust.trust, Branches.of_lines, internal.Marks.ShowReached};
+ghost use Rattle.checks.specs.{Found.{each_found, Finds}, Trust.trust, Branches.of_lines, internal.Marks.ShowReached};
 ghost use Rattle.checks.specs.declared.evidence.Evidence.TheVariants.{Names};
 ghost use Rattle.checks.specs.Suspicions.{reloc_place, may_begin, suspicious_operand, is_foreign, suspicious_lack, suspicious_plain};
 ghost use Rattle.checks.specs.Suspicions.{suspicious_line, suspicious_at, suspicious_place, suspicious_words, suspicions, all_odd};
@@ -236,7 +236,7 @@ pub fn suspicions_of(
     sweep: &Sweep<'_>,
 ) -> Result<Vec<Finding>, AllocError>
     ensures { IfOk result (λ findings.
-        all_found findings.items ≡ suspicions evidence sweep.now) }
+        each_found findings.items ≡ suspicions evidence sweep.now) }
 {
     let mut findings = Findings::new(alloc);
     let names = reached_places(alloc, Evidence::Names, sweep)?;
@@ -259,7 +259,7 @@ pub fn all_odd_of(
     commons: bool,
 ) -> Result<Vec<Finding>, AllocError>
     ensures { IfOk result (λ found.
-        all_found found.items ≡ all_odd evidence commons bytes.now sweep.now) }
+        each_found found.items ≡ all_odd evidence commons bytes.now sweep.now) }
 {
     let mut found = odd_of(alloc, bytes, sweep, commons)?;
     let mut more = suspicions_of(alloc, evidence, sweep)?;

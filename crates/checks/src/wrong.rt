@@ -1,7 +1,7 @@
 //! What is damaged in a file.
 ghost use Rattle.std.specs.Prelude.{◌≡◌, ◌^◌, ◌<◌, ◌++◌, length, IfOk, OnOk};
 ghost use Rattle.aout_core.specs.WellFormed.{word_fault};
-ghost use Rattle.checks.specs.Found.{all_found, Finds};
+ghost use Rattle.checks.specs.Found.{each_found, Finds};
 ghost use Rattle.checks.specs.Wrong.{odd_size, odd_sizes, wrong_bytes, fault_kind, is_damaged, bad_words, all_bad_words, more_bad_words};
 ghost use Rattle.checks.specs.{Wrong.{wrong_in, wrong_words}, internal.BadWords.all_bad};
 
@@ -104,7 +104,7 @@ pub fn wrong_bytes(
     bytes: &[u8],
     fault: ReadFault,
 ) -> Result<Vec<Finding>, AllocError>
-    ensures { IfOk result (λ findings. all_found findings.items ≡ wrong_bytes fault bytes.now) }
+    ensures { IfOk result (λ findings. each_found findings.items ≡ wrong_bytes fault bytes.now) }
 {
     let mut findings = Findings::new(alloc);
     find_wrong(&mut findings, bytes, fault);
@@ -250,7 +250,7 @@ fn find_more(findings: &mut Findings, header: &Header, count: usize)
 
 /// The bad relocation words of a file, the first of them one by one. An error: out of memory.
 pub fn wrong_words(alloc: Global, file: &File) -> Result<Vec<Finding>, AllocError>
-    ensures { IfOk result (λ findings. all_found findings.items ≡ wrong_words file.now) }
+    ensures { IfOk result (λ findings. each_found findings.items ≡ wrong_words file.now) }
 {
     let mut findings = Findings::new(alloc);
     let bad = bad_words_of(alloc, file)?;
@@ -277,7 +277,7 @@ pub fn wrong_in(
     file: &File,
     refused: Option<ObjectFault>,
 ) -> Result<Vec<Finding>, AllocError>
-    ensures { IfOk result (λ wrong. all_found wrong.items ≡ wrong_in refused file.now) }
+    ensures { IfOk result (λ wrong. each_found wrong.items ≡ wrong_in refused file.now) }
 {
     if is_damaged(refused) {
         return wrong_words(alloc, file);

@@ -3,13 +3,13 @@ use Rattle.std.proofs.Common.{◌≡◌, ℕ, List, [], true, Option, Some, None
 use Rattle.std.specs.declared.alloc.AllocError.{AllocError}
 use Rattle.aout_core.specs.{Contents.Contents, Decoding.decode, WellFormed.first_object_fault, declared.file.ReadFault.ReadFault}
 use Rattle.aout_core.specs.declared.header.Header.{Header}
-use Rattle.checks.specs.{Found.Found, Found.all_found, Wrong.wrong_bytes, Wrong.wrong_in, declared.finding.Finding.Finding}
+use Rattle.checks.specs.{Found.Found, Found.each_found, Wrong.wrong_bytes, Wrong.wrong_in, declared.finding.Finding.Finding}
 use Rattle.checks.specs.{Suspicions.all_odd, declared.evidence.Evidence.TheVariants.Flow}
 use Rattle.library_calls.specs.RemarkAnswers.{IsRemarked, IsRemarkedBy, IsRemarkedOf, Output, remarked_by, remarks_in}
 use Rattle.library_calls.specs.{declared.remarks_call.RemarkRecord.RemarkRecord, declared.remarks_call.Remarks.Remarks}
 
 pub by_findings : (h : Option Header) (wrong odd : List Finding) (found more : List Found) (r : Result Remarks AllocError) →
-    all_found wrong ≡ found → all_found odd ≡ more → IfOk r (λ x. remarks_in x ≡ remarked_by h wrong odd) →
+    each_found wrong ≡ found → each_found odd ≡ more → IfOk r (λ x. remarks_in x ≡ remarked_by h wrong odd) →
     IfOk r (λ x. IsRemarkedBy h found more (remarks_in x))
 by_findings h wrong odd found more (Ok x) a b e = record { wrong = wrong; odd = odd; are_wrong = a; are_odd = b; remarked = e }
 by_findings h wrong odd found more (Err error) a b e = tt

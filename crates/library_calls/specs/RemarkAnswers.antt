@@ -6,7 +6,7 @@ use Rattle.std.specs.{Prelude.{None, Result, Ok, Err}, List.flat_map}
 use Rattle.aout_core.specs.{Decoding.decode, WellFormed.first_object_fault, declared.file.ReadFault.ReadFault}
 use Rattle.aout_core.specs.{Encoding.{relocation_at, symbols_at, file_length}, declared.header.Header.Header, Contents.Contents}
 use Rattle.checks.specs.{Suspicions.all_odd, declared.evidence.Evidence.TheVariants.Flow}
-use Rattle.checks.specs.{Found.{Found, all_found, kind_number}, Wrong.{wrong_bytes, wrong_in}, declared.finding.Finding.Finding}
+use Rattle.checks.specs.{Found.{Found, each_found, kind_number}, Wrong.{wrong_bytes, wrong_in}, declared.finding.Finding.Finding}
 use Rattle.library_calls.specs.declared.remarks_call.Located.{Located}
 use Rattle.library_calls.specs.{declared.remarks_call.RemarkRecord.RemarkRecord, declared.remarks_call.Remarks.Remarks}
 
@@ -68,8 +68,8 @@ remarked_by h wrong odd = record {
 pub record IsRemarkedBy (h : Option Header) (found more : List Found) (x : Output RemarkRecord) : Type 0 where
   pub wrong : List Finding
   pub odd : List Finding
-  pub are_wrong : all_found wrong ≡ found
-  pub are_odd : all_found odd ≡ more
+  pub are_wrong : each_found wrong ≡ found
+  pub are_odd : each_found odd ≡ more
   pub remarked : x ≡ remarked_by h wrong odd
 
 -- what is wrong in the bytes, and then what is odd in the file that they begin with, if it is that

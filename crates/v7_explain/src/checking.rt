@@ -1,7 +1,7 @@
 //! Why files are not objects, and what is odd in objects. Only tested: what is said of them.
 ghost use Rattle.std.specs.{Prelude.{◌≡◌, None, IfOk}, List.list_any};
 ghost use Rattle.aout_core.specs.WellFormed.{first_object_fault};
-ghost use Rattle.checks.specs.Found.{all_found};
+ghost use Rattle.checks.specs.Found.{each_found};
 ghost use Rattle.surroundings.specs.Answers.{Ends};
 ghost use Rattle.v7_explain.specs.Files.{IsCheck, status_of};
 
@@ -46,7 +46,7 @@ fn is_any_sure(found: &[Finding]) -> bool
 
 /// The status after findings: 1 if one is sure.
 fn status_of(found: &[Finding]) -> u8
-    ensures { result ≡ status_of (all_found found.now) }
+    ensures { result ≡ status_of (each_found found.now) }
 {
     if is_any_sure(found) { 1 } else { 0 }
 }
