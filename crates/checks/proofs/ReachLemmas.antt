@@ -1,7 +1,7 @@
 -- The places that are found are those that are reached: each is, and none is missed, since there are no more than words of text.
 use Rattle.std.proofs.Common.{◌≡◌, ℕ, zero, suc, ◌+◌, ◌/◌, ◌%◌, ◌<◌, ◌≤◌, Option, Some, None, refl, sym, ap, ◌∙◌, inl, inr, arith}
 use Rattle.std.proofs.Common.{append_assoc, rules}
-use Rattle.std.proofs.lemmas.Bool.{cases_eq, eq-eqb, ne_eqb, eqb-true, ltb-true, ltb-false, lt-ltb, not-true, or_cases, and_parts, and_from}
+use Rattle.std.proofs.lemmas.Bool.{cases_eq, eq-eqb, ne_eqb, eqb-true, ltb-true, ltb-false, lt-ltb, not-true, or_cases, and_parts}
 use Rattle.std.proofs.{lemmas.Cmp.nat_eq_equiv, lemmas.Map.Keys.IsDistinct-push, lemmas.Map.Steps.length-le_from_distinct_below}
 use Rattle.std.proofs.{lemmas.List.{get_or_append_left, append-nil}, lemmas.List.Folds.{list_any-append, list_any_at}}
 use Rattle.std.specs.Prelude.{Bool, true, false, not, ◌&&◌, ◌||◌, eqb, nat_lt, if◌then◌else◌, List, [], ◌∷◌, ◌++◌, length, slice_index}
@@ -57,10 +57,7 @@ visited_all_has n p found (o ∷ os) =
 -- a place to which one of the addresses leads has been found
 visited_led : (n p : ℕ) (found : List ℕ) (os : List (Option ℕ)) → list_any (is_place p) os ≡ true → p < n →
     has p (visited_all n found os) ≡ true
-visited_led n p found os led below =
-    visited_all_has n p found os
-    ∙ ap (λ (b : Bool). has p found || b) (and_from (list_any (is_place p) os) (nat_lt p n) led (lt-ltb p n below))
-    ∙ or-true (has p found)
+visited_led n p found os led below = rw (visited_all_has n p found os, led, lt-ltb p n below) (or-true (has p found))
 
 -- each place that is found is reached
 
