@@ -49,5 +49,10 @@ module _ (forced : List (List ℕ)) (es : List Labelled) where
       ∙ ap (λ (k : ℕ). k - differing new.forced (objects new.entries))
       (count_of old (n + 1) old_forced old_are ∙ ap (λ (k : ℕ). differing forced (take k (objects es))) on)
       ∙ ap (λ (k : ℕ). differing forced (take (suc n) (objects es)) - k) (count_of new n new_forced new_are) in
-      rw (put, reverse-append numbers (replicate times n), reverse_replicate times n,
-      ← append_assoc front (replicate times n) (reverse numbers), often) (rw on at so_far)
+      rw (
+        put,
+        reverse-append numbers (replicate times n),
+        reverse_replicate times n,
+        ← append_assoc front (replicate times n) (reverse numbers),
+        often,
+      ) (rw on at so_far)
