@@ -39,19 +39,14 @@ from tools.prove import SECONDS_EACH, crates_under
 
 TIERS = ["text", "test", "check", "all"]
 HEAD = re.compile(r"^(?:# )?tier: (\w+), (\d+) seconds((?:; \w+: [^;\n]+)*)$", re.M)
-# what tests need beside Python and make, as commands or modules of Python, and Debian's packages that have it
-PACKAGES = {
-    "git": "git", "cc": "gcc libc6-dev", "c++": "g++", "pkg-config": "pkg-config", "valgrind": "valgrind", "mypy": "mypy",
-    "venv": "python3-venv", "rustc": "rustc", "cargo": "cargo", "groff": "groff", "man": "man-db", "mandoc": "mandoc", "codespell": "codespell", "aspell": "aspell aspell-en", "zsh": "zsh",
-    "chromium": "chromium",
-    "chromedriver": "chromium-driver", "selenium": "python3-selenium", "firefox-esr": "firefox-esr", "debootstrap": "debootstrap",
-    "lintian": "lintian", "faketime": "faketime", "cmark-gfm": "cmark-gfm", "pdp11": "simh",
-}
+# Debian's packages of commands, and of modules of Python, where they have another name
+PACKAGES = {"cc": "gcc libc6-dev", "c++": "g++", "venv": "python3-venv", "man": "man-db", "aspell": "aspell aspell-en",
+            "chromedriver": "chromium-driver", "selenium": "python3-selenium", "pdp11": "simh"}
+# the lines that a test prints for those who run it, besides its last one
+SHOWN = re.compile(r"skipped: |(.*: )?not (run|assembled|measured|formatted)\b")
 # for a whole run of one crate, on a machine with other work too
 SECONDS = "1800"
 PROCESSORS = min(4, len(os.sched_getaffinity(0)))
-# the cases are played in so many groups
-GROUPS = 4
 # what has passed, of `make check` and `make check-all`, and with which commit
 PARTS = "build/parts"
 
@@ -87,12 +82,12 @@ def listed():
 # --- running
 
 def passes(*words, env=None):
-    """What a command printed that has to succeed: its last line, after those that say what was not done, or what is shown to the author."""
+    """Runs a command that has to succeed: its last line, after those that say what was not done."""
     done = ran(*words, env=env)
     if done.status:
         raise Failed(done.said())
-    lines = done.said().rstrip().split("\n")
-    return "\n".join([*(it for it in lines[:-1] if re.match(r"skipped: |shown: |(.*: )?not (run|assembled|measured|formatted)\b", it)), lines[-1]])
+    *lines, last = done.said().rstrip().split("\n")
+    return "\n".join([*filter(SHOWN.match, lines), last])
 
 
 def has_module(name):
@@ -108,23 +103,26 @@ def is_there(tool):
     return shutil.which(tool) and (tool != "cc" or ran("cc", "-E", "-", given=b"#include <stdlib.h>\n").status == 0)
 
 
+def package(tool):
+    return PACKAGES.get(tool, tool)
+
+
 def needed(tests):
-    """What tests need."""
+    """The tools that tests need."""
     return sorted({it for test in tests for it in test.words("needs")})
 
 
 def missing(tests):
-    """What tests need and is not there."""
     return [it for it in needed(tests) if not is_there(it)]
 
 
 def tell_needs(tests, tier=""):
     """Prints Debian's packages that a tier and those before it need, and that are missing; or all that each tier needs."""
     for name in [] if tier else TIERS:
-        print(f"{name}: make python3 {' '.join(PACKAGES[it] for it in needed([test for test in tests if test.tier == name]))}".rstrip())
+        print(f"{name}: make python3", *map(package, needed([test for test in tests if test.tier == name])))
     before = TIERS[:TIERS.index(tier) + 1] if tier else []
     for it in missing([test for test in tests if test.tier in before]):
-        print(PACKAGES[it])
+        print(package(it))
     return 0
 
 
@@ -133,7 +131,7 @@ def tools_there(tests):
     absent = missing(tests)
     for it in absent:
         without = ", ".join(test.title() for test in tests if it in test.words("needs"))
-        print(f"{it} is missing, Debian's {PACKAGES[it]}: not all of {without} is run", flush=True)
+        print(f"{it} is missing, Debian's {package(it)}: not all of {without} is run", flush=True)
     if absent and os.environ.get("V7_CI"):
         sys.exit("all tools have to be there, as V7_CI is set")
 
@@ -205,7 +203,8 @@ def run_parts(*commands):
 
 def crates_with_tests():
     """How many functions with `#[test]` each crate has."""
-    return Counter(path.split("/")[1] for path in glob.glob("crates/*/src/**/*.rt", recursive=True) for _ in re.findall(r"^ *#\[test\]", read(path), re.M))
+    paths = glob.glob("crates/*/src/**/*.rt", recursive=True)
+    return Counter(path.split("/")[1] for path in paths for _ in re.findall(r"^ *#\[test\]", read(path), re.M))
 
 
 def run_tests(name, count, ask=ran):
@@ -218,25 +217,7 @@ def run_tests(name, count, ask=ran):
     return f"{count} tests of {name}"
 
 
-# --- cases, by programs that are compiled without proof
-
-def weight(path):
-    """About how long a case file takes: how often something is repeated in it. What is short is repeated quickly."""
-    counts = re.findall(r"\* ?(\d+)|^names \S+ (\d+)", read(path), re.M)
-    return 1000 + sum(min(int(one or other), 500_000) for one, other in counts)
-
-
-def shares():
-    """The case files in groups that take about the same time."""
-    groups = [[] for _ in range(GROUPS)]
-    for path in sorted(glob.glob("tests/cases/data/*.case"), key=lambda path: -weight(path)):
-        min(groups, key=lambda group: sum(map(weight, group))).append(path)
-    return [sorted(group) for group in groups if group]
-
-
-def group_name(files):
-    return f"cases of {os.path.basename(files[0])}" + (f" and {len(files) - 1} files more" if files[1:] else "")
-
+# --- tests and cases, with programs that are compiled without proof
 
 def once_compiled(programs, folder, *words):
     """Runs a command with the compiled programs, once these are there."""
@@ -261,7 +242,7 @@ def run_unproved(tests):
         first = {pool.submit(passes, *it.command()): it.title() for it in tests if not it.words("programs")}
         programs = {pool.submit(compile_program, TOP, name, folder): f"the program {name}" for name in CRATES}
         work = [(f"tests of {name}", run_tests, name, count) for name, count in crates_with_tests().most_common()]
-        work += [(group_name(files), once_compiled, [*programs], folder, *play, *files) for files in shares()]
+        work += [(path, once_compiled, [*programs], folder, *play, path) for path in sorted(glob.glob("tests/cases/data/*.case"))]
         work += [(it.title(), once_compiled, [*programs], folder, *it.command()) for it in tests if it.words("programs")]
         tally = Tally({**first, **programs, **{pool.submit(*rest): name for name, *rest in work}})
         status = tally.take_all()
@@ -329,10 +310,12 @@ def which(*paths):
     if cases:
         print(f"these cases alone:\n  V7_BUILD=build/quick python3 -m tests.cases.cases {' '.join(cases)}")
     print("all texts, all cases and tests of code, unproved, 5 minutes:\n  make test\nbefore it is merged, 60 minutes:\n  make check")
-    tell("of that, what runs a program with it, also with those of make quick", [test for test, why in reasons if why and test not in made and test.tier == "check"])
-    for test in [test for test, why in reasons if why and test.tier == "all"]:
-        print(f"only make check-all runs this, {test.seconds / 60:.0f} minutes:\n  "
-              f"{'V7_BUILD=build/quick ' * bool(test.words('programs'))}{' '.join([os.path.basename(test.command()[0]), *test.command()[1:]])}")
+    others = [test for test, why in reasons if why and test not in made]
+    tell("of that, what runs a program with it, also with those of make quick", [it for it in others if it.tier == "check"])
+    for test in (it for it in others if it.tier == "all"):
+        start, *words = test.command()
+        before = "V7_BUILD=build/quick " if test.words("programs") else ""
+        print(f"only make check-all runs this, {test.seconds / 60:.0f} minutes:\n  {before}{' '.join([os.path.basename(start), *words])}")
     for path in paths:
         if not os.path.exists(path):
             print(f"{path} is not there")
