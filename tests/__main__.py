@@ -13,9 +13,9 @@ Each tier has what those before do not have. The tests of `test` run side by sid
 and with the tests that are code, of each crate that has a function with `#[test]`. Those of `check` and `all` run with the programs of
 build/, or of the folder V7_BUILD.
 
-A test says of itself in a line of its head, `tier: check, 60 seconds; programs: ..; for: ..; needs: ..; words: ..`, what it takes on an
-idle machine, the programs that it runs, the paths for which it was made, what it needs beside Python and make, and its arguments. Where
-V7_CI is set, a tool that is missing is a fault.
+A test says of itself in its head, as `tier: check, 60 seconds; programs: ..; for: ..; needs: ..; words: ..`, how long it takes on an idle
+machine, the programs that it runs, the paths for which it was made, what it needs beside Python and make, and its arguments. This is one
+line, or goes on after a `;` and a blank. Where V7_CI is set, a tool that is missing is a fault.
 """
 import glob
 import os
@@ -38,7 +38,7 @@ from tools.compiling import CRATES, compile_program
 from tools.prove import SECONDS_EACH, crates_under
 
 TIERS = ["text", "test", "check", "all"]
-HEAD = re.compile(r"^(?:# )?tier: (\w+), (\d+) seconds((?:; \w+: [^;\n]+)*)$", re.M)
+HEAD = re.compile(r"^(?:# )?tier: (\w+), (\d+) seconds((?:;(?:\n#?)? \w+: [^;\n]+)*)$", re.M)
 # Debian's packages of commands, and of modules of Python, where they have another name
 PACKAGES = {"cc": "gcc libc6-dev", "c++": "g++", "venv": "python3-venv", "man": "man-db", "aspell": "aspell aspell-en",
             "chromedriver": "chromium-driver", "selenium": "python3-selenium", "pdp11": "simh"}
@@ -74,7 +74,7 @@ def listed():
     found = []
     for path in sorted(glob.glob("tests/*/*.py") + glob.glob("tests/*/*.sh") + glob.glob("tools/*.sh")):
         for tier, seconds, more in HEAD.findall(read(path)):
-            says = dict(it.split(": ", 1) for it in more.split("; ")[1:])
+            says = dict(re.findall(r"(\w+): ([^;\n]+)", more))
             found.append(Test(os.path.basename(path).rpartition(".")[0], path, tier, int(seconds), says))
     return sorted(found, key=lambda it: (TIERS.index(it.tier), it.seconds, it.title()))
 

@@ -2,7 +2,7 @@
 
 usage: python3 -m tests.cases.cases [FILE ..]      plays these files, or all of tests/cases
        python3 -m tests.cases.cases -s             compares the samples, and the data of stored runs, with examples/
-       python3 -m tests.cases.cases -b             plays the wrong cases of data/false.words: each has to fail with the error of its first line
+       python3 -m tests.cases.cases -b             plays the wrong cases of data/false.words: each fails with the error of its first line
        python3 -m tests.cases.cases -p             plays all with the programs of a package: skips parts that watch a program, and states
 
 Parts with `refuse memory` are skipped too for a program that tools/compiling.py has made: a script starts it, and it has its own malloc.
@@ -10,7 +10,8 @@ The programs are in build/, or in the folder V7_BUILD. A command has 60 seconds,
 
 tier: text, 1 seconds; words: -s; for: tests/cases/data examples
 tier: test, 20 seconds; programs: v7 v7-explain v7-object v7-from-gnu v7-lesson library_uses; words: -b; for: tests/cases docs/CASES.md
-tier: check, 120 seconds; programs: v7 v7-explain v7-object v7-from-gnu v7-lesson library_uses; for: tests/cases docs/CASES.md tests/lib/faults
+tier: check, 120 seconds; programs: v7 v7-explain v7-object v7-from-gnu v7-lesson library_uses;
+ for: tests/cases docs/CASES.md tests/lib/faults
 tier: check, 20 seconds; programs: v7 v7-explain v7-object v7-from-gnu v7-lesson library_uses; words: -b; for: tests/cases docs/CASES.md
 """
 import collections
@@ -22,11 +23,11 @@ import subprocess
 import sys
 import tempfile
 
-from tests.lib.files import TOP, read_bytes, write
 from tests.cases.case_files import SAMPLES, contents, make, sample, sample_path
 from tests.cases.case_format import Mistake, cases_in, encoded, read_case
 from tests.lib.compare import notices, same
-from tests.lib.programs import BUILD
+from tests.lib.files import TOP, read_bytes, write
+from tests.lib.programs import BUILD, ran
 from tests.lib.watching import NotWatched, Watch, is_memory
 
 # how long a command may take
@@ -73,19 +74,13 @@ def check_status(step, came):
         raise differ(line, "status", expected, came)
 
 
-def first_difference(expected, came):
-    shorter = min(len(expected), len(came))
-    return next((at for at in range(shorter) if expected[at] != came[at]), shorter)
-
-
 def excerpt(data, at):
     return f"{len(data)} bytes, from byte {at} on: {data[at:at + 16].hex(' ', 2) or 'none'}"
 
 
 def check_bytes(item, expected, came):
     if expected != came:
-        at = first_difference(expected, came)
-        at -= at % 2
+        at = len(os.path.commonprefix([expected, came])) // 2 * 2
         raise differ(item.line, os.fsdecode(item.arguments[0]), excerpt(expected, at), excerpt(came, at))
 
 
@@ -131,8 +126,7 @@ def snapshot(directory):
     files, top = {}, os.fsencode(directory)
     for at, _, names in os.walk(top):
         for path in (os.path.join(at, name) for name in names):
-            with open(path, "rb") as file:
-                files[os.path.relpath(path, top)] = file.read()
+            files[os.path.relpath(path, top)] = read_bytes(path)
     return files
 
 
@@ -143,8 +137,7 @@ def run(line, words, directory, given=b"", environment=None):
     if not os.access(path, os.X_OK):
         raise Mistake(line, f"build/{name} is missing")
     try:
-        return subprocess.run(words, executable=path, cwd=directory, input=given, capture_output=True,
-                              env=environment or {}, timeout=SECONDS, check=False)
+        return ran(*words, given=given, seconds=SECONDS, executable=path, cwd=directory, env=environment or {})
     except subprocess.TimeoutExpired:
         raise Mistake(line, f"it does not end within {SECONDS} seconds") from None
 
@@ -180,9 +173,9 @@ def play_step(step, plans, directory):
         came, requests = watched(step, plans, directory, given)
     else:
         came, requests = run(step.line, step.words, directory, given), []
-    check_output(step.line, "standard error", step.error, came.stderr)
-    check_output(step.line, "standard output", step.output, came.stdout)
-    check_status(step, came.returncode)
+    check_output(step.line, "standard error", step.error, came.err)
+    check_output(step.line, "standard output", step.output, came.out)
+    check_status(step, came.status)
     check_files(step, before, snapshot(directory))
     if step.asked:
         check_asked(step, requests)
@@ -229,9 +222,9 @@ def play_state(item, files):
     """Compares what a session shows after the edits of a line."""
     names, edits = forced_in(item.arguments)
     came = shown_after(item, names, edits, files)
-    if came.returncode or came.stderr:
-        raise differ(item.line, "state", "a state", shown(came.stderr))
-    replies, _, lines = came.stdout.partition(b"\n")
+    if came.status or came.err:
+        raise differ(item.line, "state", "a state", shown(came.err))
+    replies, _, lines = came.out.partition(b"\n")
     for word, reply in zip(edits, replies.decode().strip("[]").split(", ")):
         if word != b"-" and reply != "0":
             raise cannot_be_made(item, word)
@@ -273,10 +266,7 @@ def play_part(part, folder):
 
 def is_script(program):
     path = os.path.join(BUILD, os.fsdecode(program))
-    if not os.path.exists(path):
-        return False
-    with open(path, "rb") as file:
-        return file.read(2) == b"#!"
+    return os.path.exists(path) and read_bytes(path).startswith(b"#!")
 
 
 def reason(part, is_packaged):

@@ -1,12 +1,15 @@
 """What a program asks the system for, and how the system refuses it. tests/lib/watch.c is loaded before the program, which has to be
 linked to the C library when it starts."""
 import atexit
+import functools
 import os
 import shutil
-import subprocess
 import tempfile
 
-SOURCE = os.path.join(os.path.dirname(os.path.abspath(__file__)), "watch.c")
+from tests.lib.files import TOP, read_bytes
+from tests.lib.programs import ran
+
+SOURCE = f"{TOP}/tests/lib/watch.c"
 # the runtime of a program opens this folder when it starts
 FIRST = b"open /"
 
@@ -19,21 +22,18 @@ def is_memory(request):
     return request.startswith(b"memory ")
 
 
+@functools.cache
 def compiled():
     """The library, compiled once for all programs, in a folder of its own."""
-    if not hasattr(compiled, "path"):
-        folder = tempfile.mkdtemp()
-        atexit.register(shutil.rmtree, folder)
-        path = os.path.join(folder, "watch.so")
-        words = [os.environ.get("CC") or "cc", "-O1", "-shared", "-fPIC", "-o", path, SOURCE]
-        try:
-            ran = subprocess.run(words, stdout=subprocess.PIPE, stderr=subprocess.STDOUT, check=False)
-        except OSError as error:
-            raise NotWatched(f"{words[0]}, which compiles tests/lib/watch.c, does not start: {error.strerror}") from None
-        if ran.returncode:
-            raise NotWatched(f"tests/lib/watch.c is not compiled: {os.fsdecode(ran.stdout)}")
-        compiled.path = path
-    return compiled.path
+    folder, compiler = tempfile.mkdtemp(), os.environ.get("CC") or "cc"
+    atexit.register(shutil.rmtree, folder)
+    try:
+        done = ran(compiler, "-O1", "-shared", "-fPIC", "-o", f"{folder}/watch.so", SOURCE)
+    except OSError as error:
+        raise NotWatched(f"{compiler}, which compiles tests/lib/watch.c, does not start: {error.strerror}") from None
+    if done.status:
+        raise NotWatched(f"tests/lib/watch.c is not compiled: {done.said()}")
+    return f"{folder}/watch.so"
 
 
 class Watch:
@@ -67,8 +67,7 @@ class Watch:
         for memory that were refused are then in `refused`, and the last before all are, in `granted`."""
         if not os.path.exists(self.list):
             raise NotWatched("tests/lib/watch.c is not loaded")
-        with open(self.list, "rb") as file:
-            lines = file.read().split(b"\n")[1:-1]
+        lines = read_bytes(self.list).split(b"\n")[1:-1]
         os.remove(self.list)
         self.refused = [*filter(is_memory, lines)]
         self.granted = [line for line in lines if line.startswith(b"granted ")]
