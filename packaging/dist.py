@@ -22,7 +22,7 @@ from typing import NamedTuple
 
 sys.path.insert(1, os.path.dirname(os.path.dirname(os.path.abspath(__file__))))
 from tests.lib.files import TOP, read, read_bytes, write  # noqa: E402
-from tests.lib.rattle import crates_in  # noqa: E402
+from tests.lib.rattle import below, crates_in  # noqa: E402
 import installed  # noqa: E402
 from installed import PROGRAMS  # noqa: E402
 
@@ -67,15 +67,9 @@ class Release:
 
     def crates(self):
         """The crates of the repository that the programs and libv7 are made of, and the kit's libraries that they use."""
-        uses = {name: used for name, (_, used) in crates_in(TOP).items()}
-        ours, kits, wanted = set(), {"std"}, [*PROGRAMS, "v7_c"]
-        while wanted:
-            name = wanted.pop()
-            if name in uses and name not in ours:
-                ours.add(name)
-                wanted += uses[name]
-            elif name not in uses:
-                kits.add(name)
+        uses = crates_in(TOP)
+        ours = set().union(*(below(name, uses) for name in [*PROGRAMS, "v7_c"]))
+        kits = {"std", *(other for name in ours for other in uses[name])} - ours
         for name in [*kits]:
             form = read(f"{self.kit}/rlibs/{name}.rlib/format")
             kits.update(re.findall(r"^(?:dep|needs|carries) (\w+)", form, re.M))

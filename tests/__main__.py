@@ -32,7 +32,7 @@ from typing import NamedTuple
 from tests.lib.compare import notices, same
 from tests.lib.files import TOP, read
 from tests.lib.programs import Ran, program, ran
-from tests.lib.rattle import crates_in
+from tests.lib.rattle import below, crates_in
 from tests.lib.tally import Failed, Tally
 from tools.compiling import CRATES, compile_program
 from tools.prove import SECONDS_EACH, crates_under
@@ -254,7 +254,7 @@ def run_unproved(tests):
 
 def programs_with(crate):
     """The programs, and libv7, that have a crate in them."""
-    return {name for name, head in {**CRATES, "libv7.so": "v7_c"}.items() if crate in {it.name for it in crates_under(head)}}
+    return {name for name, top in {**CRATES, "libv7.so": "v7_c"}.items() if crate in below(top, crates_in(TOP))}
 
 
 def concern(path, test):

@@ -37,9 +37,9 @@ SECONDS_EACH = 3
 class Crate:
     """A crate, with all that it uses, and the crates of the repository that it waits for."""
 
-    def __init__(self, name, head, uses, crates):
+    def __init__(self, name, uses, crates):
         self.name, self.uses = name, uses
-        self.is_static = "staticlib" in head
+        self.is_static = f"\n{name} staticlib:" in read("crates.txt")
         self.is_program = os.path.exists(f"crates/{name}/src/main.rt")
         # what it leaves: statements, or which code was proved
         self.left = f"{name}.checked" if self.is_static or self.is_program else f"{name}.rlib"
@@ -62,11 +62,10 @@ def crates_under(*names):
     lines, crates = crates_in("."), {}
 
     def add(name):
-        head, uses = lines[name]
-        for other in uses:
+        for other in lines[name]:
             if other in lines and other not in crates:
                 add(other)
-        crates[name] = Crate(name, head, uses, crates)
+        crates[name] = Crate(name, lines[name], crates)
 
     for name in names:
         if name not in crates:
@@ -86,7 +85,8 @@ class Kit:
 
     def words(self, crate):
         """What names a crate, the libraries that it uses and the logic."""
-        words = ["--crate-name", crate.name, f"src/{'main' if crate.is_program else 'lib'}.rt", *["--crate-type", "staticlib"] * crate.is_static]
+        words = ["--crate-name", crate.name, "src/main.rt" if crate.is_program else "src/lib.rt"]
+        words += ["--crate-type", "staticlib"] * crate.is_static
         own = [it.name for it in crate.waits]
         for name in sorted({"std", *crate.uses}):
             words += ["--extern", f"{name}={self.place if name in own else self.folder + '/rlibs'}/{name}.rlib"]
@@ -101,7 +101,8 @@ class Kit:
 
     def checking(self, crate, *flags):
         """The command that checks a crate over what its last check kept."""
-        return [self.rattle, "check", *self.words(crate), *self.logic, "--incremental", "out/incremental", "--jobs", str(min(os.cpu_count(), MOST_JOBS)), *flags]
+        jobs = str(min(os.cpu_count(), MOST_JOBS))
+        return [self.rattle, "check", *self.words(crate), *self.logic, "--incremental", "out/incremental", "--jobs", jobs, *flags]
 
     def building(self, crate, file):
         """The commands that compile what was proved, and link it if it is a program."""

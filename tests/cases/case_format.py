@@ -148,7 +148,8 @@ def request(word):
     return word
 
 
-KINDS = {"FILE": path, "FROM": path, "N": number, "N..": number_on, "BYTE": number, "HH": some_bytes, "NAME": bytes, "PREFIX": bytes, "REQUEST": request, "EDIT": bytes}
+KINDS = {"FILE": path, "FROM": path, "N": number, "N..": number_on, "BYTE": number, "HH": some_bytes, "REQUEST": request,
+         **dict.fromkeys(("NAME", "PREFIX", "EDIT"), bytes)}
 FORMS = {
     "use": ["FILE .."],
     "object": ["FILE"],

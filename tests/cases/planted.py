@@ -7,12 +7,14 @@ usage: python3 -m tests.cases.planted [BUG ..]    tries the bugs of all rows, or
        python3 -m tests.cases.planted -c          looks only whether each edit fits the code, and the table the edits and the cases
 
 A bug CRATE/NAME is an edit of the crate that the prover refuses, as tests/wrong_bodies/edits.py finds it. Any other is an edit of
-tests/cases/planted/, with the path from the top. The rows of tests/programs/largest.py count as cases, and so do tests/page/page_data.py and tests/programs/terminal.py. The bug is made in a copy of the sources, and programs are compiled there with no proof: those that use its
-crate, one after another, as long as a case that the row names does not fail. The other programs are those without a bug, in
-build/test. libv7 counts as a program.
+tests/cases/planted/, with the path from the top. The rows of tests/programs/largest.py count as cases, and so do
+tests/page/page_data.py and tests/programs/terminal.py. The bug is made in a copy of the sources, and programs are compiled there
+without proof: those that use its crate, one after another, as long as a case that the row names does not fail. The other programs are
+those without a bug, in build/test. libv7 counts as a program.
 
 tier: text, 1 seconds; words: -c; for: crates tests/cases
 """
+import fnmatch
 import glob
 import os
 import re
@@ -23,26 +25,21 @@ from concurrent.futures import ThreadPoolExecutor
 
 from tests.lib.compare import same
 from tests.lib.files import TOP, read, write
-from tests.wrong_bodies import edits
-from tests.programs import largest
 from tests.lib.programs import ran
+from tests.lib.rattle import below, crates_in
 from tests.lib.tally import Failed
-from tools.compiling import CRATES, below, compile_program, uses_of
+from tests.programs import largest
+from tests.wrong_bodies import edits
+from tools.compiling import CRATES, compile_program
 from tools.sketch import compile_library
 
-CASES = os.path.join(TOP, "tests", "cases", "data")
 PAGE = "tests/cases/PLANTED.md"
 ROW = re.compile(r"^\| `([\w/*]+)` \| .* \| (.*) \|$")
-# the rows of tests/programs/largest.py, each with the program that it runs as a case has it. A listing is read back by v7-object
-READS_BACK = {"v7-explain": "$ v7-object\n"}
-LARGEST = {f"largest.py: {name}, {kind}": f"$ {name}\n{READS_BACK.get(name, '')}" for name, _, kinds in largest.TABLE for kind in kinds}
-LARGEST.update({f"largest.py: {calls}, {kind}": "$ libv7\n" for calls, _, kinds in largest.CALLS for kind in kinds})
-# scripts that are played whole
-WHOLE = {"page_data.py: pages": "$ v7-lesson\n$ v7\n$ v7-explain\n", "terminal.py: all": "$ v7\n"}
-LARGEST.update(WHOLE)
-MODULES = {"largest.py": "tests.programs.largest", "page_data.py": "tests.page.page_data", "terminal.py": "tests.programs.terminal"}
-# what these print, whether they find something or not
-PRINTED = re.compile(r"^[01] of 1 answers .*\n\Z|^\d+ things of pages were compared|(?:CalledProcess|JSONDecode)Error|^at a terminal: |^  came ", re.M)
+# the edits of tests/cases/planted, by their names
+EDITS = {os.path.basename(path)[:-len(".edit")]: path for path in sorted(glob.glob(f"{TOP}/tests/cases/planted/*.edit"))}
+# what the scripts that count as cases print, whether they find something or not
+PRINTED = re.compile(
+    r"^[01] of 1 answers .*\n\Z|^\d+ things of pages were compared|(?:CalledProcess|JSONDecode)Error|^at a terminal: |^  came ", re.M)
 # what is compiled, and the crate of each
 COMPILED = {**CRATES, "libv7": "v7_c"}
 # the programs without a bug
@@ -57,27 +54,34 @@ class Fault(Exception):
     pass
 
 
-def bugs_of(name):
-    """The bugs of a row: one, or the edits whose names a `*` has."""
-    paths = glob.glob(os.path.join(TOP, "tests", "cases", "planted", f"{name}.edit"))
-    return sorted(os.path.basename(path)[:-5] for path in paths) if "*" in name else [name]
+def rows_of(table, runs):
+    """The rows of a table of tests/programs/largest.py: for each what plays it, and the programs that it runs, as a case has them."""
+    return {f"largest.py: {name}, {kind}": (["tests.programs.largest", f"{name}, {kind}"], runs(name))
+            for name, _, kinds in table for kind in kinds}
+
+
+# what counts as a case; a listing is read back by v7-object
+SCRIPTS = {
+    **rows_of(largest.TABLE, lambda name: f"$ {name}\n" + "$ v7-object\n" * (name == "v7-explain")),
+    **rows_of(largest.CALLS, lambda _: "$ libv7\n"),
+    "page_data.py: pages": (["tests.page.page_data"], "$ v7-lesson\n$ v7\n$ v7-explain\n"),
+    "terminal.py: all": (["tests.programs.terminal"], "$ v7\n"),
+}
 
 
 def rows():
-    """The bugs of the table, each with the cases that have to fail."""
+    """The bugs of the table, each with the cases that have to fail. A name with a `*` stands for several edits."""
     found = map(ROW.match, read(f"{TOP}/{PAGE}").split("\n"))
-    return [(bug, re.findall(r"`([^`]+)`", row[2])) for row in found if row for bug in bugs_of(row[1])]
+    return [(bug, re.findall(r"`([^`]+)`", row[2])) for row in found if row for bug in (fnmatch.filter(EDITS, row[1]) or [row[1]])]
 
 
 def changed(bug):
     """The files that a bug changes, by path, with its edit made."""
     crate, _, name = bug.rpartition("/")
-    if crate:
-        found = [body.text for body in edits.edits_of(crate) if body.name == name]
-    else:
-        found = [edits.read(f"tests/cases/planted/{name}.edit")]
+    own = [body.text for body in edits.edits_of(crate) if body.name == name]
+    found = own if crate else [read(EDITS[name])] if name in EDITS else []
     if len(found) != 1:
-        raise Fault(f"crates/{crate} has {len(found)} edits {name}")
+        raise Fault(f"there are {len(found)} such edits")
     start = f"crates/{crate}" if crate else "."
     try:
         files = edits.changed(edits.pairs(found[0]), start)
@@ -86,18 +90,18 @@ def changed(bug):
     return {os.path.normpath(f"{start}/{path}"): text for path, text in files.items()}
 
 
-def cases_of(paths):
-    """The text of each case in these files."""
+def cases():
+    """The text of each case."""
     texts = {}
-    for path in paths:
+    for path in glob.glob(f"{TOP}/tests/cases/data/*.case"):
         for text, name in re.findall(r"^((?:#.*\n)+case (\w+)\n(?:[^#\n].*\n|\n)*)", read(path), re.M):
             texts[name] = text
     return texts
 
 
 def there_are():
-    """The text of each case, and what each row of largest.py runs."""
-    return {**cases_of(glob.glob(os.path.join(CASES, "*.case"))), **LARGEST}
+    """The text of each case, and the programs of what counts as one."""
+    return {**cases(), **{name: runs for name, (_, runs) in SCRIPTS.items()}}
 
 
 def programs_of(text):
@@ -107,15 +111,12 @@ def programs_of(text):
 
 
 def failed(folder, texts):
-    """Those of these cases, and of these rows of largest.py, that fail with the programs of a folder."""
-    rows_failed = [name for name in texts if name in LARGEST and row_fails(folder, name)]
-    return rows_failed + cases_that_fail(folder, {name: text for name, text in texts.items() if name not in LARGEST})
+    """Those of these cases, and of what counts as one, that fail with the programs of a folder."""
+    found = [name for name in texts if name in SCRIPTS and script_fails(folder, SCRIPTS[name][0])]
+    return found + cases_that_fail(folder, {name: text for name, text in texts.items() if name not in SCRIPTS})
 
 
-def row_fails(folder, name):
-    """Whether a row of largest.py fails, or a script that is played whole."""
-    script, row = name.split(": ")
-    words = [MODULES[script], *([] if name in WHOLE else [row])]
+def script_fails(folder, words):
     done = ran(sys.executable, "-m", *words, cwd=TOP, env={**os.environ, "LIBV7": os.path.join(folder, "libv7.so"), "V7_BUILD": folder})
     if not PRINTED.search(done.said()):
         raise Fault(done.said())
@@ -148,7 +149,7 @@ def sources(top, files):
 def failing(bug, texts, is_whole=False):
     """Those of these cases that fail with a bug. With `is_whole` all programs that the bug reaches are compiled before the cases are
     played."""
-    files, uses = changed(bug), uses_of(TOP)
+    files, uses = changed(bug), crates_in(TOP)
     crate = next(iter(files)).split(os.sep)[1]
     using = [name for name in COMPILED if crate in below(COMPILED[name], uses)]
     counts = {name: sum(name in programs_of(text) for text in texts.values()) for name in using}
@@ -185,10 +186,9 @@ def programs(names):
 def check_table():
     """Whether each edit fits the code, each edit of tests/cases/planted has a row, and each case of a row is there."""
     table, there = rows(), there_are()
-    edits = {os.path.basename(path)[:-5] for path in glob.glob(os.path.join(TOP, "tests", "cases", "planted", "*.edit"))}
-    planted = ["planted: no case planted", "planted: [Errno 2] No such file or directory: 'tests/cases/planted/planted.edit'"]
+    planted = ["planted: no case planted", "planted: there are 0 such edits"]
     same("faults of a row that is planted", [*faults_of("planted", ["planted"], there)], planted)
-    faults = [f"{bug}: no row" for bug in sorted(edits - {bug for bug, _ in table})]
+    faults = [f"{bug}: no row" for bug in sorted(EDITS.keys() - {bug for bug, _ in table})]
     faults += [fault for row in table for fault in faults_of(*row, there)]
     print(f"{PAGE} has {len(table)} bugs", *faults, sep="\n")
     return bool(faults) or not table
@@ -201,13 +201,13 @@ def faults_of(bug, expected, there):
         yield f"{bug}: no case"
     try:
         changed(bug)
-    except (Fault, OSError) as fault:
+    except Fault as fault:
         yield f"{bug}: {fault}"
 
 
 def list_failing(bugs):
     """Prints all cases that fail with each bug."""
-    there = cases_of(glob.glob(os.path.join(CASES, "*.case")))
+    there = cases()
     programs(CRATES)
     for bug in bugs:
         try:

@@ -87,6 +87,10 @@ def definitions(text):
 
 
 def crates_in(top):
-    """Each crate of crates.txt: the words after its name, and what it uses."""
-    found = re.findall(r"^(\w+)([^:#\n]*):(.*)$", read(os.path.join(top, "crates.txt")), re.M)
-    return {name: (words.split(), uses.split()) for name, words, uses in found}
+    """Each crate of crates.txt, with the libraries that it uses."""
+    return {name: uses.split() for name, uses in re.findall(r"^(\w+)[^:#\n]*:(.*)$", read(os.path.join(top, "crates.txt")), re.M)}
+
+
+def below(crate, uses):
+    """A crate, and those of the repository that it uses."""
+    return {crate}.union(*(below(other, uses) for other in uses[crate] if other in uses))

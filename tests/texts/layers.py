@@ -29,7 +29,7 @@ def layer(name, uses):
 
 def picture(parts):
     """A line or more for each section: its crates, each after its layer, and programs in brackets."""
-    uses, lines = {name: used for name, (_, used) in crates_in(TOP).items()}, []
+    uses, lines = crates_in(TOP), []
     for section, names in parts.items():
         line = f"{section:14}"
         for name in sorted(names, key=lambda name: (layer(name, uses), name)):
