@@ -225,7 +225,8 @@ def settle(root, date):
 def pack(release, root, file):
     """The tar of a folder, packed by gzip."""
     settle(f"{root}/{release.name}", release.date)
-    run("tar", "-C", root, "--sort=name", "--format=gnu", "--owner=root:0", "--group=root:0", "-I", "gzip -9n", "-cf", os.path.abspath(file), release.name)
+    how = ["--sort=name", "--format=gnu", "--owner=root:0", "--group=root:0", "-I", "gzip -9n"]
+    run("tar", "-C", root, *how, "-cf", os.path.abspath(file), release.name)
 
 
 def squeeze(path):

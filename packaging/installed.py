@@ -16,9 +16,11 @@ import re
 import shutil
 import subprocess
 import sys
+import textwrap
 
 sys.path.insert(1, os.path.dirname(os.path.dirname(os.path.abspath(__file__))))
 from tests.lib.files import TOP, read, read_bytes, write  # noqa: E402
+from tests.lib.programs import asked  # noqa: E402
 import completion  # noqa: E402
 
 # the program of each crate
@@ -42,6 +44,11 @@ table { border-collapse: collapse } td, th { border: 1px solid #aaa; padding: 0.
 
 def version():
     return re.search(r'^#define V7_VERSION "(.*)"$', read(f"{TOP}/include/v7.h"), re.M)[1]
+
+
+def anchor(heading):
+    """The name by which links know a heading."""
+    return re.sub(r"[^\w\- ]", "", heading.lower()).replace(" ", "-")
 
 
 # --- documents
@@ -72,19 +79,9 @@ def settled(text, source, place, shipped):
 
 def filled(parts, head):
     """The lines of a paragraph or an item, of at most WIDTH columns. None but the first begins as an item or a heading does."""
-    words = []
-    for word in " ".join(parts).split():
-        if words and re.match(r"([-+*#>=|]|\d+[.)])", word):
-            words[-1] += " " + word
-        else:
-            words.append(word)
-    lines, line = [], head
-    for word in words:
-        if line.strip() and len(line) + len(word) > WIDTH and line != head:
-            lines.append(line.rstrip())
-            line = " " * len(head)
-        line += word + " "
-    return [*lines, line.rstrip()]
+    text = re.sub(r" (?=[-+*#>=|]|\d+[.)])", "\0", " ".join(" ".join(parts).split()))
+    how = {"initial_indent": head, "subsequent_indent": " " * len(head), "break_long_words": False, "break_on_hyphens": False}
+    return [line.replace("\0", " ") for line in textwrap.wrap(text, WIDTH, **how)]
 
 
 def reflowed(text):
@@ -114,22 +111,17 @@ def page_of(text, title, up):
     """A document as a page: with names for its headings, and links to other pages."""
     text = "\n".join(LINK.sub(lambda found: re.sub(r"\.md(#[^)]*)?\)$", r".html\1)", found[0]), line) if is_prose else line
                      for line, is_prose in prose(text))
-    body = subprocess.run(["cmark-gfm", "-e", "table"], input=text, stdout=subprocess.PIPE, check=True, text=True).stdout
-
-    def named(found):
-        name = re.sub(r"[^\w\- ]", "", html.unescape(re.sub(r"<[^>]*>", "", found[2])).lower()).replace(" ", "-")
-        return f'<h{found[1]} id="{name}">{found[2]}</h{found[1]}>'
-
-    body = re.sub(r"<h(\d)>(.*?)</h\1>", named, body)
+    named = lambda found: f'<h{found[1]} id="{anchor(html.unescape(re.sub("<[^>]*>", "", found[2])))}">{found[2]}</h{found[1]}>'
+    body = re.sub(r"<h(\d)>(.*?)</h\1>", named, asked("cmark-gfm", "-e", "table", input=text))
     return (f'<!DOCTYPE html>\n<html lang="en">\n<head><meta charset="utf-8"><title>{html.escape(title)}</title>'
             f'<link rel="stylesheet" href="{up}style.css"></head>\n<body>\n{body}</body>\n</html>\n')
 
 
 def manual_page(path, shipped):
     """A page of the manual as HTML, without links to pages that are not shipped."""
-    made = subprocess.run(["mandoc", "-T", "html", "-O", "man=%N.%S.html,style=../style.css", f"{TOP}/{path}"], stdout=subprocess.PIPE, check=True, text=True)
-    kept = lambda found: found[0] if f"man/{found[1][:-len('.html')]}" in shipped else found[2]
-    return re.sub(r'<a class="Xr" href="([^"]*)">(.*?)</a>', kept, made.stdout)
+    made = asked("mandoc", "-T", "html", "-O", "man=%N.%S.html,style=../style.css", f"{TOP}/{path}")
+    kept = lambda found: found[0] if f"man/{found[1].removesuffix('.html')}" in shipped else found[2]
+    return re.sub(r'<a class="Xr" href="([^"]*)">(.*?)</a>', kept, made)
 
 
 def files_in(names):
@@ -188,8 +180,7 @@ def documents(to, names, has_html, made=()):
 
 def lesson(program, folder, files):
     """The page of some objects in a folder, with its lessons."""
-    words = [program, "-p", "page", "-q", f"{folder}/lessons.txt", *(f"{folder}/{name}" for name in files)]
-    return subprocess.run(words, cwd=TOP, stdout=subprocess.PIPE, check=True).stdout
+    return asked(program, "-p", "page", "-q", f"{folder}/lessons.txt", *(f"{folder}/{name}" for name in files), cwd=TOP)
 
 
 def put(build, to, has_html=None, made=()):

@@ -4,7 +4,8 @@ usage: python3 -m tests.programs.installed look FOLDER      what is below this f
        python3 -m tests.programs.installed            installs the programs by packaging/installed.py, as `make install` does, into a new
                                            folder, with the mask 077; looks, calls a program as another user, and uninstalls
 
-tier: check, 10 seconds; programs: v7 v7-explain v7-object v7-from-gnu v7-lesson; for: packaging/installed.py docs man examples; needs: cmark-gfm mandoc
+tier: check, 10 seconds; programs: v7 v7-explain v7-object v7-from-gnu v7-lesson; for: packaging/installed.py docs man examples;
+ needs: cmark-gfm mandoc
 
 A file FOO.gz may be in place of FOO, as on Debian.
 """
@@ -18,7 +19,7 @@ import tempfile
 
 import installed
 from tests.lib.files import TOP, read, write
-from tests.lib.programs import BUILD
+from tests.lib.programs import BUILD, ran
 
 NOBODY = 65534
 
@@ -44,7 +45,7 @@ def names_in(path):
     text = read(path)
     if path.endswith(".html"):
         return Page(text).names
-    return {re.sub(r"[^\w\- ]", "", name.lower()).replace(" ", "-") for name in re.findall(r"^#+ (.*)$", text, re.M)}
+    return {*map(installed.anchor, re.findall(r"^#+ (.*)$", text, re.M))}
 
 
 def links_of(path):
@@ -95,7 +96,6 @@ def make():
         subprocess.run([sys.executable, script, "copy", stage, f"{room}/package", root], check=True)
         subprocess.run([sys.executable, script, "copy", stage, "", root], check=True)
         faults, pages, links = look(root)
-        version = re.search(r'^#define V7_VERSION "(.*)"', read(f"{TOP}/include/v7.h"), re.M)[1]
         write(f"{root}/planted.md", "[a link](none.md)\n")
         faults += [] if look(f"{root}/planted.md")[0] else ["a planted link that is dead is not found"]
         os.remove(f"{root}/planted.md")
@@ -103,14 +103,14 @@ def make():
         faults += [f"others cannot read {path}" for path in closed]
         for program in installed.PROGRAMS.values():
             how = {"user": NOBODY, "group": NOBODY, "extra_groups": []} if os.getuid() == 0 else {}
-            ran = subprocess.run([f"{root}/bin/{program}", "--version"], stdout=subprocess.PIPE, stderr=subprocess.STDOUT, check=False, text=True, **how)
-            wanted = "v7: usage\n" if program == "v7" else f"{program} {version}\n"
-            faults += [] if ran.stdout == wanted else [f"{program}: {ran.stdout}"]
+            said = ran(f"{root}/bin/{program}", "--version", **how).said()
+            wanted = "v7: usage\n" if program == "v7" else f"{program} {installed.version()}\n"
+            faults += [] if said == wanted else [f"{program}: {said}"]
         there = {os.path.relpath(path, root) for path in glob.glob(f"{root}/**", recursive=True)}
         has_html = installed.has_tools()
-        for wanted in ("share/doc/v7/lesson.html", "share/doc/v7/docs/TUTORIAL.html", "share/doc/v7/man/v7.1.html", "share/man/man1/v7-ld.1",
-                       "share/bash-completion/completions/v7-explain", "share/zsh/site-functions/_v7"):
-            faults += [] if wanted in there or wanted.endswith(".html") and not has_html else [f"{wanted} is not installed"]
+        for wanted in ("doc/v7/lesson.html", "doc/v7/docs/TUTORIAL.html", "doc/v7/man/v7.1.html", "man/man1/v7-ld.1",
+                       "bash-completion/completions/v7-explain", "zsh/site-functions/_v7"):
+            faults += [] if f"share/{wanted}" in there or wanted.endswith(".html") and not has_html else [f"share/{wanted} is not installed"]
         faults += [f"a package has {installed.NOTED}"] if os.path.exists(f"{room}/package{root}/{installed.NOTED}") else []
         subprocess.run([sys.executable, script, "remove", root], check=True)
         faults += [f"left: {room}/usr"] if os.path.exists(f"{room}/usr") else []

@@ -14,6 +14,7 @@ import re
 import select
 import subprocess
 
+from installed import version
 from tests.lib.compare import notices, same
 from tests.lib.files import TOP, read, room, write
 from tests.lib.programs import FAULTS, program, ran
@@ -244,10 +245,6 @@ def check_page(words, tool, page):
     if tool is None:
         same(f"{words}: commands", re.findall(r"^  (\w+)  +\w", page.partition("examples:\n")[0], re.M), TOOLS)
     return check_text(words, f"v7 {tool}" if tool else "v7", f"v7-{tool}" if tool else "v7", page)
-
-
-def version():
-    return re.search(r'^#define V7_VERSION "(.*)"', read(f"{TOP}/include/v7.h"), re.M)[1]
 
 
 def check_beside():

@@ -5,6 +5,7 @@ tier: text, 1 seconds; for: crates docs/LINK.md README.md
 """
 import re
 
+from installed import version
 from tests.lib.compare import notices, same
 from tests.lib.files import read
 
@@ -57,7 +58,7 @@ LIMITS = [
         "docs/LINK.md": "what is written to a file | 512 bytes; {} |",
     }),
     ("v7_explain/src/explaining.rt", "MOST_BYTES", {
-        "docs/LINK.md": "| a file for `v7-explain`, the largest core file; a file for `v7-lesson`; a listing or an object in GNU's form | {} bytes;",
+        "docs/LINK.md": "; a file for `v7-lesson`; a listing or an object in GNU's form | {} bytes;",
         "man/v7-explain.1": "The file has more than {} bytes,",
     }),
     ("v7_object/src/making.rt", "MOST_BYTES", {
@@ -76,25 +77,25 @@ LIMITS = [
 ]
 
 # where the version is
-VERSIONS = {"crates/surroundings/src/shown.rt": 'VERSION: &str = "{}";', "packaging/python/v7.py": '__version__ = "{}"', "README.md": "version {}, ",
-            "packaging/rust/Cargo.toml": '\nversion = "{}"', "packaging/rust/v7-sys/Cargo.toml": '\nversion = "{}"'}
+VERSIONS = {"crates/surroundings/src/shown.rt": 'VERSION: &str = "{}";', "packaging/python/v7.py": '__version__ = "{}"',
+            "README.md": "version {}, ", **dict.fromkeys(("packaging/rust/Cargo.toml", "packaging/rust/v7-sys/Cargo.toml"), '\nversion = "{}"')}
 
 
 def value_of(path, name):
-    """The value of a constant, which stands once in its file."""
+    """The value of a constant, which its file has once."""
     found = re.findall(rf"^(?:pub(?:\(crate\))? )?const {name}: \w+ = ([0-9_]+);", read(f"crates/{path}"), re.M)
     same(f"crates/{path}: constants {name}", len(found), 1)
     return f"{int(found[0]):,}"
 
 
 def compare(name, value, texts):
-    same(f"{name}: the documents without {value}", [(page, text) for page, text in texts.items() if text.format(value) not in read(page)], [])
+    without = [(page, text) for page, text in texts.items() if text.format(value) not in read(page)]
+    same(f"{name}: the documents without {value}", without, [])
 
 
 def main():
-    version = re.search(r'^#define V7_VERSION "(.*)"', read("include/v7.h"), re.M)[1]
-    notices(compare, "the version", version + ".1", VERSIONS)
-    compare("the version", version, VERSIONS)
+    notices(compare, "the version", version() + ".1", VERSIONS)
+    compare("the version", version(), VERSIONS)
     for path, name, texts in LIMITS:
         compare(f"{name} of crates/{path}", value_of(path, name), texts)
     print(f"{len(LIMITS)} limits are in the documents as in the code")

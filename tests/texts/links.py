@@ -10,6 +10,7 @@ import os
 import re
 import sys
 
+from installed import anchor
 from tests.lib.compare import same
 from tests.lib.files import read
 
@@ -31,7 +32,8 @@ def documents():
 
 def others():
     """The manual, code and scripts."""
-    patterns = ("man/*.[1-9]", "include/*.h", "crates/*/src/**/*.rt", "crates/*/specs/**/*.antt", "t*s/**/*.py", "t*s/**/*.sh", "packaging/*.py")
+    patterns = ("man/*.[1-9]", "include/*.h", "crates/*/src/**/*.rt", "crates/*/specs/**/*.antt", "t*s/**/*.py", "t*s/**/*.sh",
+                "packaging/*.py")
     return sorted({path for pattern in patterns for path in glob.glob(pattern, recursive=True)} - {"tests/texts/links.py"})
 
 
@@ -39,7 +41,7 @@ def others():
 def headings(path):
     """The headings of a document, and the names by which links know them."""
     names = re.findall(r"^#+ (.*)$", read(path), re.M)
-    return {*names, *(re.sub(r"[^\w\- ]", "", name.lower()).replace(" ", "-") for name in names)}
+    return {*names, *map(anchor, names)}
 
 
 def links_in(path, text):
@@ -57,7 +59,8 @@ def dead_in(path, text):
         if not ANY.search(place) and not glob.glob(place + "*") and not os.path.exists(os.path.join(os.path.dirname(path), place)):
             yield f"no file {place}"
     yield from (f"no page {name}({section})" for name, section in PAGE.findall(text) if not os.path.exists(f"man/{name}.{section}"))
-    yield from (f"{target} has no heading {name}" for target, name in HEADING.findall(text) if os.path.exists(target) and name not in headings(target))
+    cited = [(target, name) for target, name in HEADING.findall(text) if os.path.exists(target)]
+    yield from (f"{target} has no heading {name}" for target, name in cited if name not in headings(target))
 
 
 def dead_links(path, text):
@@ -78,7 +81,8 @@ def dead_commands(text, targets):
         for module in re.findall(r"python3 -m ((?:tests|tools)\.[\w.]+)", command):
             yield from [f"no script {module}"] * (not os.path.exists(module.replace(".", "/") + ".py"))
         for words in re.findall(r"^python3 -m tests ([a-z0-9_ ]+)", command):
-            yield from (f"no test {name}" for name in words.split() if name not in WORDS and not glob.glob(f"tests/{name}") + glob.glob(f"tests/*/{name}.*"))
+            names = [name for name in words.split() if name not in WORDS]
+            yield from (f"no test {name}" for name in names if not glob.glob(f"tests/{name}") + glob.glob(f"tests/*/{name}.*"))
 
 
 def faults_of(path, text, targets):
@@ -90,8 +94,8 @@ def faults_of(path, text, targets):
 
 def check_itself():
     """What is not there is found."""
-    text = ('See [this](docs/missing.md), v7-none(1), docs/PROOFS.md, "No such heading", [one](LINK.md#missing), and `python3 -m tests none`.\n\n'
-            "    make nothing\n")
+    text = ('See [this](docs/missing.md), v7-none(1), docs/PROOFS.md, "No such heading", [one](LINK.md#missing), and '
+            "`python3 -m tests none`.\n\n    make nothing\n")
     same("what is planted", len(faults_of("docs/A.md", text, {"all"})), 7)
 
 
