@@ -3,8 +3,8 @@
 A processor copies or clears many bytes by one `rep movsb` or `rep stosb`, and callgrind counts such an instruction once for each
 byte. So glibc is asked to use neither, by ENVIRONMENT. Only counts with the same setting can be compared.
 
-Instructions do not show the time: a processor does several at once, and waits for memory and for the system. So `milliseconds` gives the least
-time of a processor, of the command and of the system for it, in many runs. Compare it only with runs on the same host.
+Instructions do not show the time: a processor does several at once, and waits for memory and for the system. So `milliseconds` gives
+the least time of a processor, of the command and of the system for it, in many runs. Compare it only with runs on the same host.
 
 usage: python3 -m tests.costs.counting COMMAND ..      prints how many instructions the command takes
 """
@@ -16,6 +16,7 @@ import sys
 import tempfile
 
 from tests.lib.files import read
+from tests.lib.programs import ran
 
 ENVIRONMENT = {"GLIBC_TUNABLES": "glibc.cpu.x86_rep_movsb_threshold=0x10000000:glibc.cpu.x86_rep_stosb_threshold=0x10000000"}
 
@@ -30,18 +31,17 @@ def is_installed():
 
 def valgrind(words, folder=None, script=""):
     """Runs a command under valgrind, whose options come before it, with this input."""
-    environment = {**os.environ, **ENVIRONMENT}
-    return subprocess.run(["valgrind", *words], cwd=folder, input=script, env=environment, capture_output=True, text=True, check=False)
+    return ran("valgrind", *words, given=script.encode(), cwd=folder, env={**os.environ, **ENVIRONMENT})
 
 
-def counted(command, folder=None, script=""):
-    """Runs a command under callgrind; the run, and how many instructions it took."""
+def counted(command, folder=None, script="", status=0):
+    """How many instructions a command takes under callgrind. It has to end with this status."""
     with tempfile.TemporaryDirectory() as own:
         path = f"{own}/counts"
-        run = valgrind(["--tool=callgrind", f"--callgrind-out-file={path}", *command], folder, script)
-        if not os.path.exists(path):
-            sys.exit(f"valgrind does not run {command[0]}: {run.stderr}")
-        return run, int(re.search(r"^summary: (\d+)", read(path), re.M)[1])
+        done = valgrind(["--tool=callgrind", f"--callgrind-out-file={path}", *command], folder, script)
+        if done.status != status or not os.path.exists(path):
+            sys.exit(f"{' '.join(command[:9])} ended with status {done.status} under valgrind: {done.said()}")
+        return int(re.search(r"^summary: (\d+)", read(path), re.M)[1])
 
 
 def ended(command, folder=None):
@@ -64,11 +64,7 @@ def milliseconds(command, folder=None, runs=60):
 def main(*command):
     if not is_installed():
         return 1
-    run, instructions = counted(command)
-    if run.returncode != 0:
-        sys.stderr.write(run.stderr)
-        return run.returncode
-    print(instructions)
+    print(counted(command))
     return 0
 
 

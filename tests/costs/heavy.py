@@ -7,7 +7,6 @@ There are 200 objects with 65,000 bytes of text. Each defines 20 names, and 12,8
 taken by a sequence of numbers that is the same each time. With -i each object has its text again as its data, relocated in the same way.
 """
 import glob
-import sys
 
 from tests.costs.counting import counted, ended, is_installed, milliseconds
 from tests.lib.files import room, write
@@ -61,10 +60,7 @@ def measure(v7, options, has_data):
     for index in range(OBJECTS):
         write_object(index, others, has_data)
     command = [v7, "ld", *options, "-o", "out", *sorted(glob.glob("*.o"))]
-    run, instructions = counted(command)
-    if run.returncode != 0:
-        sys.exit(f"the link ended with status {run.returncode}: {run.stderr}")
-    used, (reads, writes) = ended(command)
+    instructions, (used, (reads, writes)) = counted(command), ended(command)
     return f"{instructions} instructions, {milliseconds(command):.2f} ms, {reads} reads, {writes} writes, {used.ru_minflt} page faults"
 
 
@@ -73,10 +69,7 @@ def edited(v7, path, objects):
     counts = []
     for times in 100, 1100:
         lines = [*(f"add {name}" for name in objects), *[f"add {path}", "withdraw"] * times]
-        run, instructions = counted([v7, "session"], script="".join(f"{line}\n" for line in lines))
-        if run.returncode != 0:
-            sys.exit(f"the session ended with status {run.returncode}: {run.stderr}")
-        counts.append(instructions)
+        counts.append(counted([v7, "session"], script="".join(f"{line}\n" for line in lines)))
     return (counts[1] - counts[0]) // 1000
 
 

@@ -37,11 +37,10 @@ def write_object(path, words, names):
 
 def asked(words, path):
     """How many bytes the program asks for, all together. It may report names, but not be refused what it asks for."""
-    run = valgrind([program("v7"), *words, path])
-    found = re.search(r"([\d,]+) bytes allocated", run.stderr)
-    if run.returncode > 1 or not found:
-        said = [line for line in run.stderr.splitlines() if not line.startswith("==")]
-        sys.exit(f"fault: {' '.join(words)} {path}: {' '.join(said)}")
+    done = valgrind([program("v7"), *words, path])
+    found = re.search(r"([\d,]+) bytes allocated", done.said())
+    if done.status > 1 or not found:
+        sys.exit(f"fault: {' '.join(words)} {path}: {done.said()}")
     return int(found[1].replace(",", ""))
 
 

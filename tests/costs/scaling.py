@@ -135,7 +135,7 @@ class Work:
 
     def mapped(self, size):
         """Maps the link of one object of so many symbols, every other one a label, and of six words for each. A word leads to a label by
-        its address, and the next one to another symbol by its number, one of the first 4,096, since a relocation word has 12 bits for it."""
+        its address, and the next one to another symbol by its number, which has 12 bits in a relocation word."""
         labels, most = (size + 1) // 2, min(size, 4096) // 2
         words = [reference(2 * (7 * number % most) + 1) if number % 2 else (4 * (7 * number % labels), 2) for number in range(6 * size)]
         symbols = [(name, *((WANTED, 0) if number % 2 else (DEFINED, 2 * number))) for number, (name, _, _) in enumerate(names(0, size))]
@@ -168,10 +168,7 @@ def count(programs, kind, size):
     """How many instructions a command takes."""
     with tempfile.TemporaryDirectory() as folder:
         command, script = getattr(Work(programs, folder), kind)(size)
-        run, instructions = counted(command, folder, script)
-        if run.returncode != (1 if kind in REPORTS and size > 0 else 0):
-            sys.exit(f"{kind} of size {size} ended with status {run.returncode}: {run.stderr}")
-        return instructions
+        return counted(command, folder, script, status=int(kind in REPORTS and size > 0))
 
 
 def slope(points):

@@ -10,17 +10,17 @@ import sys
 import textwrap
 
 from tests.lib.files import read, read_bytes, room
-from tests.lib.programs import program
+from tests.lib.programs import program, ran
 
 
 def session():
     """Plays the session, and returns its answers. The answer to a line is what a session with this line says more than one without it."""
     print("$ v7 session", flush=True)
-    lines, answers = read_bytes("session.txt").decode().splitlines(keepends=True), ""
+    lines, answers = read("session.txt").splitlines(keepends=True), ""
     for count, line in enumerate(lines, 1):
-        played = subprocess.run([program("v7"), "session"], input="".join(lines[:count]), stdout=subprocess.PIPE, stderr=subprocess.STDOUT, text=True, check=False)
-        print(f"> {line}{played.stdout[len(answers):]}", end="", flush=True)
-        answers = played.stdout
+        said = ran(program("v7"), "session", given="".join(lines[:count]).encode()).said()
+        print(f"> {line}{said[len(answers):]}", end="", flush=True)
+        answers = said
     print()
     return answers
 

@@ -17,7 +17,6 @@ any other run the answer has to be `no memory`, in its place:
 """
 import os
 import re
-import subprocess
 import sys
 import tempfile
 from dataclasses import dataclass, field
@@ -26,7 +25,7 @@ from tests.cases.case_files import sample
 from tests.cases.cases import snapshot
 from tests.lib.compare import Differs, notices, same
 from tests.lib.files import TOP, read_bytes, write
-from tests.lib.programs import FAULTS, program
+from tests.lib.programs import FAULTS, program, ran
 from tests.lib.watching import Watch
 
 SECONDS = 60
@@ -45,13 +44,13 @@ class Call:
 
 
 @dataclass
-class Ran:
-    """What came of a run: its files are those of the folder after it."""
+class Result:
+    """What came of a run, with the files of the folder after it, and whether a request of it was refused."""
     status: int
     output: bytes
     error: bytes
     files: dict
-    was_refused: bool = False
+    was_refused: bool = field(compare=False)
 
 
 # --- the calls
@@ -71,8 +70,8 @@ def samples(*names):
 OBJECTS = examples("main.o", "twice.o", "count.o")
 COMMONS = samples(b"k.o", b"c.o", b"d.o")
 GNU = examples("main.gnu", "twice.gnu", "squares.gnu")
-SCRIPT = ["add main.o", "add k.o", "undefined", "withdraw", "add twice.o", "link half", "add count.o", "externals", "link whole", "withdraw",
-          "withdraw", "add count.o", "add none.o", "link again"]
+SCRIPT = ["add main.o", "add k.o", "undefined", "withdraw", "add twice.o", "link half", "add count.o", "externals", "link whole",
+          "withdraw", "withdraw", "add count.o", "add none.o", "link again"]
 
 
 def calls():
@@ -127,11 +126,11 @@ class Player:
         self.restore()
         watch = Watch([(b"refuse", b"memory %d%s" % (number, rest))] if number else [])
         lines = "".join(f"{line}\n" for line in (self.call.script if script is None else script))
-        ran = subprocess.run(self.call.words, executable=self.program, cwd=self.folder, input=lines.encode(), capture_output=True,
-                             env=watch.environment(), timeout=SECONDS, check=False)
+        how = {"executable": self.program, "cwd": self.folder, "env": watch.environment()}
+        done = ran(*self.call.words, given=lines.encode(), seconds=SECONDS, **how)
         watch.requests()
         self.there = snapshot(self.folder)
-        return Ran(ran.returncode, ran.stdout, ran.stderr, self.there, bool(watch.refused))
+        return Result(*done, self.there, bool(watch.refused))
 
 
 # --- what is right
@@ -152,17 +151,17 @@ class Command:
             raise Differs(f"status {self.whole.status} although nothing is refused: {self.whole.error!r}")
         self.beginnings = [found.start() for found in re.finditer(self.call.begins, self.whole.output)]
 
-    def place(self, ran):
+    def place(self, came):
         """Judges a run in which a request was refused: how far it went."""
-        same("status", ran.status, 2)
+        same("status", came.status, 2)
         name = self.call.words[0]
         # the lesson says where it was
-        if not re.fullmatch(f"{name}: {'(.+: )?' * (name == 'v7-lesson')}{FAULTS['memory']}\n", os.fsdecode(ran.error)):
-            raise Differs(f"standard error: {ran.error!r}")
-        if not self.whole.output.startswith(ran.output) or len(ran.output) not in self.beginnings:
-            raise Differs(f"standard output has a part of an answer: {ran.output[-80:]!r}")
-        expect_files(self.call.files, ran.files)
-        return len(ran.output)
+        if not re.fullmatch(f"{name}: {'(.+: )?' * (name == 'v7-lesson')}{FAULTS['memory']}\n", os.fsdecode(came.error)):
+            raise Differs(f"standard error: {came.error!r}")
+        if not self.whole.output.startswith(came.output) or len(came.output) not in self.beginnings:
+            raise Differs(f"standard output has a part of an answer: {came.output[-80:]!r}")
+        expect_files(self.call.files, came.files)
+        return len(came.output)
 
 
 class Session(Command):
@@ -182,16 +181,16 @@ class Session(Command):
                 ended = player.run(script[:number] + script[number + 1:path])
                 self.ended.setdefault(answered + NO_MEMORY + ended.output[len(answered):], (number, ended.files))
 
-    def place(self, ran):
-        if ran.status == 1 and ran.output in self.refused:
-            number, files = self.refused[ran.output]
-            same("standard error", ran.error, b"")
-        elif ran.output in self.ended:
-            number, files = self.ended[ran.output]
-            same("status and standard error", (ran.status, ran.error), (2, b"v7: " + NO_MEMORY))
+    def place(self, came):
+        if came.status == 1 and came.output in self.refused:
+            number, files = self.refused[came.output]
+            same("standard error", came.error, b"")
+        elif came.output in self.ended:
+            number, files = self.ended[came.output]
+            same("status and standard error", (came.status, came.error), (2, b"v7: " + NO_MEMORY))
         else:
-            raise Differs(f"status {ran.status}, and answers as of no session without a line: {ran.output!r}")
-        expect_files(files, ran.files)
+            raise Differs(f"status {came.status}, and answers as of no session without a line: {came.output!r}")
+        expect_files(files, came.files)
         return number
 
 
@@ -199,12 +198,12 @@ def refuse_each(player, judge, rest):
     """Refuses one request after another, and with `..` all after it: how many there are, how many runs came out as if nothing had been
     refused, and what was wrong in others."""
     number, alike, last, faults = 1, 0, None, []
-    while (ran := player.run(number=number, rest=rest)).was_refused:
+    while (came := player.run(number=number, rest=rest)).was_refused:
         try:
-            if (ran.status, ran.output, ran.error, ran.files) == (judge.whole.status, judge.whole.output, judge.whole.error, judge.whole.files):
+            if came == judge.whole:
                 alike += 1
             else:
-                place = judge.place(ran)
+                place = judge.place(came)
                 if last is not None and place < last:
                     raise Differs(f"the place {place} comes before {last}")
                 last = place
@@ -225,19 +224,15 @@ def refuse_all(player):
     return requests, alike, faults + refuse_each(player, judge, b"..")[2]
 
 
-def told(name, requests, alike, faults):
-    """Prints a line for a call, and what is wrong: how much that is."""
-    print(f"{name}: {requests} requests" + (f", {alike} of them not needed" if alike else ""), *(f"  {fault}" for fault in faults[:10]), sep="\n", flush=True)
-    return len(faults)
-
-
 def try_call(call):
-    """Refuses the requests of a program: how much is wrong."""
+    """Refuses the requests of a program, and prints a line for it, and what is wrong: how much that is."""
     with tempfile.TemporaryDirectory() as folder:
         try:
-            return told(call.name, *refuse_all(Player(folder, call)))
+            requests, alike, faults = refuse_all(Player(folder, call))
         except Differs as wrong:
-            return told(call.name, 0, 0, [str(wrong)])
+            requests, alike, faults = 0, 0, [str(wrong)]
+    print("\n  ".join([f"{call.name}: {requests} requests" + f", {alike} of them not needed" * bool(alike), *faults[:10]]), flush=True)
+    return len(faults)
 
 
 def main(*names):
