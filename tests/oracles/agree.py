@@ -2,12 +2,12 @@
 
 usage: python3 -m tests.oracles.agree [KIND NUMBER]       all cases, or one, as `link 17`, which leaves its files in build/differs
        python3 -m tests.oracles.agree -l LINKS SESSIONS
-tier: check, 60 seconds; programs: v7; for: crates/aout_core crates/link_session crates/link_out crates/symtools crates/command_words crates/v7tools docs/LINK.md
+tier: check, 60 seconds; programs: v7;
+ for: crates/aout_core crates/link_session crates/link_out crates/symtools crates/command_words crates/v7tools docs/LINK.md
 tier: check, 20 seconds; programs: libv7.so; words: -l 500 1000; for: crates/library_calls crates/v7_c
 
-A case is some files and some commands, which both run in a folder of their own. After each
-command the status, standard output, standard error and every byte of every file are compared.
-The number of a case gives its files and commands, so each run is the same.
+A case is some files and some commands, which both run in a folder of their own. After each command the status, standard output,
+standard error and every byte of every file are compared. The number of a case gives its files and commands, so each run is the same.
 
 With -l it compares what libv7 gives. For a link that is the status, every byte of the file, and the report as lines, as a list, and as a
 list with objects, or the fault, its object and its word. For a session it is also what each edit gives and the names that are shown.
@@ -25,6 +25,7 @@ import struct
 import sys
 from collections import Counter
 from dataclasses import dataclass
+from unittest import mock
 
 from tests.lib.compare import Differs, notices, same
 from tests.lib.files import TOP, read_bytes, room, write
@@ -424,14 +425,9 @@ def compare(case, top):
 
 
 def planted():
-    """The model's answers have a byte more."""
-    asked = model.run
-    model.run = lambda words, script: (lambda status, out, err: (status, out + b".", err))(*asked(words, script))
-    try:
-        with room() as folder:
-            compare(case_of('link', 0), folder)
-    finally:
-        model.run = asked
+    """The model writes what v7 does not write."""
+    with room() as folder, mock.patch.object(model, 'run', lambda words, script: (2, b'planted', b'v7: usage\n')):
+        compare(Case({}, [([], b'')]), folder)
 
 
 def work(job):
@@ -515,7 +511,8 @@ def asked_of(arguments):
 
 
 def options_of(arguments):
-    bits = {"r": library.RELOCATABLE, "s": library.STRIP, "x": library.EXTERNALS, "X": library.NOT_L, "n": library.PURE, "i": library.SPLIT, "d": library.FORCE_COMMONS}
+    bits = dict(zip("rsxXnid", (library.RELOCATABLE, library.STRIP, library.EXTERNALS, library.NOT_L, library.PURE, library.SPLIT,
+                                library.FORCE_COMMONS)))
     return sum(bits[letter] for letter in arguments.letters)
 
 
@@ -562,7 +559,8 @@ def library_link(number):
     """What model and library give for a link."""
     _, _, arguments, objects = given_of("link", number)
     merged, refused = merged_of(objects, arguments.forced)
-    return [refused] * 3 if refused else by_model(merged, arguments), by_library(library, objects, options_of(arguments), **asked_of(arguments))
+    expected = [refused] * 3 if refused else by_model(merged, arguments)
+    return expected, by_library(library, objects, options_of(arguments), **asked_of(arguments))
 
 
 def model_edit(states, forced, edit):
@@ -628,7 +626,8 @@ def main():
     with multiprocessing.Pool() as pool:
         for (kind, number), texts, difference in pool.imap(work, jobs, chunksize=4):
             if difference:
-                sys.exit(f'{kind} {number} differs: python3 -m tests.oracles.agree {kind} {number} leaves its files in build/differs\n{difference}')
+                again = f'python3 -m tests.oracles.agree {kind} {number}'
+                sys.exit(f'{kind} {number} differs: {again} leaves its files in build/differs\n{difference}')
             seen[kind].update(texts)
     for kind, count in COUNTS.items():
         print(f'{count} {kind} cases agree:', ', '.join(f'{text} {seen[kind][text]}' for text in EXPECTED[kind]))

@@ -3,9 +3,9 @@
 tier: check, 26 seconds; programs: v7-explain; for: crates/instructions crates/disassemblies crates/explanations docs/OBJECTS.md
 
 Each of the 65,536 words is the first word of a line four times, each time with two other words after it: 262,144 lines. Then 400 made
-files are compared, objects and linked ones, with names, labels, relocated words, remarks and strings, and the text of their listings. The table of
-instructions and the rules of names are written here anew. If GNU's assembler for the PDP-11 is installed, it assembles the text back to the same words, the floating
-instructions aside.
+files are compared, objects and linked ones, with names, labels, relocated words, remarks and strings, and the text of their listings.
+The table of instructions and the rules of names are written here anew. If GNU's assembler for the PDP-11 is installed, it assembles the
+text back to the same words, the floating instructions aside.
 """
 import functools
 import os
@@ -26,12 +26,10 @@ FOUR_PAIRS = [(0o000005, 0o177774), (0o177777, 0o000000), (0o100000, 0o077776), 
 NOP = 0o000240
 REGISTERS = "r0 r1 r2 r3 r4 r5 sp pc".split()
 
-# operands, then names: an asterisk is for the letter b of the instruction on bytes, at 0100000 more
+# operands, then names: an asterisk is for the letter b of the instruction on bytes, at 0100000 more. Those that clear and set condition
+# codes follow from their bits
 TABLE = """
--   000241 clc 000242 clv 000244 clz 000250 cln 000261 sec 000262 sev 000264 sez 000270 sen
--   000243 clc|clv 000245 clc|clz 000246 clv|clz 000247 clc|clv|clz 000251 clc|cln 000252 clv|cln 000253 clc|clv|cln 000254 clz|cln 000255 clc|clz|cln 000256 clv|clz|cln
--   000260 sec&sev 000263 sec|sev 000265 sec|sez 000266 sev|sez 000267 sec|sev|sez 000271 sec|sen 000272 sev|sen 000273 sec|sev|sen 000274 sez|sen 000275 sec|sez|sen 000276 sev|sez|sen
--   000000 halt 000001 wait 000002 rti 000003 bpt 000004 iot 000005 reset 000006 rtt 000240 nop 000257 ccc 000277 scc
+-   000000 halt 000001 wait 000002 rti 000003 bpt 000004 iot 000005 reset 000006 rtt 000240 nop 000257 ccc 000260 sec&sev 000277 scc
 -   170000 cfcc 170001 setf 170002 seti 170011 setd 170012 setl
 D   000100 jmp 000300 swab 005000 clr* 005100 com* 005200 inc* 005300 dec* 005400 neg* 005500 adc* 005600 sbc* 005700 tst*
 D   006000 ror* 006100 rol* 006200 asr* 006300 asl* 006700 sxt 006500 mfpi 006600 mtpi 106500 mfpd 106600 mtpd
@@ -71,25 +69,19 @@ SHIFT = {"S": 6, "R": 6, "A": 6}
 def table():
     """For each first word its name, and for each operand its letter and the value in the field."""
     found = {}
-    for line in TABLE.split("\n"):
-        if not line:
-            continue
-        letters, *pairs = line.split()
+    for base, verb in ((0o240, "cl"), (0o260, "se")):
+        for bits in range(1, 15):
+            found[base + bits] = "|".join(f"{verb}{flag}" for place, flag in enumerate("cvzn") if bits >> place & 1), []
+    for letters, *pairs in map(str.split, TABLE.split("\n")[1:-1]):
         letters = letters.strip("-")
-        count = 1
-        for letter in letters:
-            count <<= BITS[letter]
         for base, name in zip(pairs[::2], pairs[1::2]):
-            both = [(int(base, 8), name.strip("*"))]
-            if name.endswith("*"):
-                both.append((0o100000 + int(base, 8), name.strip("*") + "b"))
-            for first, called in both:
-                for word in range(first, first + count):
+            both = [(int(base, 8), name.strip("*")), (0o100000 + int(base, 8), name.replace("*", "b"))]
+            for first, called in both[:1 + name.endswith("*")]:
+                for word in range(first, first + (1 << sum(BITS[letter] for letter in letters))):
                     assert word not in found, oct(word)
                     fields = [(letter, word >> SHIFT.get(letter, 0) & (1 << BITS[letter]) - 1) for letter in letters]
-                    if any(letter == "F" and value in (6, 7) for letter, value in fields):
-                        continue
-                    found[word] = (called, fields)
+                    if ("F", 6) not in fields and ("F", 7) not in fields:
+                        found[word] = called, fields
     return found
 
 
@@ -106,7 +98,7 @@ def has_word(letter, value):
 
 def calls():
     """For each first word of a system call its name, and how many words are its arguments."""
-    lines = [line.split() for line in CALLS.split("\n") if line]
+    lines = map(str.split, CALLS.split("\n")[1:-1])
     return {0o104400 + int(number, 8): (name, int(count)) for count, *pairs in lines for number, name in zip(pairs[::2], pairs[1::2])}
 
 
@@ -306,8 +298,8 @@ class File:
             at = place + 1
             for letter, value in fields:
                 if has_word(letter, value):
-                    absolute = name in ("jmp", "jsr") if value == 0o37 else None
-                    yield at, self.reference(name, value >> 3, value & 7, self.words[at], 2 * at + 2, at), False if value == 0o27 else absolute
+                    fetches = False if value == 0o27 else name in ("jmp", "jsr") if value == 0o37 else None
+                    yield at, self.reference(name, value >> 3, value & 7, self.words[at], 2 * at + 2, at), fetches
                     at += 1
 
     def nearest(self, kind, address):
@@ -526,7 +518,8 @@ def random_data(dice):
     """Words of data: few, or bytes of text with a NUL here and there."""
     if dice.randrange(2):
         return [0] * dice.randrange(9)
-    text = b"".join(dice.choice([b"a", b"xy", b"~ ", b'"', b"\\", b"\t", b"\n", b"\0", b"\0", b"\x7f", b"z" * 37]) for _ in range(dice.randrange(40)))
+    parts = [b"a", b"xy", b"~ ", b'"', b"\\", b"\t", b"\n", b"\0", b"\0", b"\x7f", b"z" * 37]
+    text = b"".join(dice.choice(parts) for _ in range(dice.randrange(40)))
     return list(struct.unpack("<%dH" % (len(text) // 2), text[: len(text) // 2 * 2]))
 
 
@@ -535,7 +528,8 @@ def random_file(dice):
     magic, relocated = dice.choice([(0o407, 1), (0o407, 1), (0o407, 0), (0o410, 0), (0o411, 0), (0o405, 0)])
     count, bss = dice.randrange(1, 40), 2 * dice.randrange(9)
     data = random_data(dice)
-    frequent = [0o016700, 0o012700, 0o004767, 0o000137, 0o000167, 0o013737, 0o017777, 0o016160, 0o000401, 0o077002, 0o172467, 0o005067, 0o067077, 0o104400, 0o104404, 0o104423, 0o104454, 0o104455]
+    frequent = [0o016700, 0o012700, 0o004767, 0o000137, 0o000167, 0o013737, 0o017777, 0o016160, 0o000401, 0o077002, 0o172467, 0o005067,
+                0o067077, 0o104400, 0o104404, 0o104423, 0o104454, 0o104455]
     near = lambda: dice.choice([dice.randrange(0, 2 * count + 40), -dice.randrange(0, 2 * count + 8) & 0o177777, dice.randrange(65536)])
     words = [dice.choice([dice.choice(frequent), near(), near()]) for _ in range(count)]
     if dice.randrange(4) == 0:
