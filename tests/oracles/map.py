@@ -1,4 +1,4 @@
-"""Compares the maps of links, each record that libv7 gives and all of the text of `v7-explain -m`, with those of tests/oracles/map_model.py.
+"""Compares the maps of links with those of map_model.py: each record that libv7 gives, and all of the text of `v7-explain -m`.
 
 usage: python3 -m tests.oracles.map [LINKS]       all of 300 links; or, of so many, only the records
 tier: check, 60 seconds; programs: v7-explain libv7.so; for: crates/link_maps crates/v7_explain crates/library_calls crates/v7_c
@@ -20,8 +20,8 @@ LINKS = 300
 OPTIONS = ["", "n", "i", "r", "rd", "x", "X", "s", "d"]
 NAMES = [b"_a", b"_b", b"_c", b"_main", b"_long_na", b"long_nax", b"a", b"x", b"_forced", b"_end", b"_etext", b"Lx"]
 # first words of one to three words, one that begins no instruction, and words like those of operands
-WORDS = [0o000207, 0o005200, 0o004767, 0o004737, 0o012700, 0o016167, 0o016767, 0o012737, 0o013737, 0o170006, 2, 0o177772, 0o177776, 0o000401,
-         0o001376, 0o077002, 0o005077, 0o104404]
+WORDS = [0o000207, 0o005200, 0o004767, 0o004737, 0o012700, 0o016167, 0o016767, 0o012737, 0o013737, 0o170006, 2, 0o177772, 0o177776,
+         0o000401, 0o001376, 0o077002, 0o005077, 0o104404]
 # an object each that a link has no place for: as it does not fit, as text, data or bss is full, and as the table has too many symbols
 TOO_MUCH = [pack(symbols=[(b"_huge", 0o40, 65534)]), pack([(0, 0)] * 32767), pack(data=[(0, 0)] * 32767), pack(bss=65534),
             pack(symbols=[(b"L%d" % number, 1, 0) for number in range(5461)])]
@@ -34,9 +34,9 @@ def random_object(dice):
     symbols, pairs = [], []
     for name in dice.sample(NAMES, dice.randrange(7)) + dice.sample(NAMES, dice.randrange(20) == 0):
         kind = dice.choice([0o40, 0o40, 0o40, 0o40, 0o41, 0o42, 0o43, 0o44, 2, 1])
-        values = {0: [0, 0, 2, 3, 6], 1: [0, 0o777, 65535]}
-        segment = kind & 0o37
-        symbols.append((name, kind, dice.choice(values.get(segment) or range(2 * starts[segment], 2 * (starts[segment] + sizes[segment]) + 1, 2))))
+        values, segment = {0: [0, 0, 2, 3, 6], 1: [0, 0o777, 65535]}, kind & 0o37
+        values.update((of, range(2 * start, 2 * (start + sizes[of]) + 1, 2)) for of, start in starts.items())
+        symbols.append((name, kind, dice.choice(values[segment])))
     wanted = [number for number, (_, kind, _) in enumerate(symbols) if kind == 0o40]
     placed = [(kind & 0o37, value) for _, kind, value in symbols if kind & 0o37 > 1]
     for place in range(sizes[2] + sizes[3]):

@@ -95,12 +95,14 @@ class Maker:
 
     def put_instruction(self, kind):
         """An instruction of one of nine forms. The last one is a branch to the first instruction."""
-        forms = [(self.put_from_pc,), (self.put_address,), (), (self.put_from_pc, self.put_from_pc), (self.put_address,), (), (self.put_address,), (self.put_from_pc,), ()]
-        word = [0o016700, 0o012700, 0o004767, 0o026767, 0o016001, 0, 0o104404, 0o017702, 0o001000 + (-len(self.words) - 1) % 256][kind]
+        near, far = self.put_from_pc, self.put_address
+        forms = [(0o016700, near), (0o012700, far), (0o004767,), (0o026767, near, near), (0o016001, far), (0,), (0o104404, far),
+                 (0o017702, near), (0o001000 + (-len(self.words) - 1) % 256,)]
+        word, *operands = forms[kind]
         if kind == 5:
             word = dice.choice([0o010100, 0o005726, 0o060201, 0o000240])
         self.put(word + (dice.randrange(6) if kind < 2 else 0))
-        for put in forms[kind]:
+        for put in operands:
             put(*self.place())
         if kind == 2:
             self.put_from_pc(self.external(dice.choice([b"_a", b"_b", b"_c"])), 0)
@@ -196,7 +198,8 @@ def main():
         "of the page": (objects_of("tests/page/data/*.o"), True),
         "made": ([Maker(number).file() for number in range(300)], False),
     }
-    notices(compare, "a word that is no instruction", File([0o004567, 0o177774, 0o10], [0, 9, 0], [(b"csv", 0o40, 0), (b"_f", 0o42, 0)]), False, set())
+    symbols = [(b"csv", 0o40, 0), (b"_f", 0o42, 0)]
+    notices(compare, "a word that is no instruction", File([0o004567, 0o177774, 0o10], [0, 9, 0], symbols), False, set())
     check_right(kinds)
     files = [file for some, _ in kinds.values() for file in some[:MOST_PLANTED]]
     paths = stored(files)

@@ -1,14 +1,11 @@
-#!/usr/bin/env python3
-"""A second linker: ld, nm, size, strip and session again, in as few words as they take.
+"""A second linker: ld, nm, size, strip and session again, as short as they can be.
 
-It was written from docs/LINK.md, docs/FORMAT.md, docs/teaching/BLACKBOARD.md and the
-manual pages, and shares no code with v7. Where these left something open, the program was tried and
-the page was mended. tests/oracles/agree.py compares the two on random files.
+It was written from docs/LINK.md, docs/FORMAT.md, docs/teaching/BLACKBOARD.md and the manual pages, and shares no code with v7. Where
+these left something open, the program was tried, and the page was mended. tests/oracles/agree.py compares the two on random files.
 
     python3 -m tests.oracles.model ld -o program main.o twice.o
 
-does what `v7 ld -o program main.o twice.o` does. Nothing is incremental here: each addition of
-a session merges the whole list of objects again.
+does what `v7 ld -o program main.o twice.o` does. Nothing is incremental here: each addition of a session merges all objects again.
 """
 import os
 import struct
@@ -194,7 +191,8 @@ class Link:
         words = {segment: self.linked_words(segment) for segment in (TEXT, DATA)}
         entry = self.symbols.get(self.entry)
         self.has_entry = entry is not None and entry.type == EXTERNAL + TEXT
-        self.file = File(self.magic, words, self.bss, table, entry.value if self.has_entry else 0, unused=0, flag=0 if 'r' in self.letters else 1)
+        entry_point = entry.value if self.has_entry else 0
+        self.file = File(self.magic, words, self.bss, table, entry_point, unused=0, flag=0 if 'r' in self.letters else 1)
         self.report = self.reported()
 
     def lay_out(self):

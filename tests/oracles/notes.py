@@ -2,7 +2,8 @@
 v7-explain(1). What is odd of instructions is left to mistakes.py; here `-c` has to say of it what the listing says. A session of v7
 has to add what is called an object, and to answer what is noted of another file.
 
-tier: check, 100 seconds; programs: v7-explain v7 v7-object; for: crates/checks crates/explanations crates/v7_explain docs/FORMAT.md man/v7-explain.1
+tier: check, 100 seconds; programs: v7-explain v7 v7-object;
+ for: crates/checks crates/explanations crates/v7_explain docs/FORMAT.md man/v7-explain.1
 
 The files are made, the same in each run: objects whose numbers are at the edges of their ranges and beside them, and one file cut
 at each byte. There are objects with 15 to 18 bad relocation words, files with other magic numbers, flags and sizes, files of other forms,
@@ -18,6 +19,7 @@ import struct
 
 from tests.lib.compare import notices, same
 from tests.lib.files import TOP, read_bytes, room, write
+from tests.lib.objects import pack
 from tests.lib.programs import program, ran
 from tests.oracles import agree
 from tests.oracles.disassembly import FOUND, SYS, File as Text, decoded, has_word
@@ -43,7 +45,8 @@ MOST = 16
 MOST_ALIKE = 4
 OUTSIDE = re.compile(r"the word( at \d+ is of kind (\w+) and refers to \d+; .*)")
 # what is odd of instructions; and what is said if more is odd than is shown
-SUSPICIOUS = re.compile(r"the first word of the|the pc bit of|an instruction leads to|is cut by the end of|the branch at|the word at \d+ (?:counts|is of a call|adds|leads to|jumps)|is of the last instruction of text")
+SUSPICIOUS = re.compile(r"the first word of the|the pc bit of|an instruction leads to|is cut by the end of|the branch at|"
+                        r"the word at \d+ (?:counts|is of a call|adds|leads to|jumps)|is of the last instruction of text")
 # the words of the header, which the cases of listings show
 HEADER = re.compile(r"0[01][0246]  [0-7]{6}  ")
 DOUBT = ", if this is"
@@ -242,9 +245,10 @@ def direct(file):
     """The bytes of text at which the words of operands of modes 37, 67 and 77 are, by the lines of the sweep."""
     text, place = decoded(file.data), 0
     while file.flag == 0 and place < len(text.words):
-        length = text.line(place)[0]
-        fields = [value for letter, value in FOUND[text.words[place]][1] if has_word(letter, value)] if length > 1 and text.words[place] not in SYS else []
-        yield from (2 * at for at, value in enumerate(fields, place + 1) if value in (0o37, 0o67, 0o77))
+        length, word = text.line(place)[0], text.words[place]
+        if length > 1 and word not in SYS:
+            fields = [value for letter, value in FOUND[word][1] if has_word(letter, value)]
+            yield from (2 * at for at, value in enumerate(fields, place + 1) if value in (0o37, 0o67, 0o77))
         place += length
 
 
@@ -268,8 +272,8 @@ def odd_words(file):
                                                 f"{lies(file, segment, to)}" + unless(sure))
 
 
-def odd_symbol(file, number, symbol, first):
-    """What is odd of a symbol, if the first external of its name has this number."""
+def odd_symbol(file, number, symbol, first, used):
+    """What is odd of a symbol, if the first external of its name has this number, and words refer to those of the numbers `used`."""
     name, field, kind, value = symbol
     if not name:
         yield 0, "has an empty name"
@@ -293,17 +297,18 @@ def odd_symbol(file, number, symbol, first):
         if not begin <= value <= end:
             sure = segment != "text" and not is_moved(file) and (kind & 0o40 or is_far(file, segment, value))
             yield 10, f"of {segment} has value {value:06o}, and {lies(file, segment, value)}" + unless(sure)
-    if is_undefined(kind) and not value and file.flag == 0 and not any(reloc & 0o16 == 0o10 and reloc >> 4 == number for _, _, reloc in file.words()):
+    if is_undefined(kind) and not value and file.flag == 0 and number not in used:
         yield 0, "is undefined, and no word refers to it" + MEANT
 
 
 def odd_of(file):
     """What is odd of a file, each with its byte, but for what is odd of its instructions, which comes last."""
     odd, firsts = [*odd_header(file), *odd_words(file)], {}
+    used = {reloc >> 4 for _, _, reloc in file.words() if reloc & 0o16 == 0o10}
     for number, symbol in enumerate(file.symbols()):
         at, title = file.symbols_at + 12 * number, f"symbol {number} {shown(symbol[0])}"
         first = firsts.setdefault(symbol[0], number) if symbol[2] & 0o40 else number
-        odd += [(at + place, f"{title} {text}") for place, text in odd_symbol(file, number, symbol, first)]
+        odd += [(at + place, f"{title} {text}") for place, text in odd_symbol(file, number, symbol, first, used)]
     return odd
 
 
@@ -381,7 +386,7 @@ def inventory_of(path, data, odd):
 
 
 def remains(data):
-    """The rows of a listing for what is there of a file that ends early, as far as they do not follow from other rows, and its last line."""
+    """The rows of the listing of a file that ends early, as far as they do not follow from other rows, and its last line."""
     file, size = File(data), len(data)
     segments, starts = file.text + file.data_size, {"text": 0, "data": file.ranges()["data"][0]}
     there = max(0, min(segments, size - 16) // 2)
@@ -421,7 +426,7 @@ def cuts():
     """Files, each cut at a place after its header."""
     whole = [read_bytes(path) for path in sorted(glob.glob(f"{TOP}/examples/*.o"))] + [of_any_names() for _ in range(50)]
     whole += [random_file(dice.randrange(1, 9), dice.randrange(5), magic, flag) for magic in PROGRAMS for flag in (0, 1)]
-    whole = [data for data in whole if len(data) >= 16 and not list(bad_sizes(File(data))) and File(data).end > 16 and File(data).magic in PROGRAMS]
+    whole = [data for data in whole if (file := wrong(data)[1]) and file.end > 16]
     for number in range(CUTS):
         data = whole[number % len(whole)]
         yield data[:dice.randrange(16, min(len(data), File(data).end))]
@@ -451,7 +456,7 @@ def random_symbol(edges):
     name = dice.choice([b"_a", b"_b", b"Lc", b"", b"eight_by", b"a\\b", b"\x7f", b" x", b"~", b"_a\0z", b"!"])
     kind = dice.choice([0o40, 0o40, 0o40, 0, 1, 2, 3, 4, 0o41, 0o42, 0o43, 0o44, 0o24, 0o37, 0o77, 0o100, 0o101, 0o140])
     kind = dice.choice([kind, kind, kind, dice.randrange(65536)])
-    return struct.pack("<8sHH", name, kind, dice.choice([0, 1, 2, near(edges)]))
+    return name, kind, dice.choice([0, 1, 2, near(edges)])
 
 
 def random_reloc(count):
@@ -468,10 +473,10 @@ def random_file(text, data, magic=0o407, flag=0):
     words = [near(edges) for _ in range(text + data)]
     # a word that is relative to the pc has the distance
     words = [(word - 2 * at - 2) % 65536 if dice.randrange(2) else word for at, word in enumerate(words)]
-    words += [random_reloc(count) for _ in range(text + data if flag == 0 else 0)]
-    header = [magic, 2 * text, 2 * data, bss, 12 * count, dice.choice([0, 0, 2]), dice.choice([0, 0, 1]), flag]
-    symbols = b"".join(random_symbol(edges) for _ in range(count))
-    return struct.pack("<%dH" % (8 + len(words)), *header, *words) + symbols + bytes(dice.choice([0, 0, 0, 1, 9]))
+    pairs = [(word, 0 if flag else random_reloc(count)) for word in words]
+    more = {"entry": dice.choice([0, 0, 2]), "unused": dice.choice([0, 0, 1])}
+    symbols = [random_symbol(edges) for _ in range(count)]
+    return pack(pairs[:text], pairs[text:], bss, symbols, magic, flag, **more, tail=bytes(dice.choice([0, 0, 0, 1, 9])))
 
 
 # first words, and how many operand words or arguments they have
@@ -498,8 +503,8 @@ def files():
     whole = random_file(3, 2)
     yield from (whole[:size] for size in range(len(whole) + 1))
     for bad in range(15, 19):
-        yield struct.pack("<8H", 0o407, 2 * bad, 4, 0, 0, 0, 0, 0) + bytes(2 * bad + 4) + b"\x0a\0" * bad + bytes(4)
-        yield struct.pack("<8H", 0o407, 4, 2 * bad, 0, 0, 0, 0, 0) + bytes(2 * bad + 4) + b"\x0a\0" * (bad + 2)
+        yield pack([(0, 0o12)] * bad, [(0, 0)] * 2)
+        yield pack([(0, 0o12)] * 2, [(0, 0o12)] * bad)
     for at in range(2, 10, 2):
         for size in (1, 3, 13, 255):
             yield whole[:at] + struct.pack("<H", size) + whole[at + 2:]
@@ -515,7 +520,7 @@ def files():
         core = bytes(0o412) + struct.pack("<2H", *sizes) + bytes(1024 - 0o416 + 64 * sum(sizes))
         yield from (core, core[:-1], core + b"\0")
     # text and data of more than 65,536 bytes, the last words of which have relocation words of text and of data
-    yield struct.pack("<8H", 0o407, 40000, 40000, 0, 0, 0, 0, 0) + bytes(159996) + b"\x22\0\x05\0"
+    yield pack([(0, 0)] * 20000, [(0, 0)] * 19998 + [(0, 0o42), (0, 5)])
     yield from (random_file(dice.randrange(9), dice.randrange(5)) for _ in range(1000))
     yield from (random_code() for _ in range(1000))
     whole = [read_bytes(path) for path in sorted(glob.glob(f"{TOP}/examples/*.o"))] + [of_any_names() for _ in range(500)]
@@ -616,7 +621,7 @@ def main():
         compare(f"-l {path}", data, [line], [inventory_of(path, data, odd_count(notes) + alike)])
     answered(0, "-c", *doubted)
     compare_cuts()
-    print(f"{count} notes of {len(datas)} files compared, {len(datas)} lines of an inventory, and what is there of {CUTS} files that end early")
+    print(f"{count} notes and {len(datas)} lines of an inventory compared, and what is there of {CUTS} files that end early")
 
 
 if __name__ == "__main__":

@@ -97,7 +97,7 @@ def writes_pc(file, place):
 def writes_ahead(file, place):
     """Whether an instruction writes the word after it: what is executed there is not what the file has."""
     name = instruction(file, place)[0]
-    return name not in READ_ONLY and any(letter == "D" and mode == 1 and register == PC for _, letter, mode, register in operands(file, place))
+    return name not in READ_ONLY and ("D", 1, PC) in [row[1:] for row in operands(file, place)]
 
 
 def address(file, at):
@@ -132,8 +132,8 @@ def call_target(file, place):
 
 
 def named(file, place, own):
-    """The name of the external that jsr calls by mode 37 or 67, or, if `own`, of the symbol of text there or of an external to which a number
-    is added; or None."""
+    """The name of the external that jsr calls by mode 37 or 67, or None. If `own` is true, that of the symbol of text there too, or of an
+    external to which a number is added."""
     for at, _, mode, register in operands(file, place):
         if register != PC or at is None or at >= len(file.words) or mode not in (3, 6):
             continue
@@ -343,8 +343,9 @@ def wrong_addresses(file, reached):
 def surely_wrong(file, promise=False):
     """The remarks that have to be said as sure, and those that may be."""
     certain, possible = sure(file, promise)
-    wanted = {remark for place in certain for remark in wrong_at(file, place) if remark[1] != "within" and (promise or remark[1] not in PROMISED)}
-    allowed = {remark for place in possible for remark in wrong_at(file, place) if promise or remark[1] not in PROMISED}
+    excluded = () if promise else PROMISED
+    wanted = {remark for place in certain for remark in wrong_at(file, place) if remark[1] not in ("within", *excluded)}
+    allowed = {remark for place in possible for remark in wrong_at(file, place) if remark[1] not in excluded}
     if promise:
         wanted |= set(wrong_addresses(file, certain))
         allowed |= set(wrong_addresses(file, possible))
