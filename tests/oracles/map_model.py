@@ -1,5 +1,5 @@
-"""The map of a link by the second linker, tests/oracles/model.py, from v7(3) and v7-explain(1): what `link_map` of the module v7 has to give,
-and the text of `v7-explain -m`. Instructions are those of tests/oracles/disassembly.py."""
+"""The map of a link by the second linker, tests/oracles/model.py, from v7(3) and v7-explain(1): what `link_map` of the module v7 has to
+give, and the text of `v7-explain -m`. Instructions are those of tests/oracles/disassembly.py."""
 import functools
 import itertools
 import re
@@ -78,7 +78,7 @@ def text_target(words, line, place):
     name, fields = disassembly.FOUND.get(words[line], ("", []))
     after = 2 * place + 2
     if line == place:
-        steps = [value - 256 * (value > 127) for letter, value in fields if letter == "B"] + [-value for letter, value in fields if letter == "O"]
+        steps = [-value if letter == "O" else value - 256 * (value > 127) for letter, value in fields if letter in "BO"]
         return (after + 2 * steps[0]) % model.WORD if steps else None
     operands = [value for letter, value in fields if disassembly.has_word(letter, value)]
     return (words[place] + after) % model.WORD if name != "sys" and operands[place - line - 1] in (0o67, 0o77) else None
@@ -140,9 +140,9 @@ class Names:
         taken = self.laid and self.laid.link and name in model.RESERVED and (definitions or commons)
         if name in self.merged.multiples or taken:
             state += v7.NAME_IS_MULTIPLE
-        users = [use for use in uses if use[0] is not None and use not in definitions]
-        first, further, user = (found[place][0] if len(found) > place else None for found, place in ((definitions, 0), (definitions, 1), (users, 0)))
-        return v7.MapName(text(name), first, further, user, state, shown.type, shown.value)
+        definers = [use[0] for use in definitions] + [None, None]
+        user = next((use[0] for use in uses if use[0] is not None and use not in definitions), None)
+        return v7.MapName(text(name), *definers[:2], user, state, shown.type, shown.value)
 
     def uses_by(self, name, number):
         for place, symbol_number, symbol in self.uses_of[name]:
@@ -160,8 +160,8 @@ def limits_of(files, arguments, merged, laid):
         if laid.link:
             rows.append((5, len(laid.link.file.symbols), model.SYMBOLS_LIMIT))
             if "r" in arguments.letters:
-                numbers = [word // model.NUMBER for pairs in laid.link.file.words.values() for _, word in pairs if word & model.KIND == model.NAMED]
-                rows.append((6, max(numbers, default=0), model.NUMBER_LIMIT))
+                relocs = [reloc for pairs in laid.link.file.words.values() for _, reloc in pairs if reloc & model.KIND == model.NAMED]
+                rows.append((6, max(relocs, default=0) // model.NUMBER, model.NUMBER_LIMIT))
         rows.append((7, len(merged.externals), model.NAMES_LIMIT))
     return [v7.MapLimit(*row) for row in rows]
 
@@ -188,7 +188,7 @@ class Mapped:
         self.starts = [*map(line_starts, self.texts)]
         names = Names(files, self.starts, arguments.forced, self.places, self.merged, laid)
         self.symbols = [[symbol for _, _, symbol in names.uses_of[name]] for name in sorted(names.uses_of)]
-        rows = [v7.MapObject(*(place[segment] for segment in model.SEGMENTS), len(file.symbols), *(file.size(segment) for segment in model.SEGMENTS))
+        rows = [v7.MapObject(*map(place.get, model.SEGMENTS), len(file.symbols), *map(file.size, model.SEGMENTS))
                 for file, place in zip(files, self.places)]
         known = rows, names.names, names.uses, limits_of(files, arguments, self.merged, laid)
         link = laid and laid.link
@@ -272,9 +272,9 @@ class Mapped:
         name = self.found.names[number]
         if name.state & v7.NAME_IS_PLACED:
             return model.symbol_line(model.Symbol(b"", name.type, name.value)).decode() + shown(name.name)
-        symbols = [symbol for file in self.files for symbol in file.symbols if symbol.type & model.EXTERNAL and text(symbol.name) == name.name]
-        best = sorted(symbols, key=lambda symbol: (symbol.kind == model.UNDEFINED, symbol.is_undefined))[:1] or [model.Symbol(b"", 0o40, 0)]
-        return "      " + model.symbol_line(best[0])[6:9].decode() + shown(name.name)
+        symbols = [it for file in self.files for it in file.symbols if it.type & model.EXTERNAL and text(it.name) == name.name]
+        best = min(symbols, key=lambda it: (it.kind == model.UNDEFINED, it.is_undefined), default=model.Symbol(b"", 0o40, 0))
+        return "      " + model.symbol_line(best)[6:9].decode() + shown(name.name)
 
     def name_lines(self, number, under, has_sources=True, has_users=True):
         """The line of a name, the objects that have it, and those that use it with their words; or with the name `under` which the words
@@ -326,10 +326,10 @@ class Mapped:
                 for word in words if use.kind != v7.DEFINES else ():
                     if self.is_call(word):
                         yield f"  {shown(name.name)}: data, and called at text {word.address:06o} in {self.paths[use.object]}"
-        of = [(use.object, use.kind, use.offset) for use, _ in symbols]
+        pairs = itertools.combinations([use for use, _ in symbols], 2)
         if len(name.name) == 8 and any(
-                one == other and one is not None or kind == next_kind and (kind == v7.DEFINES or kind == v7.MAKES_COMMON and value != next_value)
-                for (one, kind, value), (other, next_kind, next_value) in itertools.combinations(of, 2)):
+                one.object == other.object is not None or one.kind == other.kind == v7.DEFINES
+                or one.kind == other.kind == v7.MAKES_COMMON and one.offset != other.offset for one, other in pairs):
             yield f"  {shown(name.name)}: perhaps two names, cut to eight bytes"
 
     def odd(self):

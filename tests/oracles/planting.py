@@ -5,8 +5,9 @@ import random
 from tests.oracles.disassembly import FOUND, SYS
 from tests.oracles.suspicions import BSS, DATA, EXTERNAL, TEXT, lines, operand_words
 
-# types of externals that are defined
+# types of externals that are defined, and words that begin no instruction
 DEFINED = (0o42, 0o43, 0o44)
+NO_INSTRUCTIONS = [0o10, 0o77, 0o210, 0o007000, 0o170003, 0o170010]
 dice = random.Random(63)
 
 
@@ -15,21 +16,25 @@ dice = random.Random(63)
 
 def from_pc(file, low=None):
     """The relocated operand words of modes 67 and 77, of one kind or of all."""
-    return [at for at, mode, register, _ in operand_words(file) if register == 7 and mode >= 6 and file.is_relocated(at) and low in (None, file.relocation[at] & 0o16)]
+    places = [at for at, mode, register, _ in operand_words(file) if register == 7 and mode >= 6 and file.is_relocated(at)]
+    return [at for at in places if low in (None, file.relocation[at] & 0o16)]
 
 
 def addresses(file, *modes):
     """The relocated operand words of other modes."""
-    return [at for at, mode, register, _ in operand_words(file) if mode in modes and (register == 7) == (mode < 6) and file.is_relocated(at)]
+    places = [at for at, mode, register, _ in operand_words(file) if mode in modes and (register == 7) == (mode < 6)]
+    return [at for at in places if file.is_relocated(at)]
 
 
 def second_operands(file):
-    return [at for at, mode, register, number in operand_words(file) if number == 1 and register == 7 and mode >= 6 and file.is_relocated(at)]
+    second = {at for at, _, _, number in operand_words(file) if number == 1}
+    return [at for at in from_pc(file) if at in second]
 
 
 def arguments(file):
     """The relocated words after system calls."""
-    return [at for place, length in lines(file) if file.words[place] in SYS for at in range(place + 1, place + length) if file.is_relocated(at)]
+    places = [at for place, length in lines(file) if file.words[place] in SYS for at in range(place + 1, place + length)]
+    return [at for at in places if file.is_relocated(at)]
 
 
 def branches(file):
@@ -38,7 +43,8 @@ def branches(file):
 
 def calls(file, *lows):
     """The calls by mode 67, with these relocation words or with any."""
-    return [place for place, length in lines(file) if file.words[place] == 0o004767 and length == 2 and (not lows or file.relocation[place + 1] & 0o17 in lows)]
+    places = [place for place, length in lines(file) if file.words[place] == 0o004767 and length == 2]
+    return [place for place in places if not lows or file.relocation[place + 1] & 0o17 in lows]
 
 
 def going_on(file):
@@ -52,7 +58,8 @@ def two_operands(file):
 
 def strings(file):
     """The words of data that are two characters."""
-    return [at for at, word in enumerate(file.data) if not file.data_relocation[at] and 0o40 <= word >> 8 < 0o177 and 0o40 <= word & 0o377 < 0o177]
+    printed = range(0o40, 0o177)
+    return [at for at, word in enumerate(file.data) if not file.data_relocation[at] and word >> 8 in printed and word & 0o377 in printed]
 
 
 def words_of(file, numbers):
@@ -62,6 +69,11 @@ def words_of(file, numbers):
 
 def symbols(file, *kinds):
     return [at for at, (_, kind, _) in enumerate(file.symbols) if kind in kinds]
+
+
+def typed(*kinds):
+    """The symbols of these types, as places for a mistake."""
+    return lambda file: symbols(file, *kinds)
 
 
 def undefined(file, is_common=False):
@@ -312,7 +324,8 @@ MISTAKES = {
     "no relocation on $N ?": at_one(lambda file: addresses(file, 2, 3), low_bits(0)),
     "no relocation on N(r) ?": at_one(lambda file: addresses(file, 6, 7), low_bits(0)),
     "no relocation on an argument of sys ?": at_one(arguments, low_bits(0)),
-    "no relocation in data ?": at_one(lambda file: [at for at, low in enumerate(file.data_relocation) if low], number("data_relocation", lambda low: 0)),
+    "no relocation in data ?": at_one(lambda file: [at for at, low in enumerate(file.data_relocation) if low],
+                                      number("data_relocation", lambda low: 0)),
     "relocation of data one word early ?": all_of("data_relocation", lambda before: before[1:] + [0]),
     "data counted from 0": counted_from(text_size, (DATA, BSS), (3, 4, 0o43, 0o44)),
     "symbols of data counted from 0": counted_from(text_size, (), (3, 4, 0o43, 0o44)),
@@ -322,31 +335,33 @@ MISTAKES = {
     "data words with the kind of bss": kind_of_words(DATA, BSS),
     "bss words with the kind of data ?": kind_of_words(BSS, DATA),
     "text words with the kind of data": kind_of_words(TEXT, DATA),
-    "a data symbol as text": at_one(lambda file: symbols(file, 0o43), of_type(0o42)),
-    "a data symbol as bss": at_one(lambda file: symbols(file, 0o43), of_type(0o44)),
-    "a bss symbol as data ?": at_one(lambda file: symbols(file, 0o44), of_type(0o43)),
-    "a text symbol as data": at_one(lambda file: symbols(file, 0o42), of_type(0o43)),
-    "text symbols as absolute ?": at_all(lambda file: symbols(file, 2, 0o42), with_symbol(lambda name, kind, value: (name, kind - 1, value))),
-    "externals without 040 ?": at_all(lambda file: symbols(file, *DEFINED), without_040),
-    "one external without 040 ?": at_one(lambda file: symbols(file, *DEFINED), without_040),
-    "a symbol of type 5": at_one(lambda file: symbols(file, 0o42, 0o43), of_type(0o45)),
+    "a data symbol as text": at_one(typed(0o43), of_type(0o42)),
+    "a data symbol as bss": at_one(typed(0o43), of_type(0o44)),
+    "a bss symbol as data ?": at_one(typed(0o44), of_type(0o43)),
+    "a text symbol as data": at_one(typed(0o42), of_type(0o43)),
+    "text symbols as absolute ?": at_all(typed(2, 0o42), with_symbol(lambda name, kind, value: (name, kind - 1, value))),
+    "externals without 040 ?": at_all(typed(*DEFINED), without_040),
+    "one external without 040 ?": at_one(typed(*DEFINED), without_040),
+    "a symbol of type 5": at_one(typed(0o42, 0o43), of_type(0o45)),
     "the next undefined name's number ?": at_one(lambda file: words_of(file, symbols(file, 0o40)), name_the_next),
     "symbol numbers from 1": at_all(lambda file: words_of(file, range(4096)), number("relocation", lambda low: low + 0o20)),
-    "the number of a defined name": at_one(lambda file: [at for at, low in enumerate(file.relocation) if low & 0o16 in (TEXT, DATA, BSS)], name_a_local),
+    "the number of a defined name": at_one(lambda file: [at for at, low in enumerate(file.relocation) if low & 0o16 in (TEXT, DATA, BSS)],
+                                           name_a_local),
     "a common's value added to the word ?": at_one(lambda file: words_of(file, undefined(file, True)), add_common),
     "a value left in an undefined symbol ?": at_one(undefined, value_plus(4)),
     "a common without its size ?": at_one(lambda file: undefined(file, True), with_symbol(lambda name, kind, value: (name, kind, 0))),
-    "_ forgotten ?": at_one(undefined, with_symbol(lambda name, kind, value: (name[1:] + b"\0", kind, value) if name.startswith(b"_") else None)),
+    "_ forgotten ?": at_one(undefined, with_symbol(lambda name, kind, value: (name.removeprefix(b"_"), kind, value))),
     "garbage after a short name": at_one(lambda file: range(len(file.symbols)), with_symbol(garbage_after_name)),
-    "a defined name once more, undefined": at_one(lambda file: symbols(file, *DEFINED), lambda file, at: file.symbols.append((file.symbols[at][0], 0o40, 0))),
-    "an odd value of a text symbol": at_one(lambda file: symbols(file, 2, 0o42), value_plus(1)),
-    "a text symbol one word on ?": at_one(lambda file: symbols(file, 2, 0o42), value_plus(2)),
-    "values of text symbols in words ?": at_all(lambda file: [at for at in symbols(file, 2, 0o42) if file.symbols[at][2]], with_symbol(lambda name, kind, value: (name, kind, value // 2))),
+    "a defined name once more, undefined": at_one(typed(*DEFINED), lambda file, at: file.symbols.append((file.symbols[at][0], 0o40, 0))),
+    "an odd value of a text symbol": at_one(typed(2, 0o42), value_plus(1)),
+    "a text symbol one word on ?": at_one(typed(2, 0o42), value_plus(2)),
+    "values of text symbols in words ?": at_all(lambda file: [at for at in symbols(file, 2, 0o42) if file.symbols[at][2]],
+                                                with_symbol(lambda name, kind, value: (name, kind, value // 2))),
     "a word lost at the start of text ?": at_one(lambda file: [0] if len(file.words) > 1 else [], lose),
     "a word too many at the start of text ?": at_one(lambda file: [0] if len(file.words) > 1 else [], insert),
     "an operand word lost ?": at_one(lambda file: [at for at, *_ in operand_words(file) if at < len(file.words) - 1], lose),
     "the last operand word left out": leave_out_the_last,
-    "a word that is no instruction": at_one(going_on, number("words", lambda _: dice.choice([0o10, 0o77, 0o210, 0o007000, 0o170003, 0o170010]))),
+    "a word that is no instruction": at_one(going_on, number("words", lambda _: dice.choice(NO_INSTRUCTIONS))),
     "operands exchanged ?": at_one(two_operands, exchange_operands),
     "text with its high bytes first": all_of("words", lambda before: [*map(exchanged, before)]),
     "strings with their bytes exchanged ?": at_all(strings, number("data", exchanged)),
