@@ -43,14 +43,15 @@ def enums_of(header):
 def structs_of(header):
     """Each struct, with its fields: pairs of a type and a name."""
     found = re.findall(r"struct (\w+) \{(.*?)\};", plain(header), re.S)
-    return {name: [(kind.strip() + count, field) for kind, field, count in re.findall(r"([\w *]+?)(\w+)((?:\[\d+\])?);", body)] for name, body in found}
+    field = re.compile(r"([\w *]+?)(\w+)((?:\[\d+\])?);")
+    return {name: [(kind.strip() + count, word) for kind, word, count in field.findall(body)] for name, body in found}
 
 
 def calls_of(header):
     """Each call, with its parameters, and what it returns as the last one: pairs of a type and a name."""
     found = re.findall(r"^(uint32_t |size_t )(v7_\w+)\((.*?)\);", plain(header), re.S | re.M)
-    return {name: [*(re.fullmatch(r"(.*?[ *])(\w+)", " ".join(one.split())).groups() for one in words.split(",") if one != "void"), (kind, "")]
-            for kind, name, words in found}
+    parameter = re.compile(r"\s*([^,]*?[ *])(\w+)(?:,|$)")
+    return {name: [*parameter.findall(re.sub(r"\s+", " ", words)), (kind, "")] for kind, name, words in found}
 
 
 def texts_of(header):
@@ -79,9 +80,10 @@ def camel(name):
 
 def assigned(names, values):
     """Assignments of several names each."""
+    line = lambda count: f"{', '.join(names[:count])} = {', '.join(values[:count])}"
     while names:
-        count = max(count for count in range(1, len(names) + 1) if count == 1 or len(", ".join(names[:count]) + " = " + ", ".join(values[:count])) <= WIDTH)
-        yield f"{', '.join(names[:count])} = {', '.join(values[:count])}"
+        count = max(count for count in range(1, len(names) + 1) if count == 1 or len(line(count)) <= WIDTH)
+        yield line(count)
         names, values = names[count:], values[count:]
 
 
@@ -153,7 +155,8 @@ def rust_of(header):
     for name, words in calls_of(header).items():
         given = ", ".join(f"{word}: {rust_type(kind.strip())}" for kind, word in words[:-1])
         yield f"    pub fn {name}({given}) -> {rust_type(words[-1][0].strip())};"
-    yield from ["}", "/// What a fault means, as `v7_strerror` of v7.h says it.", "pub(crate) fn text(fault: u32) -> &'static str {", "    match fault {"]
+    yield from ["}", "/// What a fault means, as `v7_strerror` of v7.h says it."]
+    yield from ["pub(crate) fn text(fault: u32) -> &'static str {", "    match fault {"]
     yield from filled([*(f'{number} => "{words}"' for number, words in texts_of(header).items()), '_ => "unknown fault"'], start=" " * 8)
     yield from ["    }", "}"]
 
@@ -177,8 +180,8 @@ def synopsis_of(header):
 def within(text, comment, *parts):
     """A text with other lines between its marks, of which a part has one pair."""
     begin, end = f"{comment}{BEGIN}\n", f"{comment}{END}\n"
-    waiting = iter(parts)
-    return re.sub(f"{re.escape(begin)}.*?{re.escape(end)}", lambda _: begin + "".join(f"{line}\n" for line in next(waiting)) + end, text, flags=re.S)
+    waiting = ("".join([begin, *(f"{line}\n" for line in part), end]) for part in parts)
+    return re.sub(f"{re.escape(begin)}.*?{re.escape(end)}", lambda _: next(waiting), text, flags=re.S)
 
 
 def faces(header):

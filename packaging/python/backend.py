@@ -35,7 +35,7 @@ def settings():
 
 def needs(library):
     """The libraries that a library needs, and the newest version of the C library of which it has a symbol."""
-    said = subprocess.run(["readelf", "-dVW", library], stdout=subprocess.PIPE, check=True, text=True, env={**os.environ, "LC_ALL": "C"}).stdout
+    said = subprocess.check_output(["readelf", "-dVW", library], text=True, env={**os.environ, "LC_ALL": "C"})
     versions = [tuple(map(int, found.split("."))) for found in re.findall(r"Name: GLIBC_([0-9.]+) ", said)]
     return re.findall(r"\(NEEDED\).*\[(.*)\]", said), max(versions, default=(2,))
 

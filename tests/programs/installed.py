@@ -110,7 +110,8 @@ def make():
         has_html = installed.has_tools()
         for wanted in ("doc/v7/lesson.html", "doc/v7/docs/TUTORIAL.html", "doc/v7/man/v7.1.html", "man/man1/v7-ld.1",
                        "bash-completion/completions/v7-explain", "zsh/site-functions/_v7"):
-            faults += [] if f"share/{wanted}" in there or wanted.endswith(".html") and not has_html else [f"share/{wanted} is not installed"]
+            if f"share/{wanted}" not in there and (has_html or not wanted.endswith(".html")):
+                faults.append(f"share/{wanted} is not installed")
         faults += [f"a package has {installed.NOTED}"] if os.path.exists(f"{room}/package{root}/{installed.NOTED}") else []
         subprocess.run([sys.executable, script, "remove", root], check=True)
         faults += [f"left: {room}/usr"] if os.path.exists(f"{room}/usr") else []

@@ -5,7 +5,8 @@ tools and libv7 give is that of tests/oracles/model.py, instructions are those o
 tests/oracles/notes.py; of rows, maps and lessons the words and the names are counted.
 
 usage: python3 -m tests.programs.largest [ROW ..]      all rows of the table, or these: 'v7-explain -m, objects'
-tier: check, 120 seconds; programs: v7 v7-explain v7-object v7-from-gnu v7-lesson libv7.so; for: crates/checks crates/link_maps crates/library_calls
+tier: check, 120 seconds; programs: v7 v7-explain v7-object v7-from-gnu v7-lesson libv7.so;
+ for: crates/checks crates/link_maps crates/library_calls
 """
 import dataclasses
 import multiprocessing
@@ -60,10 +61,10 @@ def split(kind):
 
 def chained():
     """Files of two words: the first refers to a name of the file before, the second to a common of all. Each defines one more name anew."""
-    labels = named(OBJECTS, LABEL)
-    same = named(1, WANTED, 4, OBJECTS)
-    return [file_of(2, 0, [labels[place], *named(1, first=(place - 1) % OBJECTS), *same, *named(1, NUMBER, place, OBJECTS + 1)], [0o30, 0o50], 0)
-            for place in range(OBJECTS)]
+    def symbols(place):
+        last = *named(1, WANTED, 4, OBJECTS), *named(1, NUMBER, place, OBJECTS + 1)
+        return [*named(1, LABEL, 0, place), *named(1, first=(place - 1) % OBJECTS), *last]
+    return [file_of(2, 0, symbols(place), [0o30, 0o50], 0) for place in range(OBJECTS)]
 
 
 KINDS = {
@@ -417,7 +418,8 @@ def linked_by_call(kind):
         options, wanted = agree.options_of(arguments), agree.by_model(together, arguments)
         same(f"-{letters}", agree.by_library(v7, objects, options), wanted)
         found = v7.link_map(objects, options)
-        same(f"link_map -{letters}", (v7.FAULTS[found.fault] if found.fault else found.status, len(found.objects)), (wanted[0][0], len(objects)))
+        status = v7.FAULTS[found.fault] if found.fault else found.status
+        same(f"link_map -{letters}", (status, len(found.objects)), (wanted[0][0], len(objects)))
     if len(together.externals) < NAMES:
         forced = tuple(f"_f{number}".encode() for number in range(model.FORCED_LIMIT))
         arguments = model.Arguments(set(), {}, [], None, forced)

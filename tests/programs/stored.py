@@ -1,8 +1,9 @@
-"""Compares the stored run of each program with what it prints: with the words of `args` of its crate, the input `stdin`, and in a copy of
-`data/`, it has to print the bytes of `stdout`, and to end with the status of `status`. `rt ci` compares those of proved programs, once all
-is proved.
+"""Compares the stored run of each program with what it prints. With the arguments in `args` of its crate, the input `stdin`, and in a copy
+of `data/`, it has to print the bytes of `stdout`, and to end with the status of `status`. `rt ci` compares those of proved programs,
+once all is proved.
 
-tier: test, 3 seconds; programs: v7 v7-explain v7-object v7-from-gnu v7-lesson library_uses; for: crates/v7_explain crates/v7_lesson crates/library_uses
+tier: test, 3 seconds; programs: v7 v7-explain v7-object v7-from-gnu v7-lesson library_uses;
+ for: crates/v7_explain crates/v7_lesson crates/library_uses
 """
 import os
 import sys

@@ -1,11 +1,12 @@
-"""Plays v7 at a terminal: help, the version, why arguments are refused, and a session with prompt, help, list, hints and quit. Then it runs the
-same commands through pipes, where each byte and status has to be that of the specification.
+"""Plays v7 at a terminal: help, the version, why arguments are refused, and a session with prompt, help, list, hints and quit. Then it
+runs the same commands through pipes, where each byte and status has to be that of the specification.
 
 The terminal is a pseudo-terminal, by the module `pty`. What is expected here is written by hand: the lines of v7(1) and of
 v7-session(1). Options are those of the manual pages. Random command lines, always the same, show that a reason is given for those
 that v7 refuses, and for no others.
 
-tier: check, 25 seconds; programs: v7 v7-explain v7-from-gnu v7-lesson v7-object; for: crates/v7 crates/command_words crates/surroundings man
+tier: check, 25 seconds; programs: v7 v7-explain v7-from-gnu v7-lesson v7-object;
+ for: crates/v7 crates/command_words crates/surroundings man
 """
 import os
 import pty
@@ -67,8 +68,8 @@ BESIDE = {
         ("-o a -o b c.o", "-o takes one value"), ("-o a b.o c.o", "-o is for one file"), ("-dc a.o", "-d and -c exclude each other"),
         ("-R a.o", "-R needs -l"), ("a.o -m b.o", "-m has to be the first argument"),
         ("-m -z a.o", "ld does not take the arguments after -m"), ("a.o -t b.o", "-t needs -c"),
-        ("-c -o b a.o", "-c and -o exclude each other"), ("-y f a.o b.o", "-y is for one file"), ("-o -d a.o", "-o needs the next argument as its value"),
-        ("-c", "it needs a file"), ("-l -R -s a.o", "-l and -s exclude each other")],
+        ("-c -o b a.o", "-c and -o exclude each other"), ("-y f a.o b.o", "-y is for one file"),
+        ("-o -d a.o", "-o needs the next argument as its value"), ("-c", "it needs a file"), ("-l -R -s a.o", "-l and -s exclude each other")],
     "v7-object": [
         ("", "it takes two files"), ("a", "it takes two files"), ("a b c", "it takes two files"), ("-- -x", "it takes two files"),
         ("-", "it takes two files"), ("-x a b", "there is no option -x"), ("a b -yx", "there is no option -y"),
@@ -298,8 +299,8 @@ def check_reasons():
     return len(REASONS) + sum(map(len, BESIDE.values()))
 
 
-WORDS = ["-r", "-s", "-x", "-X", "-n", "-i", "-d", "-o", "-e", "-u", "-g", "-p", "-z", "-", "--", "--long", "", "-rs", "-xXd", "-gn", "-upr",
-         "-ofile", "-o=", "-e=x", "-uname", "-u=name", "-=", "-1", "-o1", "-r=1", "missing", "=", "-\u00e9", "x-y", "ld", "-ro", "-du"]
+WORDS = ["", *"-r -s -x -X -n -i -d -o -e -u -g -p -z - -- --long -rs -xXd -gn -upr -ofile -o= -e=x -uname -u=name -= -1 -o1 -r=1".split(),
+         "missing", "=", "-\u00e9", "x-y", "ld", "-ro", "-du"]
 
 
 def check_random():
@@ -398,16 +399,11 @@ def check_mixed():
     same("session: standard error is a pipe", (shown, error, status), ("bad command\nadded k.o\n", "", 1))
 
 
-def run_all():
-    """Plays everything in a copy of the examples; returns what is counted."""
+def main():
     with room("examples"):
         write("commands.txt", "add main.o\n")
-        return check_help(), check_reasons(), check_random(), check_hints(), check_session()
-
-
-def main():
-    counts = run_all()
-    print("at a terminal: {} pages, {} reasons, {} refused of {} random lines, {} hints, {} sessions".format(*counts[:3], RANDOM_LINES, *counts[3:]))
+        print(f"at a terminal: {check_help()} pages, {check_reasons()} reasons, {check_random()} refused of {RANDOM_LINES} random lines, "
+              f"{check_hints()} hints, {check_session()} sessions")
 
 
 if __name__ == "__main__":

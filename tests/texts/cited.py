@@ -1,6 +1,6 @@
-"""Sees that what documents quote is there: PROOFS the code, and LIBRARY the examples. A block that is indented by four blanks quotes the file
-whose path, in backquotes, is the last one before it; its comments are the page's own, and a clause that the file has on several lines may
-be on one. A block of commands is not a quotation. TRUST has the theorem as README states it, word for word.
+"""Compares what documents quote with the files: PROOFS quotes the code, and LIBRARY the examples. A block that is indented by four
+blanks quotes the file whose path, in backquotes, is the last one before it. Its comments are the page's own, and a clause that the file
+has on several lines may be on one. A block of commands is not a quotation. TRUST has the theorem as README states it, word for word.
 
 tier: text, 2 seconds; for: docs/PROOFS.md docs/TRUST.md docs/LIBRARY.md
 """
@@ -39,11 +39,12 @@ def compare_quotes(page, text):
 
 def claim(text):
     """The first quotation under "The claim", as one line."""
-    return " ".join(" ".join(line[1:] for line in re.findall(r"(?:^>.*\n)+", text.split("\n## The claim\n")[1], re.M)[0].splitlines()).split())
+    quoted = re.search(r"(?:^>.*\n)+", text.split("\n## The claim\n")[1], re.M)[0]
+    return " ".join(re.sub("^>", "", quoted, flags=re.M).split())
 
 
 def main():
-    notices(compare_quotes, "docs/PROOFS.md", read("docs/PROOFS.md").replace("self.old.entries ≡ []", "self.old.entries ≡ self.new.entries"))
+    notices(compare_quotes, "docs/PROOFS.md", read("docs/PROOFS.md").replace("self.old.entries ≡ []", "self.old.entries ≡ planted"))
     for page in ("docs/PROOFS.md", "docs/LIBRARY.md"):
         compare_quotes(page, read(page))
     same("the theorem in TRUST", claim(read("docs/TRUST.md")), claim(read("README.md")))

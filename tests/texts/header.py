@@ -14,14 +14,15 @@ from tools.faces import HEADER, calls_of, enums_of, faces, structs_of
 
 # a field or a parameter that has another name in the code, since the name is a word of the language
 RENAMED = {"type_bits": "type", "data_words": "data"}
-IN_C = {"u8": "unsigned char", "u16": "uint16_t", "u32": "uint32_t", "u64": "uint64_t", "usize": "size_t", "[u8; 8]": "unsigned char[8]", "Slot": "void *"}
+IN_C = {"u8": "unsigned char", "u16": "uint16_t", "u32": "uint32_t", "u64": "uint64_t", "usize": "size_t", "[u8; 8]": "unsigned char[8]",
+        "Slot": "void *"}
 # a parameter of a call of the code
 PARAMETER = re.compile(r"(\w+): ([^,)]+)")
 # the structs of the header, by their names in the code
-STRUCTS = {"Answer": "v7_answer", "Counts": "v7_counts", "FileHeader": "v7_header", "FindingPlace": "v7_finding_place", "Handle": "v7_session",
-           "LimitRecord": "v7_map_limit", "MapAnswer": "v7_map", "MapHead": "v7_map_head", "NameRecord": "v7_map_name",
-           "ObjectBytes": "v7_slice", "ObjectRecord": "v7_map_object", "ObjectWord": "v7_word", "RemarkRecord": "v7_remark",
-           "ReportedName": "v7_finding", "Request": "v7_request", "RunAnswer": "v7_result", "SymbolRow": "v7_symbol", "UseRecord": "v7_map_use"}
+STRUCTS = dict(pair.split(":") for pair in """Answer:v7_answer Counts:v7_counts FileHeader:v7_header FindingPlace:v7_finding_place
+    Handle:v7_session LimitRecord:v7_map_limit MapAnswer:v7_map MapHead:v7_map_head NameRecord:v7_map_name ObjectBytes:v7_slice
+    ObjectRecord:v7_map_object ObjectWord:v7_word RemarkRecord:v7_remark ReportedName:v7_finding Request:v7_request RunAnswer:v7_result
+    SymbolRow:v7_symbol UseRecord:v7_map_use""".split())
 
 
 # --- the code
@@ -60,10 +61,12 @@ def fields_in_code(texts, name):
 
 def declared_calls(texts):
     """Each call of the code, with its parameters, and what it returns as the last one: pairs of a name and a type."""
-    found = [it for text in texts.values() for item in items(text) for it in functions(item) if 'extern "C"' in it.signature[0]]
-    signatures = {it.name: " ".join(it.signature) for it in found}
-    return {name: [*((word, kind.strip()) for word, kind in PARAMETER.findall(text) if kind != "Global"), ("", text.split("-> ")[1].split()[0])]
-            for name, text in signatures.items()}
+    calls = {}
+    for it in [it for text in texts.values() for item in items(text) for it in functions(item) if 'extern "C"' in it.signature[0]]:
+        head, _, returned = " ".join(it.signature).partition("-> ")
+        parameters = [(word, kind.strip()) for word, kind in PARAMETER.findall(head) if kind != "Global"]
+        calls[it.name] = [*parameters, ("", returned.split()[0])]
+    return calls
 
 
 # --- what differs
@@ -108,7 +111,8 @@ def main():
     for old, new in PLANTED:
         notices(compare, header.replace(old, new), texts)
     compare(header, texts)
-    same(f"files that are other than {HEADER}: python3 -m tools.faces", [path for path, text in faces(header).items() if text != read(path)], [])
+    others = [path for path, text in faces(header).items() if text != read(path)]
+    same(f"files that are other than {HEADER}: python3 -m tools.faces", others, [])
     print(f"v7.h, the code, Python, Rust and v7(3) agree: {len(structs_of(header))} structs, {len(calls_of(header))} calls")
 
 

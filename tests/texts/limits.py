@@ -78,7 +78,8 @@ LIMITS = [
 
 # where the version is
 VERSIONS = {"crates/surroundings/src/shown.rt": 'VERSION: &str = "{}";', "packaging/python/v7.py": '__version__ = "{}"',
-            "README.md": "version {}, ", **dict.fromkeys(("packaging/rust/Cargo.toml", "packaging/rust/v7-sys/Cargo.toml"), '\nversion = "{}"')}
+            "README.md": "version {}, ", "packaging/rust/Cargo.toml": '\nversion = "{}"',
+            "packaging/rust/v7-sys/Cargo.toml": '\nversion = "{}"'}
 
 
 def value_of(path, name):

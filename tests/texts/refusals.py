@@ -1,6 +1,6 @@
-"""Looks that memory is refused by the system alone: no line of a crate makes an `AllocError` or an `AllocFailed`, or names the kind
-`OutOfMemory` or an error by its number, none asks but those known what an error reports, and none is unsafe. A fault that says `no memory`
-holds a `Refused`, which is made of such an error: so a request was refused.
+"""Searches the code for lines that could report `no memory` although no request was refused. Such a fault holds a `Refused`, which is
+made of the error of a request. So no line of a crate makes an `AllocError` or an `AllocFailed`, names the kind `OutOfMemory` or an error
+by its number, or is unsafe; and only the known lines ask what an error reports.
 
 tier: text, 1 seconds; for: crates
 """
@@ -10,7 +10,8 @@ import re
 from tests.lib.compare import same
 from tests.lib.files import read
 
-# the field of `Refused`; what tells a refusal by its kind alone: errors of `io`, of clap, and of a writer in memory; and a box that is made of its pointer again
+# the field of `Refused`; what knows a refusal by its kind alone: errors of `io`, of clap, and of a writer in memory; and a box that is
+# made of its pointer again
 KNOWN = [
     "crates/aout_core/src/refused.rt: error: AllocError,",
     "crates/aout_core/src/refused.rt: pub fn reported_by(error: &io::Error) -> Option<Refused> {",
@@ -26,10 +27,12 @@ KNOWN = [
 TESTS = ("crates/device_tests/", "crates/aout_core/src/samples.rt")
 # the name of a type: what a result, a conversion or an `Option` may hold, what a function takes or returns, whose function is called
 TYPE = re.compile(r"(, |From<|Option<)AllocError>|-> AllocError\b|for AllocError \{|\bfn .*\w: AllocError\b|AllocError::from\b")
-MADE = re.compile(r"\bAllocError\b|\bAllocFailed\s*\{|\bOutOfMemory\b|\breported_by\b|\bfrom_raw_os_error\b|\bunsafe\s*\{|\bunsafe (fn|impl)\b")
+MADE = re.compile(r"\b(AllocError\b|AllocFailed\s*\{|OutOfMemory\b|reported_by\b|from_raw_os_error\b|unsafe\s*\{|unsafe (fn|impl)\b)")
 # lines that make such an error, and lines that only pass one on
-BAD = ["Err(AllocError)", "AllocFailed { value: 1 }", "io::Error::from(io::ErrorKind::OutOfMemory)", "Refused::reported_by(&full)", "unsafe { f() }"]
-GOOD = ["fn f(alloc: Global) -> Result<u8, AllocError>", "impl From<AllocError> for Fault {", "Err(AllocError::from(refused))", "// Err(AllocError)"]
+BAD = ["Err(AllocError)", "AllocFailed { value: 1 }", "io::Error::from(io::ErrorKind::OutOfMemory)", "Refused::reported_by(&full)",
+       "unsafe { f() }"]
+GOOD = ["fn f(alloc: Global) -> Result<u8, AllocError>", "impl From<AllocError> for Fault {", "Err(AllocError::from(refused))",
+        "// Err(AllocError)"]
 
 
 def makes(line, path=""):

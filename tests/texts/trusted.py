@@ -7,7 +7,8 @@ specs/ of a crate may import the internals of another.
 The theorem is the first claim of PROOFS, which is followed definition by definition, with what a session does and the relation of linking.
 The function `link` is left out of claims, since `linking_law` ties it to the relation. The theorem is about sessions and links that were
 run; by which arguments, `call_law` says, and the claim of `Performs` counts that. Lines are those of definitions, without imports,
-comments and empty lines; of a claim they are told to a twentieth. Each function and type that a table of PROOFS names has to be in the code.
+comments and empty lines; the number of a claim may be wrong by a twentieth. Each function and type that a table of PROOFS names has to be
+in the code.
 
 usage: python3 -m tests.texts.trusted        compares
        python3 -m tests.texts.trusted -w     writes the numbers of PROOFS and TRUST
@@ -91,7 +92,7 @@ def contracts(crate):
         for item in items(text):
             of, kind = re.match(r"(?:impl(?:<.*?>)? (?:(.*?) for )?|(?:pub )?trait |.*)(\w*)", item[0]).groups()
             is_impl, scope = item[0].startswith("impl"), {**outer, **dict(imports("\n".join(item)))}
-            seen = [it for it in re.findall(r"^ *ghost (\w+) = (.*);$", "\n".join(item), re.M) if it[0] not in ("invariant", "inverse", "inverse_ok")]
+            seen = re.findall(r"^ *ghost (?!(?:invariant|inverse|inverse_ok) )(\w+) = (.*);$", "\n".join(item), re.M)
             heads = [(it.name, bool(of) or it.given == "pub ", it.head()) for it in functions(item)]
             for name, is_public, cited in [*heads, *((name, True, text) for name, text in seen)]:
                 is_given = is_open or (kind if is_impl else name) in given
@@ -213,7 +214,8 @@ def unknown(text):
         rows = [line.strip("| ").split(" | ") for line in part.split("\n") if line.startswith("| ")]
         # the heading of such a part names crates
         if any(f"`{crate}`" in part.split("\n")[0] for crate in LIBRARIES + OTHERS):
-            yield from (f"{PROOFS}: no contract of {name}" for row in rows if len(row) in (2, 3) for name in NAME.findall(row[1]) if name not in known)
+            names = [name for row in rows if len(row) in (2, 3) for name in NAME.findall(row[1])]
+            yield from (f"{PROOFS}: no contract of {name}" for name in names if name not in known)
 
 
 def expected():
@@ -229,7 +231,8 @@ def expected():
         lines = written if abs(lines - written) * 20 <= lines else lines
         pages[PROOFS] = pages[PROOFS].replace(row, re.sub(r"\d+ \| \d+ \|$", f"{lines} | {len(found)} |", row))
     first = sum(count(f"crates/{name}.antt") for name in FIRST)
-    words = sum(found.get(f"{folder}{name}.antt", 0) for found, row in all_claims if READS_WORDS in row for folder, names in WORDS for name in names)
+    reading = [found for found, row in all_claims if READS_WORDS in row]
+    words = sum(found.get(f"{folder}{name}.antt", 0) for found in reading for folder, names in WORDS for name in names)
     pages[PROOFS], said = WORDS_LINES.subn(f"{words} of its lines say how arguments are read", pages[PROOFS])
     faults.extend([f"{PROOFS} does not say how many lines say how arguments are read"] * (said != 1))
     for page in (PROOFS, TRUST):

@@ -6,11 +6,11 @@ usage: python3 -m tests.wrong_bodies.wrong_bodies [-j N] [CRATE ..]   tries all 
        python3 -m tests.wrong_bodies.wrong_bodies [-j N] -c [-m M]    tries those of the crates that have changed since they were noted, or
                                                  are not noted; once M minutes are over, those left are named, and not tried
 
-A wrong body is an edit in must-fail/ or in the file wrong-bodies of a crate: tests/wrong_bodies/edits.py has its form. A copy has at most one edit for
-each function. It is checked once, by the kit's `rattle`, with the libraries below it as `rt lib` proves them, or as the gate
-left them, and over what `rt check` of the crate left, or else its earlier copies. For each edit, the script then reads whether the
-prover refuses the function itself. If it only says that the function calls another one that is not proved, the edit goes into a later
-copy without the edits of that one. An edit outside of functions, as of a constant or a definition, has a copy for itself.
+A wrong body is an edit in must-fail/ or in the file wrong-bodies of a crate: tests/wrong_bodies/edits.py has its form. A copy has at
+most one edit for each function. It is checked once, by the kit's `rattle`, with the libraries below it as `rt lib` proves them, or as
+the gate left them, and over what `rt check` of the crate left, or else its earlier copies. For each edit, the script then reads whether
+the prover refuses the function itself. If it only says that the function calls another one that is not proved, the edit goes into a
+later copy without the edits of that one. An edit outside of functions, as of a constant or a definition, has a copy for itself.
 
 It is an error if an edit does not fit its crate, if the prover cannot read the text that it makes, if its function is proved,
 or if the function is refused for what it calls alone. It is an error too if the function is refused only for its shape: the
@@ -202,7 +202,7 @@ class Answer:
         return [text for file, line, text in self.places if file.startswith(folders) or edit.has(file, line)]
 
     def open_goals(self, function):
-        """The kinds of the goals of a function that are not proved. A condition that changes has other names for the ways to its returns."""
+        """The kinds of the goals of a function that are not proved: if a condition changes, the ways to its returns have other names."""
         folders = tuple(f"proofs/{name.replace('::', '/')}/" for name in self.names(function))
         found = set()
         for name in self.names(function):
@@ -256,7 +256,7 @@ def check_itself():
     answers = {
         "proved": "proved",
         "refused": "not proved\nsrc/lib.rt:5:9: it is not proved that what the function ensures holds when it returns (`returns`)",
-        "shape": "not proved\nproofs/half/Answers.antt:5:1: error: `returns-first`: `Goals` has no `returns-first` that can be named from here",
+        "shape": "not proved\nproofs/half/Answers.antt:5:1: error: `returns`: `Goals` has no `returns` that can be named from here",
         "callee": "it calls `tried::twice`, which is not proved",
     }
     for word, said in answers.items():
@@ -264,8 +264,9 @@ def check_itself():
 
 
 def run(words, folder):
-    """Runs a command in a folder, with both outputs as one text."""
-    return subprocess.run(words, cwd=folder, stdin=subprocess.DEVNULL, stdout=subprocess.PIPE, stderr=subprocess.STDOUT, errors="replace", check=False)
+    """Runs a command in a folder, with both outputs as one text, in the order of their lines."""
+    how = {"stdin": subprocess.DEVNULL, "stdout": subprocess.PIPE, "stderr": subprocess.STDOUT, "errors": "replace"}
+    return subprocess.run(words, cwd=folder, check=False, **how)
 
 
 class Trial:
@@ -293,9 +294,9 @@ class Trial:
                 shutil.rmtree(f"{copy}/{path}", ignore_errors=True)
             for path, text in texts.items():
                 write(f"{copy}/{path}", text)
-            ran = run([*self.kit.check(self.crate), "--incremental", kept], copy)
+            done = run([*self.kit.check(self.crate), "--incremental", kept], copy)
         self.copies += 1
-        return Answer(self.crate.name, ran.returncode, ran.stdout)
+        return Answer(self.crate.name, done.returncode, done.stdout)
 
     def end(self, edit, fault, line=""):
         """Notes what came of an edit, and prints it."""
@@ -398,9 +399,9 @@ class Kit(prove.Kit):
 def has_libraries(crates, place):
     """Has `rt lib` prove libraries, lowest first, or find them proved, as after the gate, and names them in a folder. Whether all are."""
     for crate in crates:
-        ran = run(["rt", "lib"], f"crates/{crate.name}")
-        if ran.returncode:
-            print(ran.stdout)
+        done = run(["rt", "lib"], f"crates/{crate.name}")
+        if done.returncode:
+            print(done.stdout)
             return False
         os.symlink(os.path.abspath(f"crates/{crate.name}/out/rlib/{crate.name}.rlib"), f"{place}/{crate.name}.rlib")
     return True
@@ -455,8 +456,8 @@ def try_edits(names, jobs, only=(), until=math.inf):
         if not has_libraries([it for it in crates.values() if it in needed], place):
             return trials, dict.fromkeys(names, False)
         with ThreadPoolExecutor(len(names)) as pool:
-            ran = {name: pool.submit(trials[name].run) for name in names}
-        return trials, {name: it.result() for name, it in ran.items()}
+            running = {name: pool.submit(trials[name].run) for name in names}
+        return trials, {name: it.result() for name, it in running.items()}
 
 
 def whole(names, jobs, only=(), most=math.inf):
