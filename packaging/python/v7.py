@@ -41,7 +41,7 @@ _PATH = os.environ.get("LIBV7") or (_BESIDE if os.path.exists(_BESIDE) else "lib
 _LIBRARY = ctypes.CDLL(_PATH)
 # calls on a session that is kept: no other thread of Python runs during one
 _KEEPING = ctypes.PyDLL(_PATH)
-# a number that stands for no object
+# the number that means no object
 _NO_OBJECT = ctypes.c_size_t(-1).value
 
 
@@ -565,19 +565,12 @@ def _lent(call: Any, answer: Any, rooms: Dict[str, Any]) -> Tuple[int, List[Any]
             setattr(answer, f"{stem}_room", size)
         return int(call(ctypes.byref(answer)))
 
-    return _made(lend, answer, [(f"{stem}_{'size' if kind is ctypes.c_char else 'count'}", kind) for stem, kind in zip(stems, rooms.values())])
+    fields = [f"{stem}_{'size' if kind is ctypes.c_char else 'count'}" for stem, kind in zip(stems, rooms.values())]
+    return _made(lend, answer, [*zip(fields, rooms.values())])
 
 
 def _name(data: bytes) -> str:
     return data.rstrip(b"\0").decode("latin-1")
-
-
-class _Names(Dict[bytes, str]):
-    """Names by their bytes, each decoded once."""
-
-    def __missing__(self, data: bytes) -> str:
-        self[data] = _name(data)
-        return self[data]
 
 
 def _object(number: int) -> Optional[int]:
@@ -587,7 +580,8 @@ def _object(number: int) -> Optional[int]:
 class _Run:
     """A link: what it gives."""
 
-    def __init__(self, objects: Iterable[bytes], options: int, entry: str, forced: Iterable[str], wants: int, call: Any = None, size: int = 0) -> None:
+    def __init__(self, objects: Iterable[bytes], options: int, entry: str, forced: Iterable[str], wants: int,
+                 call: Any = None, size: int = 0) -> None:
         """Links objects, or by another call what has so many bytes: once, if it reports at most 2,000 names."""
         parts, call, most = _list(objects), call or _LIBRARY.v7_run, _LIBRARY.v7_most
         request, size = _asked(parts, options, entry, forced, wants), size + sum(map(len, parts))
@@ -596,10 +590,12 @@ class _Run:
         # of a file each symbol has twelve bytes, a word with what it refers to four, and a line of the report at most 27
         symbols, few = size // 12, min(size // 12, 2000)
         lines, findings, places, mapped = (wants // kind % 2 for kind in (_REPORT, _FINDINGS, _PLACES, _MAP))
-        result = _Result(ctypes.sizeof(_Result), file_size=size, report_size=(27 * few + 11) * lines, finding_count=few * findings, place_count=few * places)
+        result = _Result(ctypes.sizeof(_Result), file_size=size, report_size=(27 * few + 11) * lines)
+        result.finding_count, result.place_count = few * findings, few * places
         result.object_count, result.name_count, result.use_count, result.limit_count = (symbols * mapped * times for times in (1, 1, 3, 1))
         rooms = {"file": ctypes.c_char, "report": ctypes.c_char, "findings": _Finding, "places": _FindingPlace, **_RECORDS}
-        self.status, (self.file, report, self.findings, self.places, *self.records) = _lent(lambda to: call(ctypes.byref(request), to), result, rooms)
+        self.status, given = _lent(lambda to: call(ctypes.byref(request), to), result, rooms)
+        self.file, report, self.findings, self.places, *self.records = given
         self.report, self.head = report.decode("latin-1"), result.head
 
     def program(self) -> Program:
@@ -611,25 +607,28 @@ class _Run:
         return Found(self.status, self.file, Findings(multiples, reserved, entries[0] if entries else None, undefined))
 
     def placed(self) -> List[Finding]:
-        return [Finding(_name(name), kind, _object(first), _object(further)) for (name, kind), (first, further) in zip(self.findings, self.places)]
+        rows = ((*finding, *place) for finding, place in zip(self.findings, self.places))
+        return [Finding(_name(name), kind, _object(first), _object(further)) for name, kind, first, further in rows]
 
     def mapped(self) -> Map:
         objects, limits = [*map(MapObject._make, self.records[0])], [MapLimit(kind, used, most) for used, most, kind in self.records[3]]
-        known = _Names()
+        # each name is decoded once
+        known = functools.lru_cache(None)(_name)
         names = [
-            MapName(known[name], _object(first), _object(further), _object(user), state, of, value)
+            MapName(known(name), _object(first), _object(further), _object(user), state, of, value)
             for name, first, further, user, state, of, value in self.records[1]
         ]
         # there may be a use for each word: a tuple is made by its own call, which is faster than that of its class
-        new = tuple.__new__
+        new, none = tuple.__new__, _NO_OBJECT
         uses = [
-            new(MapUse, (None if of == _NO_OBJECT else of, name, kind, address, offset, line, known[label] if is_labelled else None, beyond))
+            new(MapUse, (None if of == none else of, name, kind, address, offset, line, known(label) if is_labelled else None, beyond))
             for address, of, name, label, kind, offset, line, beyond, is_labelled in self.records[2]
         ]
         head, program = self.head, None if self.head.fault else self.program()
         segments = head.text_end, head.data_start, head.data_end, head.bss_start, head.bss_end
         named = _name(bytes(head.entry_name)) if head.state & 2 else None
-        return Map(self.status, head.fault, head.place, segments, head.magic, head.entry_point, named, objects, names, uses, limits, program)
+        records = objects, names, uses, limits
+        return Map(self.status, head.fault, head.place, segments, head.magic, head.entry_point, named, *records, program)
 
 
 def link(objects: Iterable[bytes], options: int = 0, entry: str = "", forced: Iterable[str] = ()) -> Program:
@@ -693,7 +692,8 @@ def _rows(what: str, rows: Iterable[Any], size: int) -> List[Any]:
 
 def _words(what: str, pairs: Iterable[Word]) -> List[Any]:
     rows = _rows(what, pairs, 2)
-    return _array(_Word, [_Word(_fitting(f"{at}: a word", value, 16), _fitting(f"{at}: a relocation word", reloc, 16)) for at, value, reloc in rows])
+    words = [(_fitting(f"{at}: a word", value, 16), _fitting(f"{at}: a relocation word", reloc, 16)) for at, value, reloc in rows]
+    return _array(_Word, words)
 
 
 def make(text: Iterable[Word] = (), data: Iterable[Word] = (), bss: int = 0, symbols: Iterable[Symbol] = ()) -> bytes:
@@ -707,7 +707,7 @@ def make(text: Iterable[Word] = (), data: Iterable[Word] = (), bss: int = 0, sym
     """
     words = [*_words("text", text), *_words("data", data)]
     rows = [
-        _Symbol(_NAME(*_padded(at, name)), _fitting(f"{at}: a type word", kind, 16), _fitting(f"{at}: a value", value, 16))
+        (_NAME(*_padded(at, name)), _fitting(f"{at}: a type word", kind, 16), _fitting(f"{at}: a value", value, 16))
         for at, name, kind, value in _rows("symbols", symbols, 3)
     ]
     return _given("v7_make", *words, _number("bss", bss), *_array(_Symbol, rows))

@@ -1,5 +1,5 @@
-"""The Python module of libv7: an input for each fault, numbers and types that do not fit, edits of a session, the examples of its docstrings,
-and beside the programs the listings, conversions and remarks of examples. What is wanted is worked out from v7.h and docs/FORMAT.md.
+"""The Python module of libv7: an input for each fault, numbers and types that do not fit, edits of a session, the examples of its
+docstrings, and beside the programs the listings, conversions and remarks of examples. What is wanted follows from v7.h and docs/FORMAT.md.
 
 usage: LIBV7=build/libv7.so python3 -m tests.libv7.library
 """
@@ -12,6 +12,7 @@ import unittest
 
 import v7
 from tests.lib.files import TOP, read, read_bytes, room, write
+from tests.lib.objects import gnu_named, gnu_object, symbol
 from tests.lib.programs import program, ran
 
 # an object of 56 bytes: its relocation words begin at 24, its symbols at 32. And one in GNU's form: two symbols at 32, the strings at 48
@@ -61,8 +62,8 @@ DAMAGED = [
     ("bad symbol number", 3, poked(OBJECT, (30, 0o50))),  # there is no number 2
 ]
 # the kinds of remarks on them
-REMARKED = {"short header": v7.REMARK_SHORT_HEADER, "bad magic number": v7.REMARK_BAD_MAGIC, "odd size": v7.REMARK_ODD_SIZE, "truncated": v7.REMARK_TRUNCATED,
-            "bad relocation": v7.REMARK_BAD_RELOCATION, "bad symbol number": v7.REMARK_BAD_SYMBOL_NUMBER}
+REMARKED = {"short header": v7.REMARK_SHORT_HEADER, "bad magic number": v7.REMARK_BAD_MAGIC, "odd size": v7.REMARK_ODD_SIZE,
+            "truncated": v7.REMARK_TRUNCATED, "bad relocation": v7.REMARK_BAD_RELOCATION, "bad symbol number": v7.REMARK_BAD_SYMBOL_NUMBER}
 # listings: the fault, the line and the column
 MISTAKES = [
     ("a column is missing", 2, 7, "text\n000000\nx\n"),
@@ -86,8 +87,8 @@ MISTAKES = [
     ("only comments can follow end", 2, 1, "end\ntext\n"),
     ("the line end is missing: the listing was cut", 3, 1, "/ 000  000407  magic: normal\ntext\n"),
 ]
-ALIKE = struct.pack("<8H", 0o407, 0, 0, 0, 16, 0, 0, 0) + struct.pack("<2HBBH2HBBH2H", 0, 4, 0o40, 0, 0, 0, 14, 0o40, 0, 0, 0, 24) + b"_2345678a\0_2345678b\0"
-MANY = struct.pack("<8H", 0o407, 0, 0, 0, 8 * 5462, 0, 0, 0) + 5462 * struct.pack("<2HBBH", 0, 0, 0o40, 0, 0) + b"\0\0\4\0"
+ALIKE = gnu_named([], [], [(b"_2345678a", 0o40, 0), (b"_2345678b", 0o40, 0)])
+MANY = gnu_object([], [], [symbol(0, 0o40, 0)] * 5462, b"")
 # objects in GNU's form: the fault, its word and its byte, and the options
 CONVERTED = [
     ("no such option or form", 0, 0, 8, GNU),
@@ -219,8 +220,9 @@ class Faults(unittest.TestCase):
 class Module(unittest.TestCase):
     def test_numbers(self):
         """Numbers that do not fit their places."""
-        for call, *words in ((v7.make, [(65536, 0)]), (v7.make, [(-1, 0)]), (v7.make, (), [(0, 65536)]), (v7.make, (), (), 1 << 32), (v7.make, (), (), -2),
-                             (v7.make, (), (), 0, [("_f", 65536, 0)]), (v7.make, (), (), 0, [("_f", 0, 65536)]), (v7.make, (), (), 0, [("_too_long", 0, 0)]),
+        parts = ([(65536, 0)],), ([(-1, 0)],), ((), [(0, 65536)]), ((), (), 1 << 32), ((), (), -2)
+        symbols = ("_f", 65536, 0), ("_f", 0, 65536), ("_too_long", 0, 0)
+        for call, *words in (*((v7.make, *them) for them in parts), *((v7.make, (), (), 0, [it]) for it in symbols),
                              (v7.link, (), 1 << 32), (v7.link, (), -1), (v7.nm, OBJECT, 1 << 32), (v7.disassemble_words, [65536]),
                              (v7.disassemble_words, [0], -1), (v7.refers_to, 4096), (v7.refers_to, -1)):
             with self.subTest(call=call, words=words), self.assertRaises(ValueError):
@@ -239,13 +241,15 @@ class Module(unittest.TestCase):
         self.assertTrue(all(typing.get_type_hints(getattr(v7, name)) for name in ("link", "make", "read", "remarks", "from_gnu")))
         data = v7.make([WORD] * 2, symbols=[("_u", v7.EXTERNAL, 0), ("_t", v7.TEXT + v7.EXTERNAL, 2), ("b", v7.TEXT, 0)])
         undefined, defined, local = "       U _u\n", "000002 T _t\n", "000000 t b\n"
-        for options, wanted in ((0, [defined, undefined, local]), (v7.NM_EXTERNAL, [defined, undefined]), (v7.NM_BY_VALUE, [undefined, local, defined]),
-                                (v7.NM_TABLE_ORDER, [undefined, defined, local]), (v7.NM_REVERSE, [local, undefined, defined]), (v7.NM_UNDEFINED, [undefined])):
-            self.assertEqual(v7.nm(data, options), "".join(wanted))
+        for options, wanted in ((0, defined + undefined + local), (v7.NM_EXTERNAL, defined + undefined), (v7.NM_UNDEFINED, undefined),
+                                (v7.NM_BY_VALUE, undefined + local + defined), (v7.NM_TABLE_ORDER, undefined + defined + local),
+                                (v7.NM_REVERSE, local + undefined + defined)):
+            self.assertEqual(v7.nm(data, options), wanted)
 
     def test_words(self):
         """Relocation words and types, as an object has them."""
-        data = v7.make([(0, v7.IN_TEXT), (0, v7.IN_DATA), (0, v7.IN_BSS)], symbols=[("a", v7.ABSOLUTE, 0), ("d", v7.DATA, 0), ("b", v7.BSS, 0)])
+        symbols = [("a", v7.ABSOLUTE, 0), ("d", v7.DATA, 0), ("b", v7.BSS, 0)]
+        data = v7.make([(0, v7.IN_TEXT), (0, v7.IN_DATA), (0, v7.IN_BSS)], symbols=symbols)
         self.assertEqual(struct.unpack_from("<3H", data, 22), (2, 4, 6))
         self.assertEqual([kind for _, kind, _ in struct.iter_unpack("<8sHH", data[28:])], [1, 3, 4])
 
@@ -257,7 +261,8 @@ class Module(unittest.TestCase):
                 said = ran(program("v7-explain"), path).texts()[1]
                 listing = v7.listing(data)
                 self.assertEqual(listing.split("\n"), [line for line in said.split("\n") if not line.startswith("/")])
-                self.assertEqual([(str(it.byte), it.text) for it in v7.remarks(data)], re.findall(r"^/ (?:wrong|odd): byte 0[0-7]+ \((\d+)\): (.*)", said, re.M))
+                remarks = re.findall(r"^/ (?:wrong|odd): byte 0[0-7]+ \((\d+)\): (.*)", said, re.M)
+                self.assertEqual([(str(it.byte), it.text) for it in v7.remarks(data)], remarks)
                 self.assertEqual(ran(program("v7-object"), write("x.lst", listing), "x.o").status, 0)
                 self.assertEqual(v7.from_listing(listing), read_bytes("x.o"))
             for path in sorted(glob.glob(f"{TOP}/examples/*.gnu")):
