@@ -1,19 +1,20 @@
-"""What the page says, compared with a model: the states of a session from the bytes of the objects alone. In each state these are the
-sentence, the status, the names in their order with what is struck out, and what words were; then the cards, what the words of a link
-name, the legend, the tour's count, and what a question lets be done and seen."""
+"""What the page says, compared with a model: the states of a session, whose names are those of tests/oracles/model.py. In each state these
+are the sentence, the status, the names in their order with what is struck out, and what words were. Then come the cards, what the words
+of a link name, the legend, the tour's count, and what can be done and seen while a question is open."""
 import os
 import re
 from itertools import permutations
 
 from tests.lib.files import read_bytes
-from tests.lib.objects import unpack
+from tests.oracles import model
 from tests.page.page_data import branch_of
 from tests.page.page_stage import SEEN, first
 from tests.page.page_states import by_alphabet, lines_on, read
 from tests.page.page_tools import PARTS, WORD, addend_said, known_as, same, size_said
 
 SEGMENT = {0o2: "text", 0o4: "data", 0o6: "bss"}
-DEFINED = {0o42: "text", 0o43: "data", 0o44: "bss"}
+# what is known of a name that is defined, or of an undefined one
+KNOWN = {model.UNDEFINED: "common", model.ABSOLUTE: "number", **model.SEGMENTS}
 
 
 def counted(number, what):
@@ -28,11 +29,10 @@ class Given:
     """An object: its words with their relocation words, and its symbols."""
 
     def __init__(self, path):
-        one = unpack(read_bytes(path))
-        self.name, self.text, self.data, self.bss = os.path.basename(path), *one.header[1:4]
-        both = [*zip([*one.text, *one.data], one.relocation)]
-        self.words = {"text": both[:len(one.text)], "data": both[len(one.text):]}
-        self.symbols = [(name.rstrip(b"\0").decode("latin-1"), kind, value) for name, kind, value in one.symbols]
+        self.name, self.file = os.path.basename(path), model.read_object(read_bytes(path))
+        self.text, self.data, self.bss = map(self.file.size, model.SEGMENTS)
+        self.words = {model.SEGMENTS[segment]: words for segment, words in self.file.words.items()}
+        self.symbols = [(one.name.decode("latin-1"), one.type, one.value) for one in self.file.symbols]
 
     def start(self, segment):
         return {"text": 0, "data": self.text, "bss": self.text + self.data}[segment]
@@ -51,35 +51,17 @@ class Session:
     """What a session of some objects knows."""
 
     def __init__(self, objects):
-        self.objects, self.names, self.multiples, self.words = objects, {}, [], {}
-        self.sizes, fronts = {"text": 0, "data": 0, "bss": 0}, []
-        for one in objects:
-            fronts.append(dict(self.sizes))
-            for segment, size in (("text", one.text), ("data", one.data), ("bss", one.bss)):
-                self.sizes[segment] += size
-        for one, front in zip(objects, fronts):
-            for symbol in one.symbols:
-                self.mention(one, front, *symbol)
-        for one, front in zip(objects, fronts):
+        merged = model.Merged([one.file for one in objects], ())
+        named = lambda sizes: {name: sizes[segment] for segment, name in model.SEGMENTS.items()}
+        self.objects, self.sizes, self.words = objects, named(merged.sizes), {}
+        self.names = {name.decode("latin-1"): ("undefined" if external.is_undefined else KNOWN[external.kind], external.value)
+                      for name, external in merged.externals.items()}
+        self.multiples = [*dict.fromkeys(name.decode("latin-1") for name in merged.multiples)]
+        for one, front in zip(objects, map(named, merged.before)):
             for part in PARTS:
                 for index, (word, reloc) in enumerate(one.words[part]):
                     made = self.words[part, front[part] + 2 * index] = self.word(one, front, part, index, word, reloc)
                     made.of, made.part, made.index, made.own, made.reloc = one, part, index, word, reloc
-
-    def mention(self, one, front, name, kind, value):
-        if not kind & 0o40:
-            return
-        known, size = self.names.setdefault(name, ("undefined", 0))
-        if kind == 0o40:
-            if value > 0 and known in ("undefined", "common"):
-                self.names[name] = ("common", max(size, value))
-            return
-        segment = DEFINED.get(kind, "number")
-        place = segment, value if segment == "number" else (value - one.start(segment) + front[segment]) % WORD
-        if known in ("undefined", "common"):
-            self.names[name] = place
-        elif self.names[name] != place and name not in self.multiples:
-            self.multiples.append(name)
 
     def word(self, one, front, part, index, word, reloc):
         pc, kind = reloc & 1, reloc & 0o16
