@@ -1,16 +1,14 @@
 #!/bin/sh
-# Runs the program with standard streams closed, and compares its files, faults and statuses: what goes to a closed stream
-# is a write error, what is read from one is a read error, and no file that a command opens takes the place of one. Then more
-# files than may be open. Last, the same of the programs beside v7.
-#
-# usage: tests/programs/streams.sh       the programs are in build/, or in the folder V7_BUILD
+# Runs the programs with standard streams closed, and compares their files, faults and statuses: what goes to a closed stream is a write
+# error, what is read from one is a read error, and no file that a command opens takes the place of one. It also tries more files than may
+# be open, a device that is full, an output that is the input, and files that are larger than the memory.
 #
 # tier: check, 10 seconds; programs: v7 v7-explain v7-object v7-from-gnu v7-lesson; for: crates/surroundings
 set -u
 cd "$(dirname "$0")/../.."
 build=$(realpath "${V7_BUILD:-build}")
 top=$PWD
-v7=$build/v7
+PATH=$build:$PATH
 for program in v7 v7-explain v7-object v7-from-gnu v7-lesson; do
     [ -x "$build/$program" ] || { echo "$build/$program is missing: make builds it"; exit 2; }
 done
@@ -66,27 +64,28 @@ for plant in "expect planted 0 a" "expect planted 1 planted" "same fault /dev/nu
 done
 
 # what the program writes with its streams open
-tried 'ld with a report' 1 '' "$v7" ld -o reported main.o count.o >report
-tried 'ld without one' 0 '' "$v7" ld -o whole main.o twice.o count.o >report
+tried 'ld with a report' 1 '' v7 ld -o reported main.o count.o >report
+tried 'ld without one' 0 '' v7 ld -o whole main.o twice.o count.o >report
 cp whole stripped
-tried 'strip' 0 '' "$v7" strip stripped
+tried 'strip' 0 '' v7 strip stripped
 
 # more files than may be open: no output is made
-(ulimit -n 64 && exec "$v7" ld -o out main.o $(yes twice.o | head -n 99)) >answers 2>fault; status=$?
+(ulimit -n 64 && exec v7 ld -o out main.o $(yes twice.o | head -n 99)) >answers 2>fault; status=$?
 expect 'too many files' 2 "v7: twice.o: $(fault_words open)"
 [ ! -e out ] || fail 'too many files: an output is there'
 
 # the folder that is to hold standard input can't be opened: two streams are open, and no more may be
-if [ "$(head -c 2 "$v7")" = '#!' ]; then
+if [ "$(head -c 2 "$build/v7")" = '#!' ]; then
     echo 'skipped: no folder to hold a stream, as a script starts the programs of make quick'
 else
-    (ulimit -n 1 && exec "$v7" nm main.o) <&- >answers 2>fault; status=$?
+    (ulimit -n 1 && exec v7 nm main.o) <&- >answers 2>fault; status=$?
     expect 'no folder to hold a stream' 2 "v7: /: $(fault_words open)"
     same answers /dev/null
     # the stack that TRUST names is enough
     stack=$(sed -n 's/.* \([0-9]*\) kB of stack.*/\1/p' "$top/docs/TRUST.md")
     for words in 'ld -o out main.o twice.o count.o' 'nm main.o' 'size main.o' 'strip out' 'session'; do
-        printf 'add twice.o\nexternals\nlink out\n' | tried "$words, $stack kB of stack" 0 '' sh -c "ulimit -s $stack && exec env -i '$v7' $words" >answers
+        printf 'add twice.o\nexternals\nlink out\n' |
+            tried "$words, $stack kB of stack" 0 '' sh -c "ulimit -s $stack && exec env -i '$build/v7' $words" >answers
     done
     rm out
 fi
@@ -94,43 +93,43 @@ fi
 # a device that is full
 if [ -c /dev/full ]; then
     for tool in nm size; do
-        tried "$tool, device full" 2 "v7: $(fault_words write)" "$v7" $tool main.o >/dev/full
+        tried "$tool, device full" 2 "v7: $(fault_words write)" v7 $tool main.o >/dev/full
     done
-    printf 'add main.o\nlink out\n' | tried 'session, device full' 2 "v7: $(fault_words write)" "$v7" session >/dev/full
+    printf 'add main.o\nlink out\n' | tried 'session, device full' 2 "v7: $(fault_words write)" v7 session >/dev/full
     [ ! -e out ] || fail 'session, device full: it went on'
-    printf 'link /dev/full\nwithdraw\n' | tried 'session, a link to a full device' 1 '' "$v7" session >answers
+    printf 'link /dev/full\nwithdraw\n' | tried 'session, a link to a full device' 1 '' v7 session >answers
     printf '/dev/full: %s\nnothing to withdraw\n' "$(fault_words write)" | same - answers
 fi
 
 # standard output closed
-tried 'ld with a report, output closed' 2 "v7: $(fault_words write)" "$v7" ld -o out main.o count.o >&-
+tried 'ld with a report, output closed' 2 "v7: $(fault_words write)" v7 ld -o out main.o count.o >&-
 same out reported
-tried 'ld without one, output closed' 0 '' "$v7" ld -o out main.o twice.o count.o >&-
+tried 'ld without one, output closed' 0 '' v7 ld -o out main.o twice.o count.o >&-
 same out whole
-tried 'strip, output closed' 0 '' "$v7" strip out >&-
+tried 'strip, output closed' 0 '' v7 strip out >&-
 same out stripped
 for tool in nm size; do
-    tried "$tool, output closed" 2 "v7: $(fault_words write)" "$v7" $tool main.o >&-
+    tried "$tool, output closed" 2 "v7: $(fault_words write)" v7 $tool main.o >&-
 done
 rm out
-printf 'add main.o\nlink out\n' | tried 'session, output closed' 2 "v7: $(fault_words write)" "$v7" session >&-
+printf 'add main.o\nlink out\n' | tried 'session, output closed' 2 "v7: $(fault_words write)" v7 session >&-
 [ ! -e out ] || fail 'session, output closed: it went on'
 
 # standard input closed
-tried 'session, input closed' 2 'v7: script read error' "$v7" session <&- >answers
+tried 'session, input closed' 2 'v7: script read error' v7 session <&- >answers
 same answers /dev/null
-tried 'ld, input closed' 1 '' "$v7" ld -o out main.o count.o <&- >answers
+tried 'ld, input closed' 1 '' v7 ld -o out main.o count.o <&- >answers
 same out reported
 printf 'Undefined:\n_twice\n' | same - answers
 
 # the programs beside v7: what goes to a closed stream, or to a device that is full, is a write error
-PATH=$build:$PATH
 tried 'v7-explain' 0 '' v7-explain main.o >listing
 tried 'v7-from-gnu' 0 '' v7-from-gnu squares.gnu converted
 for letter in '' -d -l -s -m '-y _main'; do
     tried "v7-explain $letter, output closed" 2 "v7-explain: $(fault_words write)" v7-explain $letter main.o >&-
 done
-tried 'v7-explain -c, output closed' 1 'v7-explain: reported: a program; relocation removed, so ld cannot link it again' v7-explain -c reported >&-
+said='v7-explain: reported: a program; relocation removed, so ld cannot link it again'
+tried 'v7-explain -c, output closed' 1 "$said" v7-explain -c reported >&-
 tried 'v7-lesson, output closed' 2 "v7-lesson: $(fault_words write)" v7-lesson main.o >&-
 if [ -c /dev/full ]; then
     tried 'v7-explain, device full' 2 "v7-explain: $(fault_words write)" v7-explain main.o >/dev/full
@@ -169,19 +168,10 @@ same links/x.lst listing
 [ ! -e links/squares.gnu ] || fail 'an object is stored beside one that is refused'
 
 # with a closed stream, or with none, they store the same
-: >fault
-for closed in 0 1 2 all; do
-    case $closed in
-        0) v7-explain -o stored main.o <&- >answers 2>fault && v7-object listing made <&- >>answers 2>>fault \
-            && v7-from-gnu squares.gnu out <&- >>answers 2>>fault; status=$? ;;
-        1) v7-explain -o stored main.o >&- 2>fault && v7-object listing made >&- 2>>fault \
-            && v7-from-gnu squares.gnu out >&- 2>>fault; status=$? ;;
-        2) v7-explain -o stored main.o >answers 2>&- && v7-object listing made >>answers 2>&- \
-            && v7-from-gnu squares.gnu out >>answers 2>&-; status=$? ;;
-        *) v7-explain -o stored main.o <&- >&- 2>&- && v7-object listing made <&- >&- 2>&- \
-            && v7-from-gnu squares.gnu out <&- >&- 2>&-; status=$? ;;
-    esac
-    expect "stored, closed: $closed" 0 ''
+for closed in '<&-' '>&-' '2>&-' '<&- >&- 2>&-'; do
+    eval "v7-explain -o stored main.o $closed && v7-object listing made $closed && v7-from-gnu squares.gnu out $closed" >answers 2>fault
+    status=$?
+    expect "stored with $closed" 0 ''
     same stored listing
     same made main.o
     same out converted
@@ -221,34 +211,31 @@ fi
 rm large zero
 
 # standard error closed, and all three
-"$v7" ld -o out main.o count.o >answers 2>&-; ended 'ld, error closed' 1
+v7 ld -o out main.o count.o >answers 2>&-; ended 'ld, error closed' 1
 same out reported
-"$v7" strip out none.o >answers 2>&-; ended 'strip, error closed' 2
+v7 strip out none.o >answers 2>&-; ended 'strip, error closed' 2
 same out reported
-"$v7" ld -o out main.o twice.o count.o <&- >&- 2>&-; ended 'ld, all closed' 0
+v7 ld -o out main.o twice.o count.o <&- >&- 2>&-; ended 'ld, all closed' 0
 same out whole
-"$v7" ld -o out main.o count.o <&- >&- 2>&-; ended 'ld with a report, all closed' 2
+v7 ld -o out main.o count.o <&- >&- 2>&-; ended 'ld with a report, all closed' 2
 same out reported
 
 # a file that is opened first has the lowest descriptor that is free: it is none of those three, which are held. To ask for
 # a descriptor by a path the system has to have /dev/fd
 [ -d /dev/fd ] || { [ ! -e failed ]; exit; }
 rm out
-tried 'descriptor 0' 2 "v7: /dev/fd/0: $(fault_words read)" "$v7" ld -o out main.o /dev/fd/0 <&- >answers
-tried 'descriptor 1' 2 "v7: /dev/fd/1: $(fault_words read)" "$v7" ld -o out main.o /dev/fd/1 >&-
-"$v7" ld -o out main.o /dev/fd/2 >answers 2>&-; ended 'descriptor 2' 2
-for descriptor in 0 1 2; do
-    "$v7" ld -o out main.o /dev/fd/$descriptor <&- >&- 2>&-; ended "descriptor $descriptor, all closed" 2
-done
+tried 'descriptor 0' 2 "v7: /dev/fd/0: $(fault_words read)" v7 ld -o out main.o /dev/fd/0 <&- >answers
+tried 'descriptor 1' 2 "v7: /dev/fd/1: $(fault_words read)" v7 ld -o out main.o /dev/fd/1 >&-
+v7 ld -o out main.o /dev/fd/2 >answers 2>&-; ended 'descriptor 2' 2
 # the other programs hold them too
 tried 'v7-explain, descriptor 0' 2 "v7-explain: /dev/fd/0: $(fault_words read)" v7-explain main.o /dev/fd/0 <&- >answers
 tried 'v7-explain, descriptor 1' 2 "v7-explain: /dev/fd/1: $(fault_words read)" v7-explain -o out /dev/fd/1 >&-
 tried 'v7-object, descriptor 0' 2 "v7-object: /dev/fd/0: $(fault_words read)" v7-object /dev/fd/0 out <&- >answers
 tried 'v7-from-gnu, descriptor 1' 2 "v7-from-gnu: /dev/fd/1: $(fault_words read)" v7-from-gnu /dev/fd/1 out >&-
-for descriptor in 0 1 2; do
-    v7-explain /dev/fd/$descriptor <&- >&- 2>&-; ended "v7-explain, descriptor $descriptor, all closed" 2
-    v7-object /dev/fd/$descriptor out <&- >&- 2>&-; ended "v7-object, descriptor $descriptor, all closed" 2
-    v7-from-gnu /dev/fd/$descriptor out <&- >&- 2>&-; ended "v7-from-gnu, descriptor $descriptor, all closed" 2
+for opened in /dev/fd/0 /dev/fd/1 /dev/fd/2; do
+    for words in "v7 ld -o out main.o $opened" "v7-explain $opened" "v7-object $opened out" "v7-from-gnu $opened out"; do
+        $words <&- >&- 2>&-; ended "$words, all closed" 2
+    done
 done
 [ ! -e out ] || fail 'a file that is opened took the place of a stream'
 [ ! -e failed ]
