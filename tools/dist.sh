@@ -8,9 +8,9 @@
 #        PROVED=CHECKOUT tools/dist.sh ..      begins with what was proved in this checkout, and proves only what has changed
 #        BASE=FOLDER tools/dist.sh ..          copies Debian's base from this folder, which debootstrap has made, as make_debian does
 #
-# The two builds are of one commit, in two folders, with two file masks, languages and time zones. They are by two users, if the first is root,
-# and on two dates, if faketime is installed. A proof changes no byte of a program, so the second takes what the first has proved, and
-# compiles, links and packs it again.
+# The two builds are of one commit, in two folders, with two file masks, languages and time zones. They are by two users, if the first is
+# root, and on two dates, if faketime is installed. A proof changes no byte of a program, so the second takes what the first has proved,
+# and compiles, links and packs it again.
 #
 # To run the packages, a folder with Debian's base is made by debootstrap, from the mirror of this machine; with a C compiler and
 # pkg-config, and without the kit, make and Python. Once the package for Debian is installed there, and once the tar is unpacked.
@@ -30,7 +30,9 @@ chmod 755 "$work"
 trap 'umount "$work/debian/proc" "$work/debian/sys" 2>/dev/null; rm -rf --one-file-system "$work"' EXIT
 failed=0
 
+# `fail TEXT [FILE]`: reports a failure, after what a file has
 fail() {
+    [ $# -lt 2 ] || cat "$2"
     echo "$1"
     failed=1
 }
@@ -78,10 +80,12 @@ twice() {
     date=
     command -v faketime >/dev/null && date="faketime -f +400d" || echo "skipped: faketime is not there, so both builds are of today"
     user=
-    [ "$(id -u)" -ne 0 ] && echo "skipped: not root, so both builds are by one user" || user="setpriv --reuid=65534 --regid=65534 --clear-groups"
+    [ "$(id -u)" -ne 0 ] && echo "skipped: not root, so both builds are by one user" ||
+        user="setpriv --reuid=65534 --regid=65534 --clear-groups"
     build "$work/one" 022 sh -c
     [ -n "${OBJECTS:-}" ] || PROVED=$work/one
-    build "$work/another/folder" 077 env -u MAKEFLAGS TMPDIR=/tmp HOME="$work/another" DONT_FAKE_MONOTONIC=1 TZ=Asia/Tokyo LC_ALL=C.UTF-8 $user $date sh -c
+    build "$work/another/folder" 077 env -u MAKEFLAGS TMPDIR=/tmp HOME="$work/another" DONT_FAKE_MONOTONIC=1 TZ=Asia/Tokyo \
+        LC_ALL=C.UTF-8 $user $date sh -c
     for folder in one another/folder; do
         (cd "$work/$folder/dist" && sha256sum -c --quiet SHA256SUMS) || fail "$folder: SHA256SUMS is wrong"
     done
@@ -100,14 +104,19 @@ twice() {
 
 debian=$work/debian
 
+# the commands that a section of a page begins with: `shown PAGE HEADING`
+shown() {
+    awk -v heading="## $2" '$0 == heading { on = 1 } on && /^    / { found = 1; print substr($0, 5); next } found { exit }' "$1"
+}
+
 # Debian's base, from the mirror of this machine
 make_debian() {
     if [ -n "${BASE:-}" ]; then
         cp -a "$BASE" "$debian" || stop "BASE is not a folder that can be copied"
     else
         mirror=$(apt-get indextargets --format '$(REPO_URI) $(CODENAME)' 'Created-By: Packages' | head -1)
-        debootstrap --variant=minbase --include=gcc,libc6-dev,pkg-config "${mirror#* }" "$debian" "${mirror% *}" >"$work/debootstrap.txt" 2>&1 ||
-            { tail -20 "$work/debootstrap.txt"; stop "debootstrap failed"; }
+        debootstrap --variant=minbase --include=gcc,libc6-dev,pkg-config "${mirror#* }" "$debian" "${mirror% *}" \
+            >"$work/debootstrap.txt" 2>&1 || { tail -20 "$work/debootstrap.txt"; stop "debootstrap failed"; }
     fi
     for absent in python3 make rt; do
         [ ! -e "$debian/usr/bin/$absent" ] || fail "the folder has $absent"
@@ -116,18 +125,19 @@ make_debian() {
 
 # runs a command in the folder, with these programs first
 inside() {
-    chroot "$debian" env -i PATH="$programs:/usr/sbin:/usr/bin:/sbin:/bin" HOME=/root PKG_CONFIG_PATH="$config" LD_LIBRARY_PATH="$libraries" "$@"
+    chroot "$debian" env -i PATH="$programs:/usr/sbin:/usr/bin:/sbin:/bin" HOME=/root PKG_CONFIG_PATH="$config" \
+        LD_LIBRARY_PATH="$libraries" "$@"
 }
 
 # how the README of the release says to get it, as printed
 readme() {
-    awk '/^## How to get it/ { on = 1 } on && /^    / { found = 1; print substr($0, 5); next } found { exit }' packaging/README.md >"$work/readme.sh"
+    shown packaging/README.md 'How to get it' >"$work/readme.sh"
     [ -s "$work/readme.sh" ] || fail "packaging/README.md has no commands"
     rm -rf "$debian/tmp/readme"
     mkdir "$debian/tmp/readme"
     cp "$dist"/* "$work/readme.sh" "$debian/tmp/readme"
     inside sh -euc 'cd /tmp/readme && . ./readme.sh' >"$work/readme.txt" 2>&1 || fail "the commands of packaging/README.md fail"
-    tail -1 "$work/readme.txt" | grep -q '^14+2+0 = 16b = 020b$' || { fail "the commands of packaging/README.md print something else"; cat "$work/readme.txt"; }
+    tail -1 "$work/readme.txt" | grep -q '^14+2+0 = 16b = 020b$' || fail "the commands print something else" "$work/readme.txt"
     echo "packaging/README.md: $(wc -l <"$work/readme.sh") lines were run"
 }
 
@@ -162,11 +172,12 @@ processors() {
 
 # the first commands of the README of the release, which are typed in the folder of the archive, and then a link
 first_link() {
-    awk '/^## The first link/ { on = 1 } on && /^    / { found = 1; print substr($0, 5); next } found { exit }' "$page" >"$debian/tmp/first.sh"
+    shown "$page" 'The first link' >"$debian/tmp/first.sh"
     [ "$(wc -l <"$debian/tmp/first.sh")" -eq 2 ] || fail "README.md of the release has no first commands"
-    inside sh -euc 'cd "$0" && rm -rf /tmp/home && mkdir /tmp/home && HOME=/tmp/home && . /tmp/first.sh && test "$PWD" = /tmp/home/v7-examples &&
-        v7 ld -o program main.o twice.o count.o && v7 size program' "${share%/share}" >"$work/first.txt" 2>&1
-    [ "$(cat "$work/first.txt")" = '14+2+0 = 16b = 020b' ] || { cat "$work/first.txt"; fail "the first commands of the README of the release fail"; }
+    inside sh -euc 'cd "$0" && rm -rf /tmp/home && mkdir /tmp/home && HOME=/tmp/home && . /tmp/first.sh &&
+        test "$PWD" = /tmp/home/v7-examples && v7 ld -o program main.o twice.o count.o && v7 size program' \
+        "${share%/share}" >"$work/first.txt" 2>&1
+    [ "$(cat "$work/first.txt")" = '14+2+0 = 16b = 020b' ] || fail "the first commands of the README of the release fail" "$work/first.txt"
     echo "README.md of the release: $(wc -l <"$debian/tmp/first.sh") lines were run"
 }
 
@@ -178,10 +189,12 @@ manual() {
     cp -r "$debian$share/doc/v7/examples" "$debian/tmp/manual"
     inside sh -euc 'cd /tmp/manual && cp "$1"/man/man[157]/v7* man && { gunzip -q man/*.gz 2>/dev/null || :; }
         for program in v7 v7-from-gnu v7-object v7-explain v7-lesson; do ln -s "$(command -v $program)" build; done
-        sh tests/programs/manual.sh man/* "$1/doc/v7/README.md" "$1/doc/v7/docs/RESTORING.md"' sh "$share" || fail "an example of the manual differs"
+        sh tests/programs/manual.sh man/* "$1/doc/v7/README.md" "$1/doc/v7/docs/RESTORING.md"' sh "$share" ||
+        fail "an example of the manual differs"
     # the folder has no Python
     python3 "$debian/tmp/manual/examples/asm.py" "$debian/tmp/manual/examples/squares.s" || fail "asm.py does not do"
-    inside sh -euc 'cd /tmp/manual && sh tests/programs/manual.sh "$1/doc/v7/docs/TUTORIAL.md"' sh "$share" || fail "an example of the tutorial differs"
+    inside sh -euc 'cd /tmp/manual && sh tests/programs/manual.sh "$1/doc/v7/docs/TUTORIAL.md"' sh "$share" ||
+        fail "an example of the tutorial differs"
 }
 
 # the cases, driven from outside: each program is a script that runs it in the folder
@@ -197,7 +210,8 @@ exec /usr/sbin/chroot "$debian" /bin/sh -c 'cd "\$0" && shift 0 && exec "\$@"' "
 END
         chmod 755 "$work/cases/build/$program"
     done
-    (cd "$work/cases" && TMPDIR=$debian/tmp PYTHONDONTWRITEBYTECODE=1 python3 -m tests.cases.cases -p >"$work/cases.txt") || fail "a case differs"
+    (cd "$work/cases" && TMPDIR=$debian/tmp PYTHONDONTWRITEBYTECODE=1 python3 -m tests.cases.cases -p >"$work/cases.txt") ||
+        fail "a case differs"
     grep -v '^ok \|^skipped ' "$work/cases.txt"
 }
 
@@ -205,7 +219,8 @@ END
 library() {
     inside sh -euc 'cd /tmp && rm -rf library && mkdir library && cd library && cp "$1"/doc/v7/examples/*.o . &&
         cc -o shared "$1/doc/v7/examples/c/link.c" $(pkg-config --cflags --libs v7) &&
-        cc -o alone "$1/doc/v7/examples/c/link.c" $(pkg-config --cflags v7) $(pkg-config --libs-only-L v7) -Wl,-Bstatic -lv7 -Wl,-Bdynamic &&
+        cc -o alone "$1/doc/v7/examples/c/link.c" $(pkg-config --cflags v7) $(pkg-config --libs-only-L v7) \
+            -Wl,-Bstatic -lv7 -Wl,-Bdynamic &&
         cc -o session "$1/doc/v7/examples/c/session.c" $(pkg-config --cflags --libs v7) &&
         ./session >/dev/null && ./shared one main.o twice.o count.o >/dev/null && ./alone two main.o twice.o count.o >/dev/null &&
         v7 ld -o three main.o twice.o count.o && cmp one three && cmp two three && test "$(pkg-config --modversion v7)" = "$2"' \
@@ -216,7 +231,7 @@ library() {
 # the C example with libv7-0 and libv7-dev alone, and the documents that the header cites
 library_alone() {
     inside dpkg -i "/tmp/libv7-0_${version}_amd64.deb" "/tmp/libv7-dev_${version}_amd64.deb" >"$work/dpkg.txt" 2>&1 ||
-        { cat "$work/dpkg.txt"; fail "dpkg does not install the library"; }
+        fail "dpkg does not install the library" "$work/dpkg.txt"
     inside sh -euc 'cd /tmp && rm -rf alone && mkdir alone && cd alone && doc=/usr/share/doc/libv7-dev && cp $doc/examples/*.o . &&
         cc -o link $doc/examples/c/link.c $(pkg-config --cflags --libs v7) && ./link program main.o twice.o count.o >/dev/null &&
         for page in $(grep -o "docs/[A-Z]*\.md" /usr/include/v7.h); do test -s $doc/$page; done && ! command -v v7' ||
@@ -235,13 +250,14 @@ python() {
     python3 -m tests.libv7.wheel "$dist"/*.whl || fail "the wheel is not right"
     python3 -m venv "$work/fresh" && "$work/fresh/bin/pip" install -q --no-index --disable-pip-version-check "$dist"/*.whl &&
         "$work/fresh/bin/python" examples/python/session.py | cmp - "$work/session.txt" &&
-        (cd examples && "$work/fresh/bin/python" python/link.py "$work/linked" main.o twice.o count.o >/dev/null) || fail "the wheel does not do"
+        (cd examples && "$work/fresh/bin/python" python/link.py "$work/linked" main.o twice.o count.o >/dev/null) ||
+        fail "the wheel does not do"
     echo "Python: a session with python3-v7, and the examples with the wheel in a fresh environment"
 }
 
 # lintian finds nothing in a package
 clean() {
-    lintian --fail-on error,warning --tag-display-limit 0 "$1" >"$work/lintian.txt" 2>&1 || { cat "$work/lintian.txt"; fail "lintian: $1"; }
+    lintian --fail-on error,warning --tag-display-limit 0 "$1" >"$work/lintian.txt" 2>&1 || fail "lintian: $1" "$work/lintian.txt"
     echo "lintian: nothing in $(basename "$1")"
 }
 
@@ -271,9 +287,9 @@ run_packages() {
     readme
     cp "$dist"/*_amd64.deb "$debian/tmp"
     library_alone
-    inside dpkg -i "/tmp/v7_${version}_amd64.deb" >"$work/dpkg.txt" 2>&1 || { cat "$work/dpkg.txt"; fail "dpkg does not install the package"; }
+    inside dpkg -i "/tmp/v7_${version}_amd64.deb" >"$work/dpkg.txt" 2>&1 || fail "dpkg does not install the package" "$work/dpkg.txt"
     try_all "the packages for Debian"
-    inside dpkg -r v7 libv7-dev libv7-0 >"$work/dpkg.txt" 2>&1 || { cat "$work/dpkg.txt"; fail "dpkg does not remove the packages"; }
+    inside dpkg -r v7 libv7-dev libv7-0 >"$work/dpkg.txt" 2>&1 || fail "dpkg does not remove the packages" "$work/dpkg.txt"
     tar xzf "$dist/$name.tar.gz" -C "$debian/opt"
     programs=/opt/$name/bin share=/opt/$name/share config=/opt/$name/lib/pkgconfig libraries=/opt/$name/lib
     try_all "the tar"

@@ -7,7 +7,9 @@
 #
 # usage: CC=cc CXX=c++ tests/libv7/library.sh
 #
-# tier: check, 90 seconds; programs: v7 v7-explain v7-object v7-from-gnu libv7.so; for: Makefile crates/v7_c crates/library_calls include packaging docs/LIBRARY.md man/v7.3 tests/libv7 examples/c examples/python; needs: cc c++ pkg-config valgrind mypy venv rustc cargo
+# tier: check, 90 seconds; programs: v7 v7-explain v7-object v7-from-gnu libv7.so;
+# for: Makefile crates/v7_c crates/library_calls include packaging docs/LIBRARY.md man/v7.3 tests/libv7 examples/c examples/python;
+# needs: cc c++ pkg-config valgrind mypy venv rustc cargo
 set -u
 cd "$(dirname "$0")/../.."
 top=$PWD
@@ -17,7 +19,8 @@ export V7_BUILD
 : "${CC:=cc}" "${CXX:=c++}"
 room=$(mktemp -d)
 trap 'rm -rf "$room"' EXIT
-make -s install-lib FROM="$(realpath --relative-to=. "$build")" PREFIX="$room/installed" LIBDIR="$room/installed/lib" INCLUDEDIR="$room/installed/include" DESTDIR= || exit 1
+to=$room/installed
+make -s install-lib FROM="$(realpath --relative-to=. "$build")" PREFIX="$to" LIBDIR="$to/lib" INCLUDEDIR="$to/include" DESTDIR= || exit 1
 cd "$room"
 cp "$top"/examples/*.o .
 $build/v7 ld -s -o bad.o main.o >/dev/null
@@ -49,8 +52,9 @@ library=$room/installed/lib/libv7.so.0
 # the names that a library shows, and those that the header declares
 sed -n 's/^[a-z0-9]*_t \(v7_[a-z_]*\)(.*/\1/p' installed/include/v7.h | sort >declared
 [ -s declared ] || fail "v7.h declares no call"
-nm -D --defined-only "$library" | awk '{ print $NF }' | sort | diff declared - || fail "libv7.so.0 shows something else than v7.h declares"
-nm -g --defined-only "$archive" | awk 'NF == 3 { print $3 }' | sort | diff declared - || fail "libv7.a shows something else than v7.h declares"
+for shown in "-D $library" "-g $archive"; do
+    nm --defined-only $shown | awk 'NF == 3 { print $3 }' | sort | diff declared - || fail "v7.h declares something else than nm $shown"
+done
 readelf -d "$library" | grep -q 'Library soname: \[libv7.so.0\]' || fail "the soname of libv7.so.0 is another"
 [ "$(readlink "$library")" = "libv7.so.0.$version" ] && [ "$(readlink installed/lib/libv7.so)" = libv7.so.0 ] ||
     fail "libv7.so and libv7.so.0 are not links to libv7.so.0.$version"
@@ -87,29 +91,18 @@ if has "$CXX"; then
     header $CXX -std=c++17 header.cpp
 fi
 
-# the objects of one link are linked by the program and by a command, which prints the line of each file first
-link_both() {
-    name=$1
-    command=$2
-    shift 2
-    rm -f ours theirs
-    $build/v7 ld -o theirs "$@" >theirs.txt 2>/dev/null
-    theirs=$?
-    $command ours "$@" >ours.txt 2>faults.txt
-    ours=$?
-    [ $ours -eq $theirs ] || fail "$name: the status is $ours and not $theirs for $*"
-    [ $theirs -eq 2 ] || cmp theirs ours || fail "$name: another file for $*"
-    [ $theirs -eq 2 ] || grep -v '^[^ ]*\.o: [0-9]' ours.txt | cmp theirs.txt - || fail "$name: another report for $*"
-}
-
-# all links by one command
+# objects are linked by the program and by a command, which prints the line of each file first: `links NAME COMMAND`
 links() {
-    link_both "$1" "$2" main.o twice.o count.o
-    link_both "$1" "$2" main.o count.o
-    link_both "$1" "$2" a.o b.o c.o
-    link_both "$1" "$2" k.o l.o
-    link_both "$1" "$2" main.o main.o
-    link_both "$1" "$2" main.o bad.o
+    for objects in 'main.o twice.o count.o' 'main.o count.o' 'a.o b.o c.o' 'k.o l.o' 'main.o main.o' 'main.o bad.o'; do
+        rm -f ours theirs
+        $build/v7 ld -o theirs $objects >theirs.txt 2>/dev/null
+        theirs=$?
+        $2 ours $objects >ours.txt 2>faults.txt
+        ours=$?
+        [ $ours -eq $theirs ] || fail "$1: the status is $ours and not $theirs for $objects"
+        [ $theirs -eq 2 ] || cmp theirs ours || fail "$1: another file for $objects"
+        [ $theirs -eq 2 ] || grep -v '^[^ ]*\.o: [0-9]' ours.txt | cmp theirs.txt - || fail "$1: another report for $objects"
+    done
     echo "$1: 6 links compared"
 }
 
@@ -120,23 +113,29 @@ checks() {
     "$@" >said.txt 2>&1 && echo "$shown: $(tail -1 said.txt)" || { cat said.txt; fail "$shown differs"; }
 }
 
-$CC -std=c99 -O2 -Wall -Wextra -Werror -o calls $compiles "$top/tests/libv7/c/calls.c" -Wl,--wrap=malloc -Wl,--wrap=realloc -Wl,--wrap=free \
-    "$archive" || exit 1
+# compiles a source, with what follows it: `compile PROGRAM SOURCE WORD ..`
+compile() {
+    made=$1
+    shift
+    $CC -std=c99 -O2 -Wall -Wextra -Werror -o "$made" $compiles "$@" || exit 1
+}
+
+compile calls "$top/tests/libv7/c/calls.c" -Wl,--wrap=malloc -Wl,--wrap=realloc -Wl,--wrap=free "$archive"
 checks C "each call" ./calls
-$CC -std=c99 -O2 -Wall -Wextra -Werror -pthread -o stack $compiles "$top/tests/libv7/c/stack.c" "$archive" || exit 1
-./stack >stack.txt && echo "32,768 bytes of stack: $(cat stack.txt)" || fail "a call needs more than 32,768 bytes of stack: $(cat stack.txt)"
+compile stack "$top/tests/libv7/c/stack.c" -pthread "$archive"
+./stack >stack.txt && echo "32,768 bytes of stack: $(cat stack.txt)" || fail "a call needs more than that of stack: $(cat stack.txt)"
 # the program of v7(3) lists what v7 nm lists, and refuses what is not a file
 awk '/^\.Bd -literal/ { getline; on = /^#include/ } /^\.Ed/ { on = 0 } on { gsub(/\\e/, "\\"); print }' "$top/man/v7.3" >list.c
-$CC -std=c99 -O2 -Wall -Wextra -Werror -o list $compiles list.c "$archive" || exit 1
+compile list list.c "$archive"
 ./list <main.o >ours.txt && "$build/v7" nm main.o | cmp - ours.txt || fail "the program of v7(3) lists something else"
 ./list <list.c 2>ours.txt
 [ $? -eq 2 ] && echo "bad magic number" | cmp - ours.txt || fail "the program of v7(3) does not refuse a file"
 echo "the program of v7(3) lists what v7 nm lists"
-$CC -O2 -Wall -o by_c $compiles "$top/examples/c/link.c" "$archive" || exit 1
-$CC -O2 -Wall -o ran_by_c $compiles "$top/examples/c/session.c" "$archive" || exit 1
+compile by_c "$top/examples/c/link.c" "$archive"
+compile ran_by_c "$top/examples/c/session.c" "$archive"
 links C ./by_c
 # the toy assembler: both definitions of a name and the use of an undefined one have a line, or without a source an address
-$CC -std=c99 -O2 -Wall -Wextra -Werror -o toy $compiles "$top/examples/c/toy.c" "$archive" || exit 1
+compile toy "$top/examples/c/toy.c" "$archive"
 cp "$top"/examples/c/toy_*.txt .
 printf '_twice:\n    return\n' >toy_again.txt
 cat >toy.wanted <<'END'
@@ -148,8 +147,8 @@ toy() {
     $1 ours toy_main.txt toy_twice.txt >toy.txt 2>&1 && $1 theirs toy_main.txt twice.o >>toy.txt 2>&1
     $1 ours toy_main.txt toy_twice.txt toy_again.txt twice.o >>toy.txt 2>&1
     $1 ours toy_main.txt main.o >>toy.txt 2>&1
-    head -3 toy.txt | cmp -s - toy.wanted && grep -q '^toy_main\.txt:3: _twice is not defined$' toy.txt && grep -q '^main\.o at 0000.*: _twice is not defined$' toy.txt ||
-        { cat toy.txt; fail "the toy assembler shows other places: $1"; }
+    head -3 toy.txt | cmp -s - toy.wanted && grep -q '^toy_main\.txt:3: _twice is not defined$' toy.txt &&
+        grep -q '^main\.o at 0000.*: _twice is not defined$' toy.txt || { cat toy.txt; fail "the toy assembler shows other places: $1"; }
 }
 toy ./toy
 # it names what it cannot read or write
@@ -157,8 +156,8 @@ toy ./toy
 ./by_c missing/out main.o 2>&1 | grep -q '^missing/out: ' || fail "the example in C says nothing of a file that it cannot write"
 ./by_c 2>&1 | grep -q '^usage: ' || fail "the example in C says nothing of missing arguments"
 checks C "a session" ./ran_by_c
-$CC -O2 -Wall -o by_shared $compiles "$top/examples/c/link.c" $links || exit 1
-$CC -O2 -Wall -o ran_by_shared $compiles "$top/examples/c/session.c" $links || exit 1
+compile by_shared "$top/examples/c/link.c" $links
+compile ran_by_shared "$top/examples/c/session.c" $links
 LD_LIBRARY_PATH=$room/installed/lib${LD_LIBRARY_PATH:+:$LD_LIBRARY_PATH}
 export LD_LIBRARY_PATH
 links "C with libv7.so" ./by_shared
@@ -171,7 +170,8 @@ run_shown() {
         "$top/docs/LIBRARY.md" >shown.sh
     [ -s shown.sh ] || fail "docs/LIBRARY.md shows no command of $1"
     rm -f page/program
-    (cd page && LIBV7=$library PYTHONPATH=$top/packaging/python sh -e ../shown.sh) >/dev/null && cmp theirs page/program || fail "docs/LIBRARY.md: the commands of $1"
+    (cd page && LIBV7=$library PYTHONPATH=$top/packaging/python sh -e ../shown.sh) >/dev/null && cmp theirs page/program ||
+        fail "docs/LIBRARY.md: the commands of $1"
     echo "docs/LIBRARY.md: the commands of $1"
 }
 if has pkg-config; then
@@ -180,8 +180,9 @@ if has pkg-config; then
     done
 fi
 if has valgrind; then
-    links "C with valgrind" "valgrind -q --error-exitcode=9 --leak-check=full ./by_c"
-    checks "C with valgrind" "a session" valgrind -q --error-exitcode=9 --leak-check=full ./ran_by_c
+    watched='valgrind -q --error-exitcode=9 --leak-check=full'
+    links "C with valgrind" "$watched ./by_c"
+    checks "C with valgrind" "a session" $watched ./ran_by_c
 fi
 LIBV7=$library
 PYTHONDONTWRITEBYTECODE=1
@@ -191,7 +192,8 @@ links Python "env PYTHONPATH=$top/packaging/python python3 $top/examples/python/
 checks Python "a session" env "PYTHONPATH=$top/packaging/python" python3 "$top/examples/python/session.py"
 # the notebook has the instructions that use another object, and what is undefined without objects
 PYTHONPATH=$top/packaging/python python3 "$top/examples/python/notebook.py" main.o twice.o count.o >notebook.txt &&
-    grep -qF '| main.o | 000004 | `jsr pc,_twice` |' notebook.txt && grep -qF '| twice.o | `_twice` |' notebook.txt || fail "the notebook shows something else"
+    grep -qF '| main.o | 000004 | `jsr pc,_twice` |' notebook.txt && grep -qF '| twice.o | `_twice` |' notebook.txt ||
+    fail "the notebook shows something else"
 # the relinker follows a folder: an object more, one that is cut short, and both undone
 mkdir watched
 cp main.o twice.o watched
@@ -219,10 +221,10 @@ kill $relinker
 echo "Python: a notebook, and a folder relinked"
 checks Python "each fault" python3 -m tests.libv7.library
 if has mypy; then
-    MYPYPATH=$top/packaging/python mypy --strict --cache-dir="$room/mypy" "$top/packaging/python/v7.py" ||
-        fail "Python: mypy does not take the type hints"
-    MYPYPATH=$top/packaging/python mypy --cache-dir="$room/mypy" "$top"/examples/python/*.py || fail "Python: mypy does not take the examples"
-    ! MYPYPATH=$top/packaging/python mypy --cache-dir="$room/mypy" "$top/tests/libv7/wrong_types.py" >wrong.txt &&
+    export MYPYPATH="$top/packaging/python" MYPY_CACHE_DIR="$room/mypy"
+    mypy --strict "$top/packaging/python/v7.py" || fail "Python: mypy does not take the type hints"
+    mypy "$top"/examples/python/*.py || fail "Python: mypy does not take the examples"
+    ! mypy "$top/tests/libv7/wrong_types.py" >wrong.txt &&
         test "$(grep -c ': error: .* has incompatible type' wrong.txt)" -eq "$(grep -c '^v7' "$top/tests/libv7/wrong_types.py")" ||
         { cat wrong.txt; fail "Python: mypy takes a wrong type"; }
 fi
@@ -233,10 +235,11 @@ if python3 -m venv fresh 2>/dev/null; then
     mkdir wheel
     cp "$top"/examples/python/*.py wheel
     python3 -m tests.libv7.wheel v7-*.whl || fail "Python: the wheel is not as an index wants it"
-    fresh/bin/pip install -q --no-index --disable-pip-version-check v7-*.whl || fail "Python: the wheel is not installed"
+    pip="fresh/bin/pip install -q --no-index --disable-pip-version-check"
+    $pip v7-*.whl || fail "Python: the wheel is not installed"
     links "Python, from the wheel" "env -u LD_LIBRARY_PATH fresh/bin/python wheel/link.py"
     checks "Python, from the wheel" "a session" env -u LD_LIBRARY_PATH fresh/bin/python wheel/session.py
-    fresh/bin/pip install -q --no-index --disable-pip-version-check --force-reinstall --config-settings="library=$build/libv7.so.0" "$top/packaging/python" ||
+    $pip --force-reinstall --config-settings="library=$build/libv7.so.0" "$top/packaging/python" ||
         fail "Python: packaging/python is not installed by pip"
     checks "Python, installed by pyproject.toml" "a session" env -u LD_LIBRARY_PATH fresh/bin/python wheel/session.py
 else

@@ -38,7 +38,8 @@ from tests.lib.files import read
 import glob
 print(sum(len(read(path)) for path in glob.glob("tests/*/*.*")))
 END
-bare clone env PYTHONDONTWRITEBYTECODE=1 sh -c 'find . -name __pycache__ -exec rm -r {} + && python3 -m tests.texts.planted' || { cat "$room/said"; failed=1; }
+bare clone env PYTHONDONTWRITEBYTECODE=1 sh -c 'find . -name __pycache__ -exec rm -r {} + && python3 -m tests.texts.planted' ||
+    { cat "$room/said"; failed=1; }
 ! bare clone python3 -m tests.texts.planted || { echo "a test that reads what Python writes is not noticed"; failed=1; }
-[ $failed -ne 0 ] || echo "the texts, and the plans of make, are as they are here in a clone and in an archive, with PATH, HOME and LANG alone"
+[ $failed -ne 0 ] || echo "texts and plans of make are right in a clone and in an archive, with PATH, HOME and LANG alone"
 exit $failed

@@ -7,7 +7,8 @@
 #
 # usage: tests/programs/manual.sh [FILE...]       the programs are in build/, or in the folder V7_BUILD
 #
-# tier: check, 30 seconds; programs: v7 v7-explain v7-object v7-from-gnu v7-lesson; for: man docs examples README.md; needs: groff man mandoc pdp11
+# tier: check, 30 seconds; programs: v7 v7-explain v7-object v7-from-gnu v7-lesson;
+# for: man docs examples README.md; needs: groff man mandoc pdp11
 set -u
 cd "$(dirname "$0")/../.."
 top=$PWD

@@ -1,7 +1,8 @@
 #!/bin/sh
 # Finds misspellings: by codespell in all texts of the repository, also in code, and by aspell in documents, manuals and comments.
 #
-# tier: text, 5 seconds; for: docs README.md CONTRIBUTING.md CHANGES.md Makefile man examples crates include packaging page tests tools .ci; needs: codespell aspell
+# tier: text, 5 seconds; needs: codespell aspell;
+# for: docs README.md CONTRIBUTING.md CHANGES.md Makefile man examples crates include packaging page tests tools .ci
 set -u
 cd "$(dirname "$0")/../.."
 for tool in codespell aspell; do command -v $tool >/dev/null || { echo "skipped: $tool is not there"; exit 0; }; done
@@ -12,8 +13,8 @@ spell() {
     codespell -q 3 -L crate,nd,fo,datas,te,ue,hastable,nnumber,ndoes,hoever,als,statics "$@"
 }
 # what is a word here in prose, beside those of English: of programmers, and names
-known='alloc allocator alsc antt aout aspell backend bhis binutils callee callgrind cmark codespell comparer config ctypes debian debootstrap
-    destructor disassembler disassemblies dmov dpkg edata encoding enum etext fadd faketime fdiv fixup glibc groff hasher indir libc liblibc
+known='alloc allocator alsc antt aout aspell backend bhis binutils callee callgrind cmark codespell comparer config ctypes debian
+    debootstrap destructor disassembler disassemblies dmov dpkg edata encoding enum etext fadd faketime fdiv fixup glibc groff hasher indir libc liblibc
     libiberty libv linksem lintian makefile malloc mandoc manylinux mdoc mfps mfpt mtps mypy nasl prover realloc reimplements relinker rustc
     simh soname stderr stdin stdint stdout strace struct subcommand tstset usize valgrind venv wrtlck xffffffff zlib
     coq dafny kell kumar myreen norrish sewell shao wilke'
@@ -28,7 +29,8 @@ prose() {
 unknown() {
     sed "s/'s\b//g" | aspell list -l en --ignore=3 | grep -v '.[A-Z]' | sort -u | grep -vixE "($(echo $known | tr ' ' '|'))s?"
 }
-! printf 'planted: mis%s\n' pelling | spell - >/dev/null && [ "$(echo 'wehre a word is' | unknown)" = wehre ] || { echo "a misspelling is not noticed"; exit 1; }
+! printf 'planted: mis%s\n' pelling | spell - >/dev/null && [ "$(echo 'wehre a word is' | unknown)" = wehre ] ||
+    { echo "a misspelling is not noticed"; exit 1; }
 spell -S __pycache__,out $texts
 status=$?
 for word in $(prose | unknown); do
