@@ -15,6 +15,7 @@ While it works it prints a line for each crate, and at least one every ten secon
 """
 import hashlib
 import os
+import re
 import shutil
 import subprocess
 import sys
@@ -23,7 +24,7 @@ import tempfile
 from concurrent.futures import ThreadPoolExecutor, wait
 
 from tests.lib.files import TOP, read, write
-from tests.lib.programs import asked
+from tests.lib.programs import asked, ran
 from tests.lib.rattle import FUNCTION, crates_in
 from tests.lib.tally import Failed, Tally
 
@@ -141,17 +142,16 @@ class Proving:
 
     def run(self, crate, commands):
         """Runs commands in the folder of a crate, and returns the line of the verdict."""
-        how = {"cwd": f"crates/{crate.name}", "stdin": subprocess.DEVNULL, "stdout": subprocess.PIPE, "stderr": subprocess.STDOUT}
-        said = []
+        said = ""
         for words in commands:
-            ran = subprocess.run(words, **how)
-            said += ran.stdout.decode(errors="replace").split("\n")
-            if ran.returncode:
-                break
-        verdicts = [line for line in said if line.startswith("logic=proved ")]
-        if ran.returncode or not verdicts:
-            raise Failed("\n".join(said))
-        return verdicts[0]
+            done = ran(*words, cwd=f"crates/{crate.name}")
+            said += done.said()
+            if done.status:
+                raise Failed(said)
+        verdict = re.search("^logic=proved .*", said, re.M)
+        if not verdict:
+            raise Failed(said)
+        return verdict[0]
 
     def is_kept(self, crate, stamp):
         """Whether the crate is proved already. What it left is unpacked."""
@@ -230,18 +230,15 @@ def main(name, file, *flags):
         print(*(path for crate in crates_under(file) for path in crate.files), sep="\n")
         return 0
     if not shutil.which("rt"):
-        print("rt, the command of the Rattle kit, is not on the PATH", file=sys.stderr)
-        return 1
-    if name == "--only":
-        os.chdir(TOP)
-        os.makedirs(KEPT, exist_ok=True)
-        return check_only(file, *flags)
-    file = os.path.abspath(file)
+        sys.exit("rt, the command of the Rattle kit, is not on the PATH")
+    made = os.path.abspath(file)
     os.chdir(TOP)
-    for folder in (KEPT, os.path.dirname(file)):
-        os.makedirs(folder, exist_ok=True)
+    os.makedirs(KEPT, exist_ok=True)
+    if name == "--only":
+        return check_only(file, *flags)
+    os.makedirs(os.path.dirname(made), exist_ok=True)
     with tempfile.TemporaryDirectory() as place:
-        return Proving(crates_under(name), Kit(place), file).whole()
+        return Proving(crates_under(name), Kit(place), made).whole()
 
 
 if __name__ == "__main__":

@@ -84,7 +84,7 @@ class File:
 
     def symbols(self):
         """Name, bytes of the name, type word and value of each symbol."""
-        fields = (struct.unpack_from("<8sHH", self.data, at) for at in range(self.symbols_at, self.end, 12))
+        fields = struct.iter_unpack("<8sHH", self.data[self.symbols_at:self.end])
         return [(field.split(b"\0")[0], field, kind, value) for field, kind, value in fields]
 
     def ranges(self):
@@ -138,13 +138,12 @@ def bad_words(file):
             said = f"bad relocation at word {at // 2}: {reloc:o} has none of the kinds 0, 2, 4, 6 and 10"
         elif reloc & 0o16 < 0o10 or number < len(symbols) and is_undefined(symbols[number][2]):
             continue
-        elif number < len(symbols):
-            name, _, kind, _ = symbols[number]
-            said = f"symbol {number} of {len(symbols)}, {shown(name)} of type {kind:o}, and not an undefined external, 40"
-            said = f"bad symbol number at word {at // 2}: {reloc:o} refers to {said}"
         else:
-            said = f"symbol {number}, and the table has {len(symbols)}, counted from 0"
-            said = f"bad symbol number at word {at // 2}: {reloc:o} refers to {said}"
+            named = f"symbol {number}, and the table has {len(symbols)}, counted from 0"
+            if number < len(symbols):
+                name, _, kind, _ = symbols[number]
+                named = f"symbol {number} of {len(symbols)}, {shown(name)} of type {kind:o}, and not an undefined external, 40"
+            said = f"bad symbol number at word {at // 2}: {reloc:o} refers to {named}"
         yield file.relocation_at + at, said + owner_said(file, text, at // 2)
 
 

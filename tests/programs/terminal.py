@@ -186,6 +186,12 @@ class Terminal:
     def end_input(self):
         os.write(self.master, b"\4")
 
+    def give(self, script):
+        """Writes to the pipe of standard input, and closes it."""
+        with self.process.stdin as pipe:
+            pipe.write(script)
+        self.process.stdin = None
+
     def shown(self, ends=None):
         return read_to(self.master, ends)
 
@@ -215,8 +221,7 @@ def through_pipes(words, script=b""):
 def without_input(words):
     """Standard error is a terminal, and standard input is empty."""
     terminal = Terminal(words, (2,))
-    terminal.process.stdin.close()
-    terminal.process.stdin = None
+    terminal.give(b"")
     shown, output, _, status = terminal.ended()
     return shown, output, status
 
@@ -388,9 +393,7 @@ def check_mixed():
     answers += "bad command\n" * (len(HINTS) + 1)
     same("session: through pipes", through_pipes(["session"], script.encode("utf-8", "surrogateescape")), ("", answers, 1))
     terminal = Terminal(["session"], (1, 2))
-    terminal.process.stdin.write(script.encode("utf-8", "surrogateescape"))
-    terminal.process.stdin.close()
-    terminal.process.stdin = None
+    terminal.give(script.encode("utf-8", "surrogateescape"))
     shown, _, _, status = terminal.ended()
     same("session: a script to a terminal", (shown, status), (answers, 1))
     terminal = Terminal(["session"], (0, 1))

@@ -445,7 +445,7 @@ def note(passed):
     write(SEEN, "".join(f"{crate} {found[crate]}\n" for crate in with_edits() if crate in found))
 
 
-def try_edits(names, jobs, only=(), until=math.inf):
+def try_edits(names, jobs, only, until):
     """Tries the edits of crates, or only some, once the libraries below are proved; no copy begins after a time. The trials, and whether
     all edits are refused, by crate."""
     with tempfile.TemporaryDirectory(prefix="wrong-bodies-") as place:
@@ -460,7 +460,7 @@ def try_edits(names, jobs, only=(), until=math.inf):
         return trials, {name: it.result() for name, it in running.items()}
 
 
-def whole(names, jobs, only=(), most=math.inf):
+def whole(names, jobs, only, most):
     """Tries the edits of crates, or only some, for some minutes at most, and prints a summary. The digests of the crates whose edits are
     all refused, and whether none of those tried was not."""
     was = {name: digest(name) for name in names}
@@ -474,39 +474,14 @@ def whole(names, jobs, only=(), most=math.inf):
             said["FAILED"] = ["a library below it is not proved"]
         fault = "".join(f": {word}: {' '.join(those)}" for word, those in said.items() if those)
         print(f"{name}: {len(trial.results) - len(failed[name])} of {len(trial.edits)} refused, in {trial.copies} copies{fault}")
-    results = [not fault for trial in trials.values() for fault in trial.results.values()]
-    copies = sum(trial.copies for trial in trials.values())
-    print(f"{sum(results)} of {sum(len(it.edits) for it in trials.values())} wrong bodies refused, in {copies} copies of "
-          f"{len(names)} crates: {(time.monotonic() - begun) / 60:.0f} minutes")
+    refused = sum(len(trial.results) - len(failed[name]) for name, trial in trials.items())
+    edited, copies = (sum(counts) for counts in zip(*((len(trial.edits), trial.copies) for trial in trials.values())))
+    minutes = (time.monotonic() - begun) / 60
+    print(f"{refused} of {edited} wrong bodies refused, in {copies} copies of {len(names)} crates: {minutes:.0f} minutes")
     return {name: was[name] for name in names if passed[name]}, right
 
 
-def changed_alone(jobs, most):
-    """Tries the edits of the crates that have changed, for some minutes at most. The status to end with."""
-    names = have_changed()
-    print(f"changed since their wrong bodies were refused: {' '.join(names) or 'no crate'}", flush=True)
-    return 0 if not names or whole(names, jobs, most=most)[1] else 1
-
-
-def named(names, jobs):
-    """Tries the edits of crates, or those that are named CRATE/EDIT. The status to end with."""
-    known = {f"{crate}/{body.name}" for crate in with_edits() for body in edits.edits_of(crate)}
-    strange = set(names) - known - set(with_edits())
-    if strange:
-        print(f"no crate with edits, or no edit: {' '.join(sorted(strange))}", file=sys.stderr)
-        return 2
-    crates = sorted({name.split("/")[0] for name in names}) or with_edits()
-    only = set(names) if any("/" in name for name in names) else set()
-    passed, right = whole(crates, jobs, only)
-    if not only:
-        note(passed)
-    return 0 if right else 1
-
-
-def main(words):
-    if not shutil.which("rt"):
-        print("rt, the command of the Rattle kit, is not on the PATH", file=sys.stderr)
-        return 2
+def main():
     os.chdir(TOP)
     check_itself()
     parser = argparse.ArgumentParser(description=__doc__, formatter_class=argparse.RawDescriptionHelpFormatter)
@@ -514,9 +489,20 @@ def main(words):
     parser.add_argument("-m", type=int, default=math.inf, metavar="M")
     parser.add_argument("-c", action="store_true")
     parser.add_argument("names", nargs="*", metavar="CRATE[/EDIT]")
-    given = parser.parse_args(words)
-    return changed_alone(given.j, given.m) if given.c else named(given.names, given.j)
+    given = parser.parse_args()
+    known = {f"{crate}/{body.name}": crate for crate in with_edits() for body in edits.edits_of(crate)}
+    strange = {*given.names} - {*known, *known.values()}
+    if strange or not shutil.which("rt"):
+        parser.error(f"no crate with edits, or no edit: {' '.join(sorted(strange))}" if strange else "rt is not on the PATH")
+    crates = have_changed() if given.c else sorted({name.split("/")[0] for name in given.names}) or with_edits()
+    if given.c:
+        print(f"changed since their wrong bodies were refused: {' '.join(crates) or 'no crate'}", flush=True)
+    only = {*given.names} if any("/" in name for name in given.names) else set()
+    passed, right = whole(crates, given.j, only, given.m) if crates else ({}, True)
+    if not given.c and not only:
+        note(passed)
+    return 0 if right else 1
 
 
 if __name__ == "__main__":
-    sys.exit(main(sys.argv[1:]))
+    sys.exit(main())
