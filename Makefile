@@ -4,7 +4,7 @@
 #: make quick                 compiles them and libv7 without proof into build/quick, shows a session       kit, cc      3 minutes
 #: make lib wheel             proves and builds libv7, and makes its wheel of Python                       kit          20 minutes
 #: make dist                  makes the packages of a release in dist/                                     kit          25 minutes
-#: make page                  makes the page of the lesson, build/lesson.html; `lesson` prints its steps   kit          10 minutes
+#: make page                  makes the pages of the lesson, as build/lesson.html; `lesson` prints steps   kit          10 minutes
 #: make install               `make install-lib` and `make uninstall` too: what was built; `make clean` removes it
 #:
 #: make which CHANGED=PATH    which tests and crates a change concerns; or SINCE=COMMIT                    Python       seconds
@@ -21,7 +21,7 @@
 #: make help                  shows this. `python3 -m tests list` names each test of a tier, `python3 -m tests NAME` runs it
 PREFIX ?= /usr/local
 
-# the kits that the gate has passed with; any: another one too
+# the kits that the gate has passed with; `any` is for another one
 KITS ?= rattle-kit-13b rattle-kit-13f
 # what proves and compiles nothing
 LIGHT := check-text clean help uninstall which
@@ -83,7 +83,7 @@ $(PLACES:=/$(SOFILE)): %/$(SOFILE): %/libv7.a packaging/libv7.map
 	$(CC) $(CFLAGS) $(LDFLAGS) -shared -o $@ -Wl,-soname,$(SONAME) -Wl,--version-script=packaging/libv7.map -Wl,-z,defs \
 		-Wl,--whole-archive $< -Wl,--no-whole-archive
 
-# no symbolic links: the gate refuses those wherever they stand
+# no symbolic links, as the gate refuses them
 $(PLACES:=/libv7.so): %/libv7.so: %/$(SOFILE)
 	ln -f $< $(@D)/$(SONAME)
 	ln -f $< $@
@@ -131,20 +131,10 @@ demo: build/v7
 lesson: build/v7-lesson
 	build/v7-lesson $(or $(FILES),examples/k.o examples/l.o)
 
-# the same in every order as one page, which a browser shows from the disk, with the lessons of examples/lessons.txt; and a page of a
-# program in C, and one of pointers and bss, with those beside their objects. Of other FILES one page, with the lessons in the file
-# QUESTIONS, if it is given
-PAGE_FILES := $(foreach file,main.o twice.o k.o l.o double.o,examples/$(file))
-PROGRAM := examples/total
-PROGRAM_FILES := $(foreach file,total.o say.o console.o low.o limit.o,$(PROGRAM)/$(file))
-TABLES := examples/menu
-TABLES_FILES := $(foreach file,menu.o stop.o room.o more.o pair.o,$(TABLES)/$(file))
-LESSONS = $(if $(FILES),$(QUESTIONS),examples/lessons.txt)
+# the pages that a release has: lesson.html has every order of five objects, program.html a program in C, and tables.html pointers and
+# bss. v7-lesson(1) says how to make others
 page: build/v7-lesson
-	build/v7-lesson -p page $(addprefix -q ,$(LESSONS)) $(or $(FILES),$(PAGE_FILES)) >build/lesson.new || { rm build/lesson.new; exit 2; }
-	mv build/lesson.new build/lesson.html
-	$(if $(FILES),,build/v7-lesson -p page -q $(PROGRAM)/lessons.txt $(PROGRAM_FILES) >build/program.new && mv build/program.new build/program.html)
-	$(if $(FILES),,build/v7-lesson -p page -q $(TABLES)/lessons.txt $(TABLES_FILES) >build/tables.new && mv build/tables.new build/tables.html)
+	python3 packaging/installed.py pages build build
 
 help:
 	@sed -n 's/^#: \{0,1\}//p' Makefile
@@ -174,8 +164,8 @@ check:
 check-all:
 	@$(MAKE) check NAMES=all MORE="'python3 -m tests all' 'make planted'"
 
-# those of the crates that have changed since theirs were refused, as tests/wrong_bodies/wrong-bodies.seen tells, or all, or those of the
-# crates NAMES. After MINUTES those left are named, and not tried
+# those of the crates that have changed since theirs were refused, by tests/wrong_bodies/wrong-bodies.seen; or all, or those of the crates
+# NAMES. After MINUTES those left are named, and not tried
 check-wrong-bodies:
 	python3 -m tests.wrong_bodies.wrong_bodies $(or $(filter-out all,$(NAMES)),$(if $(NAMES),,-c $(if $(MINUTES),-m $(MINUTES))))
 

@@ -22,9 +22,9 @@ from typing import NamedTuple
 
 sys.path.insert(1, os.path.dirname(os.path.dirname(os.path.abspath(__file__))))
 from tests.lib.files import TOP, read, read_bytes, write  # noqa: E402
+from tests.lib.programs import PROGRAMS  # noqa: E402
 from tests.lib.rattle import below, crates_in  # noqa: E402
 import installed  # noqa: E402
-from installed import PROGRAMS  # noqa: E402
 
 KEPT = "build/proved"
 LIBDIR = "usr/lib/x86_64-linux-gnu"
@@ -62,13 +62,13 @@ class Release:
 
     def prove(self):
         """Proves what is not proved yet."""
-        for crate, out in (*((name, name) for name in PROGRAMS), ("v7_c", "libv7_c.a")):
+        for crate, out in (*((crate, crate) for crate in PROGRAMS.values()), ("v7_c", "libv7_c.a")):
             run(sys.executable, "-m", "tools.prove", crate, f"crates/{crate}/out/{out}")
 
     def crates(self):
         """The crates of the repository that the programs and libv7 are made of, and the kit's libraries that they use."""
         uses = crates_in(TOP)
-        ours = set().union(*(below(name, uses) for name in [*PROGRAMS, "v7_c"]))
+        ours = set().union(*(below(name, uses) for name in [*PROGRAMS.values(), "v7_c"]))
         kits = {"std", *(other for name in ours for other in uses[name])} - ours
         for name in [*kits]:
             form = read(f"{self.kit}/rlibs/{name}.rlib/format")
@@ -83,7 +83,7 @@ def link(release, place):
     archives = [f"{release.kit}/c/{name}_c.a" for name in ("libos", "liblibc")]
     os.makedirs(f"{place}/objects")
     os.makedirs(f"{place}/bin")
-    for crate, name in PROGRAMS.items():
+    for name, crate in PROGRAMS.items():
         whole, program = f"{place}/objects/{name}.o", f"{place}/bin/{name}"
         run("ld", "-r", "-o", whole, f"{KEPT}/{crate}.o", *archives)
         run("cc", "-static", "-Wl,--gc-sections", "-o", program, whole)
@@ -125,8 +125,7 @@ def major():
 
 def provenance(release, place):
     ours, kits = release.crates()
-    built = sorted(f"bin/{name}" for name in PROGRAMS.values())
-    sums = [f"{digest(f'{place}/{path}')}  {path}" for path in built]
+    sums = [f"{digest(f'{place}/bin/{name}')}  bin/{name}" for name in sorted(PROGRAMS)]
     sums += [f"{digest(f'{place}/library/usr/{path}')}  {path}" for path in ("include/v7.h", "lib/libv7.a")]
     sums.append(f"{digest(shared(place))}  lib/{os.path.basename(shared(place))}")
     verdicts = [f"    {name}: {read(f'{KEPT}/{name}.verdict').strip()}" for name in ours]
@@ -334,7 +333,7 @@ def add_notices(release, package, root, notice):
     # the owner has chosen neither a licence nor a notice
     passed = ["copyright-without-copyright-notice"]
     if package.name == "v7":
-        passed += [f"statically-linked-binary [usr/bin/{name}]" for name in sorted(PROGRAMS.values())]
+        passed += [f"statically-linked-binary [usr/bin/{name}]" for name in sorted(PROGRAMS)]
     write(f"{root}/usr/share/lintian/overrides/{package.name}", "".join(f"{package.name}: {tag}\n" for tag in passed))
 
 

@@ -3,6 +3,7 @@
 into its place. The packages of a release have the same, by packaging/dist.py.
 
 usage: packaging/installed.py put BUILD FOLDER          what the programs of the folder BUILD come with, below FOLDER
+       packaging/installed.py pages BUILD FOLDER        the pages of the lesson, in FOLDER
        packaging/installed.py library FOLDER            the documents of libv7, below FOLDER
        packaging/installed.py copy STAGE DEST PREFIX    copies what is below STAGE/PREFIX to DEST/PREFIX; without a DEST it notes that there
        packaging/installed.py remove PREFIX             takes away what was noted
@@ -20,11 +21,9 @@ import textwrap
 
 sys.path.insert(1, os.path.dirname(os.path.dirname(os.path.abspath(__file__))))
 from tests.lib.files import TOP, read, read_bytes, write  # noqa: E402
-from tests.lib.programs import asked  # noqa: E402
+from tests.lib.programs import PROGRAMS, asked  # noqa: E402
 import completion  # noqa: E402
 
-# the program of each crate
-PROGRAMS = {"v7": "v7", "v7_from_gnu": "v7-from-gnu", "v7_object": "v7-object", "v7_explain": "v7-explain", "v7_lesson": "v7-lesson"}
 # the pages, each with the folder of its objects and its objects
 PAGES = {"lesson.html": ("examples", ["main.o", "twice.o", "k.o", "l.o", "double.o"]),
          "program.html": ("examples/total", ["total.o", "say.o", "console.o", "low.o", "limit.o"]),
@@ -178,24 +177,25 @@ def documents(to, names, has_html, made=()):
 
 # --- all that comes with the programs
 
-def lesson(program, folder, files):
-    """The page of some objects in a folder, with its lessons."""
-    return asked(program, "-p", "page", "-q", f"{folder}/lessons.txt", *(f"{folder}/{name}" for name in files), cwd=TOP)
+def pages(build, to):
+    """Writes the pages of the lesson into a folder, each of the objects of a folder, with the lessons there."""
+    for name, (folder, files) in PAGES.items():
+        words = ["-p", "page", "-q", f"{folder}/lessons.txt", *(f"{folder}/{file}" for file in files)]
+        write(f"{to}/{name}", asked(os.path.abspath(f"{build}/v7-lesson"), *words, cwd=TOP))
 
 
 def put(build, to, has_html=None, made=()):
     """The programs of a folder, and what comes with them, below a folder. `made` are the files that are made besides."""
-    for name in PROGRAMS.values():
+    for name in PROGRAMS:
         write(f"{to}/bin/{name}", read_bytes(f"{build}/{name}"))
     shutil.copytree(f"{TOP}/page", f"{to}/share/v7/page")
     for path in files_in(["man"]):
         if not path.endswith(".3"):
             write(f"{to}/share/man/man{path[-1]}/{os.path.basename(path)}", read_bytes(f"{TOP}/{path}"))
     documents(f"{to}/share/doc/v7", DOCUMENTS, has_tools() if has_html is None else has_html, [*PAGES, *made])
-    for name, (folder, files) in PAGES.items():
-        write(f"{to}/share/doc/v7/{name}", lesson(os.path.abspath(f"{build}/v7-lesson"), folder, files))
+    pages(build, f"{to}/share/doc/v7")
     bash, zsh = completion.texts()
-    for name in PROGRAMS.values():
+    for name in PROGRAMS:
         write(f"{to}/share/bash-completion/completions/{name}", bash)
     write(f"{to}/share/zsh/site-functions/_v7", zsh)
 
@@ -248,7 +248,8 @@ def remove(prefix):
 
 
 def main(words):
-    kinds = {"put": put, "library": lambda to: documents(to, LIBRARY_DOCUMENTS, has_tools()), "copy": copy, "remove": remove}
+    library = lambda to: documents(to, LIBRARY_DOCUMENTS, has_tools())
+    kinds = {"put": put, "pages": pages, "library": library, "copy": copy, "remove": remove}
     if len(words) < 2 or words[0] not in kinds:
         sys.exit(__doc__)
     kinds[words[0]](*words[1:])

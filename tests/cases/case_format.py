@@ -2,9 +2,7 @@
 import re
 from dataclasses import dataclass, field
 
-from tests.lib.programs import FAULTS
-
-PROGRAMS = (b"v7", b"v7-explain", b"v7-from-gnu", b"v7-lesson", b"v7-object")
+from tests.lib.programs import FAULTS, PROGRAMS
 
 
 class Mistake(Exception):
@@ -264,7 +262,7 @@ class Reader:
 
     def take_command(self, line, text):
         words = words_of(line, text[2:])
-        if not words or words[0] not in PROGRAMS:
+        if not words or words[0].decode("latin-1") not in PROGRAMS:
             raise Mistake(line, f"not one of the programs: {text[2:]}")
         self.end_step()
         self.parts[-1].steps.append(Step(line, words))

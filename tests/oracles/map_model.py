@@ -153,8 +153,7 @@ class Names:
 
 
 def limits_of(files, arguments, merged, laid):
-    rows = [(segment, sum(file.size(segment) for file in files), model.SEGMENT_LIMIT) for segment in model.SEGMENTS]
-    rows = [(number, used, most) for number, (_, used, most) in enumerate(rows, 1)]
+    rows = [(number, sum(file.size(segment) for file in files), model.SEGMENT_LIMIT) for number, segment in enumerate(model.SEGMENTS, 1)]
     if laid:
         rows.append((4, laid.common_start + laid.bss, model.END_LIMIT))
         if laid.link:

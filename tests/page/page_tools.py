@@ -3,6 +3,7 @@ import os
 import random
 import re
 
+import installed
 from tests.lib.compare import Differs
 from tests.lib.files import TOP, read_bytes, write
 from tests.lib.objects import pack, unpack
@@ -15,16 +16,17 @@ SEGMENTS = ("a number", "text", "data", "bss")
 
 
 def paths(folder, names):
-    return [f"{TOP}/{folder}/{name}.o" for name in names.split()]
+    return [f"{TOP}/{folder}/{name}" for name in names]
 
 
-# the objects of the class example, of one with words that refer to each segment of their own, of a program in C with an object that has
-# a fault, and of the lessons about pointers, bss and the output of -r
-CLASS, FIVE = paths("examples", "main twice k l double"), paths("examples", "start print main twice count")
-IN_C, TABLES = paths("examples/total", "total say console low limit"), paths("examples/menu", "menu stop room more pair")
+# the objects of the pages of a release: the class example, a program in C with an object that has a fault, and the lessons about pointers,
+# bss and the output of -r. And those of a program with words that refer to each segment of their own
+CLASS, IN_C, TABLES = (paths(*page) for page in installed.PAGES.values())
+FIVE = paths("examples", ["start.o", "print.o", "main.o", "twice.o", "count.o"])
 # a program in C of sixteen files: a calculator without any library, as Debian's Portable C Compiler (the source package pcc,
 # 1.2.0~DEVEL+20220331, configured with --target=pdp11-unknown-bsd) and examples/asm.py made it. A file comes before those that it calls
-SIXTEEN = paths("tests/page/data", "main command line token number parse apply stack name mem list sort error text print start")
+NAMES = "main command line token number parse apply stack name mem list sort error text print start".split()
+SIXTEEN = paths("tests/page/data", [f"{name}.o" for name in NAMES])
 
 faults = []
 compared = 0
@@ -76,7 +78,9 @@ def addend_said(meant, minus="-"):
 
 
 def known_as(kind, number):
-    return kind if kind == "undefined" else f"a common of {size_said(number)}" if kind == "common" else f"{'the number' if kind == 'number' else kind} {number:06o}"
+    if kind in ("undefined", "common"):
+        return f"a common of {size_said(number)}" if kind == "common" else kind
+    return f"{'the number' if kind == 'number' else kind} {number:06o}"
 
 
 class Tools:
@@ -87,7 +91,7 @@ class Tools:
         self.page, self.room = f"{TOP}/page", room
 
     def page_of(self, files, name="lesson.html", questions=""):
-        return write(f"{self.room}/{name}", asked(self.lesson, "-p", self.page, *(["-q", questions] if questions else []), *files))
+        return write(f"{self.room}/{name}", asked(self.lesson, "-p", self.page, *["-q", questions] * bool(questions), *files))
 
     def asked_of(self, questions, *files):
         """The status and both outputs for a page with a file of questions."""
@@ -147,4 +151,5 @@ class Tools:
             return {"refused": error.strip().split(": ", 1)[1]}
         made = unpack(read_bytes(out))
         base = {0o407: made.header[1], 0o410: (made.header[1] + 8191) // 8192 * 8192, 0o411: 0}[made.header[0]]
-        return {"header": made.header, "base": base, "segments": {"text": made.text, "data": made.data}, "table": self.nm(out), "report": report or "nothing to report\n"}
+        return {"header": made.header, "base": base, "segments": {"text": made.text, "data": made.data}, "table": self.nm(out),
+                "report": report or "nothing to report\n"}

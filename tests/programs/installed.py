@@ -101,7 +101,7 @@ def make():
         os.remove(f"{root}/planted.md")
         closed = [path for path in glob.glob(f"{root}/**", recursive=True) if not os.stat(path).st_mode & 0o004]
         faults += [f"others cannot read {path}" for path in closed]
-        for program in installed.PROGRAMS.values():
+        for program in installed.PROGRAMS:
             how = {"user": NOBODY, "group": NOBODY, "extra_groups": []} if os.getuid() == 0 else {}
             said = ran(f"{root}/bin/{program}", "--version", **how).said()
             wanted = "v7: usage\n" if program == "v7" else f"{program} {installed.version()}\n"
