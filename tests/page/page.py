@@ -1,12 +1,14 @@
-"""Opens the page of the lesson in Chromium, from the disk, and compares what it shows with what `v7-lesson`, `v7 ld` and `v7 nm` say of the same
-objects (tests/page/page_states.py), and what it says with a model (page_model.py). Then it looks at the layout in many sizes
+"""Opens the page of the lesson in Chromium, from the disk, and compares what it shows with what `v7-lesson`, `v7 ld` and `v7 nm` say of
+the same objects (tests/page/page_states.py), and what it says with a model (page_model.py). Then it looks at the layout in many sizes
 (page_layout.py), takes the tour and the lessons by keys alone (page_use.py), and measures the stage (page_stage.py) with the sixteen
-compiled objects of tests/page/data and with the examples: model, layout and stage in Firefox too, if it is installed. The
-pictures of docs/pictures are compared with the page. No other script starts a browser.
+compiled objects of tests/page/data and with the examples: model, layout and stage in Firefox too, if it is installed. The pictures of
+docs/pictures are compared with the page. No other script starts a browser.
 
-usage: python3 -m tests.page.page [-j JOBS] [-s SEED] [PART..]     all parts or these, so many side by side; the seed puts the sixteen objects into an order
+usage: python3 -m tests.page.page [-j JOBS] [-s SEED] [PART ..]     all parts or these, so many side by side; the seed puts the sixteen
+                                                                    objects into an order
        the parts: firefox, layout, stage, states, model, use; and pictures, which writes docs/pictures anew
-tier: all, 1500 seconds; words: -j 4; programs: v7 v7-lesson v7-explain; for: crates/v7_lesson page examples/lessons.txt docs/pictures; needs: chromium chromedriver selenium firefox-esr
+tier: all, 1500 seconds; words: -j 4; programs: v7 v7-lesson v7-explain;
+ for: crates/v7_lesson page examples/lessons.txt docs/pictures; needs: chromium chromedriver selenium firefox-esr
 """
 import argparse
 import random
@@ -19,9 +21,9 @@ from functools import cached_property
 
 from tests.lib.compare import notices
 from tests.lib.programs import ran
-from tests.page import page_model, page_use
+from tests.page import page_layout, page_model, page_use
 from tests.page.page_browser import Chromium, Firefox, firefox
-from tests.page.page_layout import FIREFOX_SIZES, PICTURES, SIZES as LAYOUT_SIZES, compare_pictures, look_at_states, look_everywhere, look_on_paper, look_with_instructions, make_pictures
+from tests.page.page_layout import PICTURES, compare_pictures, look_at_states, look_everywhere, look_on_paper, make_pictures
 from tests.page.page_stage import SIZES, response, stage, steps
 from tests.page.page_states import compare_states
 from tests.page.page_tools import CLASS, FIVE, IN_C, SIXTEEN, TABLES, Tools, faults, lessons_of, planted, report, same
@@ -49,8 +51,9 @@ class Given:
     def staged(self):
         """The pages whose stage is measured, with their objects, and what each is."""
         joined = self.tools.joined(8, self.seed)
-        names = ("the default page", "a program in C", "pointers and bss", "sixteen objects")
-        return (*((*page, name) for page, name in zip(self.pages, names) if name != names[2]), (self.tools.page_of(joined, "joined.html"), joined, f"eight objects of seed {self.seed}"))
+        default, in_c, _, sixteen = self.pages
+        return ((*default, "the default page"), (*in_c, "a program in C"), (*sixteen, "sixteen objects"),
+                (self.tools.page_of(joined, "joined.html"), joined, f"eight objects of seed {self.seed}"))
 
     @cached_property
     def large(self):
@@ -82,7 +85,8 @@ def stages(tools, page, given, sizes=SIZES):
     for path, files, what in given.staged:
         whole, large = stage(tools, page, path, files, what, sizes)
         if (1366, 768, 1) in sizes:
-            same(f"steps whole in view, {what}", 10 * whole >= 9 * (2 * len(files) - large) if "seed" in what else whole == 2 * len(files), True)
+            is_right = 10 * whole >= 9 * (2 * len(files) - large) if "seed" in what else whole == 2 * len(files)
+            same(f"steps whole in view, {what}", is_right, True)
     if (1366, 768, 1) in sizes:
         page.load(given.pages[2][0])
         same("steps whole in view, pointers and bss", steps(page, 5, [(1366, 768, 1)], "pointers and bss")[1], 10)
@@ -97,7 +101,7 @@ def in_firefox(tools, given):
         print("not measured in Firefox, as it is not installed: Debian's package is firefox-esr")
         return
     counts = {}
-    for zoom, sizes, layouts in ((1, SIZES[:-1], FIREFOX_SIZES), (2, SIZES[-1:], [(640, 800, 1)])):
+    for zoom, sizes, layouts in ((1, SIZES[:-1], page_layout.FIREFOX_SIZES), (2, SIZES[-1:], [(640, 800, 1)])):
         with Firefox(zoom=zoom) as page:
             if zoom == 1:
                 checked(tools, page, given.pages, (*page_model.CHECKS, (page_use.reasons, (0, 1, 2))), most=40)
@@ -114,8 +118,8 @@ def say_counts(name, counts):
 def layouts(_, page, given):
     """The layout of four pages in all sizes, with the longest instructions, on paper, and with large text, in Chromium."""
     counts = {}
-    look_with_instructions(page, given.pages[0][0], counts)
-    look_everywhere(page, given.looked_at, LAYOUT_SIZES, "in Chromium", counts)
+    page_layout.look_with_instructions(page, given.pages[0][0], counts)
+    look_everywhere(page, given.looked_at, page_layout.SIZES, "in Chromium", counts)
     look_on_paper(page, given.looked_at, counts)
     with Page(text=32) as large:
         for name, path in given.looked_at.items():
@@ -140,7 +144,8 @@ def pictures(_, page, given):
 # the parts, the longest first; all but the first are in Chromium
 PARTS = {
     "firefox": in_firefox, "layout": layouts, "stage": stages, "states": states,
-    "model": lambda tools, page, given: checked(tools, page, given.pages, page_model.CHECKS), "use": lambda tools, page, given: checked(tools, page, given.pages, page_use.CHECKS)}
+    "model": lambda tools, page, given: checked(tools, page, given.pages, page_model.CHECKS),
+    "use": lambda tools, page, given: checked(tools, page, given.pages, page_use.CHECKS)}
 
 
 def run_part(name, seed):

@@ -2,7 +2,6 @@
 `v7-lesson` prints them, and its links, as `v7 ld` writes and `v7 nm` prints them. Then come the places that words mean, what it has of
 each object, and the answers of its lessons. Wrong files of questions have to be refused.
 
-usage: python3 -m tests.page.page_data 
 tier: check, 60 seconds; programs: v7 v7-lesson v7-explain; for: crates/v7_lesson page examples/lessons.txt tests/page
 """
 import os
@@ -18,8 +17,8 @@ from tests.lib.files import TOP, read, read_bytes, write
 from tests.lib.objects import unpack
 from tests.lib.programs import FAULTS, ran
 from tests.page.page_lessons import bad_questions, lesson_answers, questions_of_all_kinds, remarks, states_in
-from tests.page.page_tools import (CLASS, FIVE, IN_C, LAYOUTS, PARTS, SEGMENTS, SIXTEEN, TABLES, WORD, Tools, addend_said, known_as, lessons_of, object_of, planted, report,
-                                   same, size_said, words_of)
+from tests.page.page_tools import (CLASS, FIVE, IN_C, LAYOUTS, PARTS, SEGMENTS, SIXTEEN, TABLES, WORD, Tools, addend_said, known_as,
+                                   lessons_of, object_of, planted, report, same, size_said, words_of)
 
 
 # ---- what a page holds
@@ -56,8 +55,9 @@ class State:
                     if index in references:
                         group, meant = references[index]
                         more, moved, referent, *sums = self.groups_now[group_start + group]
-                        word = {**word, "value": (value + more) % WORD, "meant": (meant + moved) % WORD, "referent": referent, "pc": one["groups"][group][1] % 2 == 1,
-                                "sums": [about_link(sums, 2, layout) for layout in range(4)], "places": self.places_now[reference_start + place]}
+                        word.update(value=(value + more) % WORD, meant=(meant + moved) % WORD, referent=referent,
+                                    pc=one["groups"][group][1] % 2 == 1, sums=[about_link(sums, 2, layout) for layout in range(4)],
+                                    places=self.places_now[reference_start + place])
                         place += 1
                     found[part, front[which] + 2 * index] = word
             group_start += len(one["groups"])
@@ -78,10 +78,12 @@ class State:
         return lines or ["nothing"]
 
     def line(self, part, offset, word):
-        referent = word["referent"]
-        said = f"waits for {referent}{addend_said(word['meant'])}" if isinstance(referent, str) else SEGMENTS[referent] + self.place_text(referent, word["meant"], word["pc"])
+        referent, meant, pc = word["referent"], word["meant"], word["pc"]
+        waits = isinstance(referent, str)
+        said = f"waits for {referent}{addend_said(meant)}" if waits else SEGMENTS[referent] + self.place_text(referent, meant, pc)
+        line = words_of(f"{part} {offset:06o} {word['value']:06o} {'pc' if pc else ''} {said}")
         instruction = self.instruction(word["object"], word["index"], offset) if part == "text" else None
-        return words_of(f"{part} {offset:06o} {word['value']:06o} {'pc' if word['pc'] else ''} {said}") + (f" / {instruction}" if instruction else "")
+        return f"{line} / {instruction}" if instruction else line
 
     def instruction(self, number, index, offset):
         """An instruction of an object; a branch has its place in the image, and that in the object."""
@@ -181,7 +183,9 @@ def compare_link(state, layout, name, linked, what):
         if "places" not in word:
             continue
         referent, pc = word["referent"], word["pc"]
-        own = {"T": "text", "D": "data", "B": "bss"}.get(letters.get(referent)) if isinstance(referent, str) else SEGMENTS[referent] if referent else "" if pc else None
+        own = SEGMENTS[referent] if referent in (1, 2, 3) else "" if pc else None
+        if isinstance(referent, str):
+            own = {"T": "text", "D": "data", "B": "bss"}.get(letters.get(referent))
         meant = (final + offset + (base if part == "data" else 0) + 2) % WORD if pc else final
         wanted = ("nowhere", 0) if own is None else place_in_link(linked, own, meant)
         same(f"{what}: {part} {offset:o} means", place_said(word["places"], layout), wanted)
@@ -245,7 +249,8 @@ def compare_objects(tools, files, data):
             shown = {index: one["groups"][group][1] for index, group, _ in one[f"{part}References"]}
             same(f"{path}: relocation words of {part}", shown, {index: reloc for index, reloc in enumerate(relocs) if reloc & 0o17})
             references = shown.keys() if part == "text" else ()
-        same(f"{path}: branches", {int(index): target for index, target in one["branches"].items()}, branches_in(file, one["instructions"], references))
+        branches = {int(index): target for index, target in one["branches"].items()}
+        same(f"{path}: branches", branches, branches_in(file, one["instructions"], references))
 
 
 def branch_of(word, address):
@@ -269,8 +274,8 @@ def refusals(tools, files):
     cut = write(f"{tools.room}/cut.o", read_bytes(files[0])[:-5])
     for path, text in ((cut, "truncated"), (os.path.join(tools.room, "nothing.o"), FAULTS["open"]), (tools.lesson, "bad magic number")):
         same(f"{path}", ran(tools.lesson, "-p", tools.page, files[0], path).texts("utf-8"), (2, "", f"v7-lesson: {path}: {text}\n"))
-    for words in ([], ["-p"], ["-p", tools.page], ["-p", tools.page, "-q", files[0]], ["-n", files[0]], ["-n", "0", files[0]], ["-n", "3", files[0]],
-                  ["-x", files[0]]):
+    for words in ([], ["-p"], ["-p", tools.page], ["-p", tools.page, "-q", files[0]], ["-n", files[0]], ["-n", "0", files[0]],
+                  ["-n", "3", files[0]], ["-x", files[0]]):
         status, out, error = ran(tools.lesson, *words).texts("utf-8")
         same(f"v7-lesson {words}", (status, out, error.splitlines()[-1][:11]), (2, "", "v7-lesson: "))
 
@@ -279,10 +284,10 @@ def largest_page(tools, files):
     """A page of at most 5,000,000 bytes is written, and one of some bytes more is not: the text of a lesson fills both."""
     path = os.path.join(tools.room, "long.txt")
     room = 5_000_000 - os.path.getsize(tools.page_of(files[:1], "short.html", write(path, "lesson One\nsay x\n")))
-    for more, status in ((1, 0), (2, 2)):
+    for more, wanted in ((1, (0, 5_000_000, "")), (2, (2, 0, "v7-lesson: the page would have more than 5000000 bytes\n"))):
         write(path, "lesson One\nsay " + "x" * (room + more) + "\n")
-        done, out, error = tools.asked_of(path, files[0])
-        same(f"a page of {4_999_999 + more} bytes", (done, len(out.encode()), error), (status, 0 if status else 5_000_000, "v7-lesson: the page would have more than 5000000 bytes\n" if status else ""))
+        status, out, error = tools.asked_of(path, files[0])
+        same(f"a page of {4_999_999 + more} bytes", (status, len(out.encode()), error), wanted)
 
 
 def full(tools, files):
@@ -326,7 +331,8 @@ def scripts(folder):
             starts = [i for i, line in enumerate(lines) if re.match(r"function |const \w+ = \(.*=> \{$", line)]
             long = [lines[start] for start in starts if lines[start:].index("}" if lines[start].startswith("function") else "};") >= 39]
             same(f"long functions of {name}", (long, len(starts) > 0), ([], True))
-    same("names that are declared twice", (sorted({name for name in declared if declared.count(name) > 1}), len(declared) > 200), ([], True))
+    same("names that are declared twice", sorted({name for name in declared if declared.count(name) > 1}), [])
+    same("names that are declared", len(declared) > 200, True)
     same("lines of scripts", (total < 2361, total > 0), (True, True))
 
 
@@ -341,10 +347,11 @@ def same_objects(folder):
 
 def long_names(tools):
     """The assembler of the examples refuses two names that are equal in eight bytes."""
-    for names, wanted in ((("_longname1", "_longname2"), (1, "names.s:3:1: _longname2 and _longname1 are equal in eight bytes\n")), (("_long1", "_long2"), (0, ""))):
-        write(f"{tools.room}/names.s", f"\t.globl {names[0]}\n{names[0]}: rts pc\n{names[1]}: rts pc\n")
-        status, _, error = ran(sys.executable, f"{TOP}/examples/asm.py", "names.s", cwd=tools.room).texts("utf-8")
-        same(f"asm.py with {names}", (status, error), wanted)
+    equal = "names.s:3:1: _longname2 and _longname1 are equal in eight bytes\n"
+    for one, other, wanted in (("_longname1", "_longname2", (1, "", equal)), ("_long1", "_long2", (0, "", ""))):
+        write(f"{tools.room}/names.s", f"\t.globl {one}\n{one}: rts pc\n{other}: rts pc\n")
+        came = ran(sys.executable, f"{TOP}/examples/asm.py", "names.s", cwd=tools.room).texts("utf-8")
+        same(f"asm.py with {one} and {other}", came, wanted)
 
 
 def check_data(tools):
@@ -356,8 +363,8 @@ def check_data(tools):
     for files in (IN_C, TABLES):
         same_objects(os.path.dirname(files[0]))
     same("pair.o is the output of ld -r", read_bytes(TABLES[4]), tools.bytes_of_link(["-r"], TABLES[:2]))
-    for what, files, lessons, answers in (("the class example", CLASS, 10, 12), ("a program in C", IN_C, 2, 5), ("tables and bss", TABLES, 3, 10), ("a program", FIVE, 0, 0),
-                                          ("sixteen objects", SIXTEEN, 0, 0)):
+    for what, files, lessons, answers in (("the class example", CLASS, 10, 12), ("a program in C", IN_C, 2, 5),
+                                          ("tables and bss", TABLES, 3, 10), ("a program", FIVE, 0, 0), ("sixteen objects", SIXTEEN, 0, 0)):
         path = tools.page_of(files, "data.html", lessons_of(files) if lessons else "")
         data, size = states_in(path)
         compare_objects(tools, files, data)

@@ -101,8 +101,9 @@ NUMBERS = [0o177774, 4, 0, 0o12, 0o20000, 0o177770, 6, 2, 0o12, 0o17774]
 def questions_of_all_kinds(tools, files):
     """A withdrawn object can come again, a lesson begins with no object, and a text is data, whatever it has."""
     data, _ = states_in(tools.page_of(files, "accepted.html", write(f"{tools.room}/accepted.txt", ACCEPTED)))
-    same("a text that could end the script", [line[1] for line in data["lessons"] if "script" in str(line)], ["</script><b>", "<!-- </script> -->"])
-    same("relocation words and sizes in texts", [part for line in data["lessons"] for part in line if str(part)[0] == "0" and isinstance(part, str)], ["051", "0", "012 (10.)", "02 (2.)"])
+    texts = [part for line in data["lessons"] for part in line if isinstance(part, str)]
+    same("a text that could end the script", [text for text in texts if "script" in text], ["</script><b>", "<!-- </script> -->"])
+    same("relocation words and sizes in texts", [text for text in texts if text.startswith("0")], ["051", "0", "012 (10.)", "02 (2.)"])
     same("the numbers of texts", [part for line in data["lessons"] if line[0] == "say" for part in line if isinstance(part, int)], NUMBERS)
 
 
@@ -126,7 +127,8 @@ def lesson_answers(tools, path, files, lessons=10, answers=12):
         elif word in ("add", "withdraw", "link", "image"):
             marks, after = changed_by(states, here, word, rest) if word in ("add", "withdraw") else ([], here)
             if asked:
-                same(f"the answer to {asked}, {word}", answer_said(tools, asked, [files[number] for number in after], word, rest, marks), asked)
+                said = answer_said(tools, asked, [files[number] for number in after], word, rest, marks)
+                same(f"the answer to {asked}, {word}", said, asked)
                 compared_here += 1
             here, asked = after, None
     same("lessons", (sum(line[0] == "lesson" for line in data["lessons"]), compared_here >= answers), (lessons, True))
