@@ -9,7 +9,7 @@ taken by a sequence of numbers that is the same each time. With -i each object h
 import glob
 
 from tests.costs.counting import counted, ended, is_installed, milliseconds
-from tests.lib.files import room, write
+from tests.lib.files import new_folder, write
 from tests.lib.objects import pack
 from tests.lib.programs import program
 
@@ -77,7 +77,7 @@ def main():
     v7 = program("v7")
     if not is_installed():
         return
-    with room():
+    with new_folder():
         print(f"a link of {OBJECTS} objects with {2 * WORDS} bytes of text and {OBJECTS * NAMES} names:")
         print(f"plain: {measure(v7, [], False)}")
         print(f"with -i, and {2 * WORDS} bytes of data more: {measure(v7, ['-i'], True)}")

@@ -10,7 +10,7 @@ import re
 import sys
 
 from tests.costs.counting import valgrind
-from tests.lib.files import room, write
+from tests.lib.files import new_folder, write
 from tests.lib.objects import pack
 from tests.lib.programs import program
 
@@ -52,7 +52,7 @@ def main():
         if found != expected if exact else found > expected:
             faults.append(what)
 
-    with room():
+    with new_folder():
         requested = {}
         for words, names in ((0, 0), (1000, 0), (3000, 0), (0, FEW), (0, MANY)):
             path = f"{words}-{names}.o"

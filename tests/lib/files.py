@@ -27,8 +27,8 @@ def write(path, data):
 
 
 @contextlib.contextmanager
-def room(copied=""):
-    """A new folder, in which the script works, and which is gone at the end; or in it a copy of this folder of the repository."""
+def new_folder(copied=""):
+    """A new folder, in which the script works, and which is gone at the end; or a copy of this folder of the repository in it."""
     before = os.getcwd()
     with tempfile.TemporaryDirectory() as folder:
         if copied:

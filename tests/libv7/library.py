@@ -11,7 +11,7 @@ import typing
 import unittest
 
 import v7
-from tests.lib.files import TOP, read, read_bytes, room, write
+from tests.lib.files import TOP, new_folder, read, read_bytes, write
 from tests.lib.objects import gnu_named, gnu_object, symbol
 from tests.lib.programs import program, ran
 
@@ -255,7 +255,7 @@ class Module(unittest.TestCase):
 
     def test_programs(self):
         """Listings, conversions and remarks are those of the programs."""
-        with room():
+        with new_folder():
             for path in sorted(glob.glob(f"{TOP}/examples/*.o")):
                 data = read_bytes(path)
                 said = ran(program("v7-explain"), path).texts()[1]

@@ -17,11 +17,11 @@ build=$(realpath "${V7_BUILD:-build}")
 V7_BUILD=$build
 export V7_BUILD
 : "${CC:=cc}" "${CXX:=c++}"
-room=$(mktemp -d)
-trap 'rm -rf "$room"' EXIT
-to=$room/installed
+work=$(mktemp -d)
+trap 'rm -rf "$work"' EXIT
+to=$work/installed
 make -s install-lib FROM="$(realpath --relative-to=. "$build")" PREFIX="$to" LIBDIR="$to/lib" INCLUDEDIR="$to/include" DESTDIR= || exit 1
-cd "$room"
+cd "$work"
 cp "$top"/examples/*.o .
 $build/v7 ld -s -o bad.o main.o >/dev/null
 failed=0
@@ -36,18 +36,18 @@ has() {
 }
 
 if has pkg-config; then
-    PKG_CONFIG_PATH=$room/installed/lib/pkgconfig
+    PKG_CONFIG_PATH=$work/installed/lib/pkgconfig
     export PKG_CONFIG_PATH
     compiles=$(pkg-config --cflags v7)
     links=$(pkg-config --libs v7)
     version=$(pkg-config --modversion v7)
 else
-    compiles=-I$room/installed/include
-    links="-L$room/installed/lib -lv7"
+    compiles=-I$work/installed/include
+    links="-L$work/installed/lib -lv7"
     version=$(sed -n 's/^Version: //p' installed/lib/pkgconfig/v7.pc)
 fi
-archive=$room/installed/lib/libv7.a
-library=$room/installed/lib/libv7.so.0
+archive=$work/installed/lib/libv7.a
+library=$work/installed/lib/libv7.so.0
 
 # the names that a library shows, and those that the header declares
 sed -n 's/^[a-z0-9]*_t \(v7_[a-z_]*\)(.*/\1/p' installed/include/v7.h | sort >declared
@@ -158,7 +158,7 @@ toy ./toy
 checks C "a session" ./ran_by_c
 compile by_shared "$top/examples/c/link.c" $links
 compile ran_by_shared "$top/examples/c/session.c" $links
-LD_LIBRARY_PATH=$room/installed/lib${LD_LIBRARY_PATH:+:$LD_LIBRARY_PATH}
+LD_LIBRARY_PATH=$work/installed/lib${LD_LIBRARY_PATH:+:$LD_LIBRARY_PATH}
 export LD_LIBRARY_PATH
 links "C with libv7.so" ./by_shared
 checks "C with libv7.so" "a session" ./ran_by_shared
@@ -221,7 +221,7 @@ kill $relinker
 echo "Python: a notebook, and a folder relinked"
 checks Python "each fault" python3 -m tests.libv7.library
 if has mypy; then
-    export MYPYPATH="$top/packaging/python" MYPY_CACHE_DIR="$room/mypy"
+    export MYPYPATH="$top/packaging/python" MYPY_CACHE_DIR="$work/mypy"
     mypy --strict "$top/packaging/python/v7.py" || fail "Python: mypy does not take the type hints"
     mypy "$top"/examples/python/*.py || fail "Python: mypy does not take the examples"
     ! mypy "$top/tests/libv7/wrong_types.py" >wrong.txt &&
@@ -231,7 +231,7 @@ fi
 unset LIBV7
 # the wheel, in an environment that has nothing else
 if python3 -m venv fresh 2>/dev/null; then
-    (cd "$top" && python3 packaging/python/backend.py "$room" "$build/libv7.so.0" >/dev/null) || fail "Python: no wheel is made"
+    (cd "$top" && python3 packaging/python/backend.py "$work" "$build/libv7.so.0" >/dev/null) || fail "Python: no wheel is made"
     mkdir wheel
     cp "$top"/examples/python/*.py wheel
     python3 -m tests.libv7.wheel v7-*.whl || fail "Python: the wheel is not as an index wants it"
@@ -249,7 +249,7 @@ fi
 if has cargo; then
     cp -r "$top/packaging/rust" crates
     grep -q "^v7-sys = .*version = \"=$version\"" crates/Cargo.toml || fail "the crate v7 wants another v7-sys"
-    LIBV7_DIR=$room/installed/lib cargo build -q --offline --release --examples --manifest-path crates/Cargo.toml || exit 1
+    LIBV7_DIR=$work/installed/lib cargo build -q --offline --release --examples --manifest-path crates/Cargo.toml || exit 1
     links "Rust by the crate v7" crates/target/release/examples/link
     toy crates/target/release/examples/toy
 fi

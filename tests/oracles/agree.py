@@ -28,7 +28,7 @@ from dataclasses import dataclass
 from unittest import mock
 
 from tests.lib.compare import Differs, notices, same
-from tests.lib.files import TOP, read_bytes, room, write
+from tests.lib.files import TOP, new_folder, read_bytes, write
 from tests.lib.objects import pack
 from tests.lib.programs import FAULTS, program, ran
 from tests.lib.programs import v7 as library
@@ -426,13 +426,13 @@ def compare(case, top):
 
 def planted():
     """The model writes what v7 does not write."""
-    with room() as folder, mock.patch.object(model, 'run', lambda words, script: (2, b'planted', b'v7: usage\n')):
+    with new_folder() as folder, mock.patch.object(model, 'run', lambda words, script: (2, b'planted', b'v7: usage\n')):
         compare(Case({}, [([], b'')]), folder)
 
 
 def work(job):
     """The texts of a case, or what differs."""
-    with room() as folder:
+    with new_folder() as folder:
         try:
             return job, compare(case_of(*job), folder), None
         except Differs as difference:

@@ -46,20 +46,20 @@ MISTAKES = [
 
 
 def main():
-    with tempfile.TemporaryDirectory() as room:
+    with tempfile.TemporaryDirectory() as folder:
         for name in GNU + BY_HAND:
-            stored = os.path.join(EXAMPLES if name in BY_HAND else room, f"{name}.o")
+            stored = os.path.join(EXAMPLES if name in BY_HAND else folder, f"{name}.o")
             if name in GNU:
                 ran(program("v7-from-gnu"), os.path.join(EXAMPLES, f"{name}.gnu"), stored)
             made = asm.assembled(read(os.path.join(EXAMPLES, f"{name}.s")))
             same(f"{name}.s", made, read_bytes(stored))
             notices(same, f"{name}.s", made, read_bytes(stored)[:-1])
         for listing in glob.glob(f"{EXAMPLES}/*.lst") + glob.glob(f"{EXAMPLES}/total/*.lst"):
-            same(listing, ran(program("v7-object"), listing, f"{room}/listed").texts(), (0, "", ""))
+            same(listing, ran(program("v7-object"), listing, f"{folder}/listed").texts(), (0, "", ""))
             if os.path.exists(listing[:-3] + "o"):
-                same(listing, read_bytes(f"{room}/listed"), read_bytes(listing[:-3] + "o"))
+                same(listing, read_bytes(f"{folder}/listed"), read_bytes(listing[:-3] + "o"))
         for source, wanted in MISTAKES:
-            path = os.path.join(room, "mistake.s")
+            path = os.path.join(folder, "mistake.s")
             write(path, source)
             came = ran(sys.executable, os.path.join(EXAMPLES, "asm.py"), path).texts("utf-8")
             same(repr(source), (*came, os.path.exists(path[:-2] + ".o")), (1, "", f"{path}:{wanted}\n", False))

@@ -9,7 +9,7 @@ import os
 
 import asm
 from tests.lib.compare import notices, same
-from tests.lib.files import TOP, read, room, write
+from tests.lib.files import TOP, new_folder, read, write
 from tests.lib.programs import program, ran
 from tests.oracles.notes import DOUBT, checked
 
@@ -43,5 +43,5 @@ def main():
 
 
 if __name__ == "__main__":
-    with room():
+    with new_folder():
         main()

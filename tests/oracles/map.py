@@ -11,7 +11,7 @@ import random
 import sys
 
 from tests.lib.compare import notices, same
-from tests.lib.files import room, write
+from tests.lib.files import new_folder, write
 from tests.lib.objects import pack
 from tests.lib.programs import program, ran, v7
 from tests.oracles import agree, map_model, model
@@ -122,5 +122,5 @@ def main(links=None):
 
 if __name__ == "__main__":
     EXPLAIN = program("v7-explain")
-    with room():
+    with new_folder():
         main(*sys.argv[1:])

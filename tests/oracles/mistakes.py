@@ -20,7 +20,7 @@ import re
 import struct
 
 from tests.lib.compare import notices
-from tests.lib.files import TOP, read_bytes, room, write
+from tests.lib.files import TOP, new_folder, read_bytes, write
 from tests.oracles.disassembly import File, decoded
 from tests.oracles.notes import DOUBT, checked, explained
 from tests.oracles.planting import MISTAKES, dice
@@ -211,5 +211,5 @@ def main():
         print("%7d | %5d %5d %3d | %5d %5d %3d | %6d  %s" % (*check_mistake(name, plant, files, before), name))
 
 
-with room():
+with new_folder():
     main()

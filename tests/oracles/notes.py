@@ -18,7 +18,7 @@ import re
 import struct
 
 from tests.lib.compare import notices, same
-from tests.lib.files import TOP, read_bytes, room, write
+from tests.lib.files import TOP, new_folder, read_bytes, write
 from tests.lib.objects import pack
 from tests.lib.programs import program, ran
 from tests.oracles import agree
@@ -625,5 +625,5 @@ def main():
 
 if __name__ == "__main__":
     EXPLAIN, V7, OBJECT = program("v7-explain"), program("v7"), program("v7-object")
-    with room():
+    with new_folder():
         main()

@@ -151,9 +151,9 @@ PARTS = {
 def run_part(name, seed):
     """A part in this process: whether it has found faults."""
     notices(planted)
-    with tempfile.TemporaryDirectory() as room:
+    with tempfile.TemporaryDirectory() as folder:
         try:
-            tools = Tools(room)
+            tools = Tools(folder)
             given, part = Given(tools, seed), {**PARTS, "pictures": pictures}[name]
             if part is in_firefox:
                 in_firefox(tools, given)

@@ -20,8 +20,9 @@ try:
     from selenium.webdriver.common.keys import Keys
     from selenium.webdriver.support.ui import Select
 except ImportError:
+    # the system's Python has the package, if another one comes first
     if os.path.exists(SYSTEM) and os.path.realpath(sys.executable) != os.path.realpath(SYSTEM):
-        os.execv(SYSTEM, [SYSTEM, "-m", sys.modules["__main__"].__spec__.name, *sys.argv[1:]])  # the system's Python has the package, if another one comes first
+        os.execv(SYSTEM, [SYSTEM, "-m", sys.modules["__main__"].__spec__.name, *sys.argv[1:]])
     sys.exit(f"not run, as python3-selenium is missing; {PACKAGES}")
 
 if not all(os.path.exists(path) for path in ("/usr/bin/chromium", "/usr/bin/chromedriver")):

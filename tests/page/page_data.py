@@ -271,8 +271,8 @@ def branches_in(file, instructions, references):
 # ---- files that are refused, and counts
 def refusals(tools, files):
     """Bad files, and a page that is too large: the fault's own text, no page, status 2."""
-    cut = write(f"{tools.room}/cut.o", read_bytes(files[0])[:-5])
-    for path, text in ((cut, "truncated"), (os.path.join(tools.room, "nothing.o"), FAULTS["open"]), (tools.lesson, "bad magic number")):
+    cut = write(f"{tools.folder}/cut.o", read_bytes(files[0])[:-5])
+    for path, text in ((cut, "truncated"), (os.path.join(tools.folder, "nothing.o"), FAULTS["open"]), (tools.lesson, "bad magic number")):
         same(f"{path}", ran(tools.lesson, "-p", tools.page, files[0], path).texts("utf-8"), (2, "", f"v7-lesson: {path}: {text}\n"))
     for words in ([], ["-p"], ["-p", tools.page], ["-p", tools.page, "-q", files[0]], ["-n", files[0]], ["-n", "0", files[0]],
                   ["-n", "3", files[0]], ["-x", files[0]]):
@@ -282,7 +282,7 @@ def refusals(tools, files):
 
 def largest_page(tools, files):
     """A page of at most 5,000,000 bytes is written, and one of some bytes more is not: the text of a lesson fills both."""
-    path = os.path.join(tools.room, "long.txt")
+    path = os.path.join(tools.folder, "long.txt")
     room = 5_000_000 - os.path.getsize(tools.page_of(files[:1], "short.html", write(path, "lesson One\nsay x\n")))
     for more, wanted in ((1, (0, 5_000_000, "")), (2, (2, 0, "v7-lesson: the page would have more than 5000000 bytes\n"))):
         write(path, "lesson One\nsay " + "x" * (room + more) + "\n")
@@ -292,7 +292,7 @@ def largest_page(tools, files):
 
 def full(tools, files):
     """An object is refused, with the text that the programs have."""
-    path = write(f"{tools.room}/full.o", object_of([(0, 0)] * 32_767, []))
+    path = write(f"{tools.folder}/full.o", object_of([(0, 0)] * 32_767, []))
     data, _ = states_in(tools.page_of([path, files[0]], "full.html"))
     refused = [(state["list"], state["object"], state["refused"]) for state in data["states"] if "refused" in state]
     same("refused", refused, [([0], [1], "text full"), ([1], [0], "text full")])
@@ -301,9 +301,9 @@ def full(tools, files):
 
 def listing_beside(tools, files):
     """A listing beside an object, whose comments have the object's numbers, is not read."""
-    given = [write(f"{tools.room}/listed.o", read_bytes(files[0]))]
+    given = [write(f"{tools.folder}/listed.o", read_bytes(files[0]))]
     alone = read(tools.page_of(given))
-    write(f"{tools.room}/listed.lst", read(f"{files[0][:-2]}.lst"))
+    write(f"{tools.folder}/listed.lst", read(f"{files[0][:-2]}.lst"))
     same("a page with a listing beside its object is another one", read(tools.page_of(given)) != alone, False)
 
 
@@ -349,8 +349,8 @@ def long_names(tools):
     """The assembler of the examples refuses two names that are equal in eight bytes."""
     equal = "names.s:3:1: _longname2 and _longname1 are equal in eight bytes\n"
     for one, other, wanted in (("_longname1", "_longname2", (1, "", equal)), ("_long1", "_long2", (0, "", ""))):
-        write(f"{tools.room}/names.s", f"\t.globl {one}\n{one}: rts pc\n{other}: rts pc\n")
-        came = ran(sys.executable, f"{TOP}/examples/asm.py", "names.s", cwd=tools.room).texts("utf-8")
+        write(f"{tools.folder}/names.s", f"\t.globl {one}\n{one}: rts pc\n{other}: rts pc\n")
+        came = ran(sys.executable, f"{TOP}/examples/asm.py", "names.s", cwd=tools.folder).texts("utf-8")
         same(f"asm.py with {one} and {other}", came, wanted)
 
 
@@ -379,8 +379,8 @@ def check_data(tools):
 
 def main():
     notices(planted)
-    with tempfile.TemporaryDirectory() as room:
-        check_data(Tools(room))
+    with tempfile.TemporaryDirectory() as folder:
+        check_data(Tools(folder))
     return report("without a browser")
 
 

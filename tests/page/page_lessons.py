@@ -75,7 +75,7 @@ QUESTIONS = [
 def bad_questions(tools, files):
     """A line that refers to no word, name or step: no page, and the line's number."""
     for text, line, fault in QUESTIONS:
-        path = write(f"{tools.room}/bad.txt", text + "\n")
+        path = write(f"{tools.folder}/bad.txt", text + "\n")
         same(f"questions: {text}", tools.asked_of(path, *files), (2, "", f"v7-lesson: {path}: line {line}: {fault}\n"))
 
 
@@ -100,7 +100,7 @@ NUMBERS = [0o177774, 4, 0, 0o12, 0o20000, 0o177770, 6, 2, 0o12, 0o17774]
 
 def questions_of_all_kinds(tools, files):
     """A withdrawn object can come again, a lesson begins with no object, and a text is data, whatever it has."""
-    data, _ = states_in(tools.page_of(files, "accepted.html", write(f"{tools.room}/accepted.txt", ACCEPTED)))
+    data, _ = states_in(tools.page_of(files, "accepted.html", write(f"{tools.folder}/accepted.txt", ACCEPTED)))
     texts = [part for line in data["lessons"] for part in line if isinstance(part, str)]
     same("a text that could end the script", [text for text in texts if "script" in text], ["</script><b>", "<!-- </script> -->"])
     same("relocation words and sizes in texts", [text for text in texts if text.startswith("0")], ["051", "0", "012 (10.)", "02 (2.)"])

@@ -185,4 +185,4 @@ def compare_states(tools, page, given):
     large(tools, page, *given.large)
     page.load(tools.page_of([full(tools, CLASS), CLASS[3]], "full.html"))
     page.type("1", "2")
-    compare_addresses(tools, page, "full.o l.o", [f"{tools.room}/full.o", CLASS[3]])
+    compare_addresses(tools, page, "full.o l.o", [f"{tools.folder}/full.o", CLASS[3]])

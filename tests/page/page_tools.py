@@ -86,12 +86,12 @@ def known_as(kind, number):
 class Tools:
     """The programs that the page is compared with."""
 
-    def __init__(self, room):
+    def __init__(self, folder):
         self.lesson, self.v7, self.explain = map(program, ("v7-lesson", "v7", "v7-explain"))
-        self.page, self.room = f"{TOP}/page", room
+        self.page, self.folder = f"{TOP}/page", folder
 
     def page_of(self, files, name="lesson.html", questions=""):
-        return write(f"{self.room}/{name}", asked(self.lesson, "-p", self.page, *["-q", questions] * bool(questions), *files))
+        return write(f"{self.folder}/{name}", asked(self.lesson, "-p", self.page, *["-q", questions] * bool(questions), *files))
 
     def asked_of(self, questions, *files):
         """The status and both outputs for a page with a file of questions."""
@@ -133,19 +133,19 @@ class Tools:
         """So many objects that `ld -r` makes of the sixteen, which a seed puts into an order."""
         order = random.Random(seed).sample(SIXTEEN, len(SIXTEEN))
         groups = [order[len(order) * number // count:len(order) * (number + 1) // count] for number in range(count)]
-        return [write(f"{self.room}/joined{count}-{number}.o", self.bytes_of_link(["-r"], group)) for number, group in enumerate(groups)]
+        return [write(f"{self.folder}/joined{count}-{number}.o", self.bytes_of_link(["-r"], group)) for number, group in enumerate(groups)]
 
     def nm(self, file):
         return asked(self.v7, "nm", "-p", file)
 
     def bytes_of_link(self, options, files):
         """The file that a link writes."""
-        asked(self.v7, "ld", *options, "-o", f"{self.room}/linked", *files)
-        return read_bytes(f"{self.room}/linked")
+        asked(self.v7, "ld", *options, "-o", f"{self.folder}/linked", *files)
+        return read_bytes(f"{self.folder}/linked")
 
     def link(self, options, files):
         """The words and the header of a link, where data begins, its table as `nm -p` has it, its report; or why it is refused."""
-        out = os.path.join(self.room, "linked")
+        out = os.path.join(self.folder, "linked")
         status, report, error = ran(self.v7, "ld", *options, "-o", out, *files).texts("utf-8")
         if status == 2:
             return {"refused": error.strip().split(": ", 1)[1]}

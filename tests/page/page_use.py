@@ -546,7 +546,7 @@ END = "choose(`name ${arguments[0]}`, true); const row = byId(arguments[1]); ret
 
 def ends(tools, page, _):
     """A name at the end of a segment leads to the end, in the image and in a link, and so does a word that means the end: not to what follows."""
-    given = write(f"{tools.room}/ends.o", object_of([(4, 0o2), (6, 0o4)], [("_after", 0o42, 4), ("_past", 0o43, 6), ("_room", 0o40, 2)], [1]))
+    given = write(f"{tools.folder}/ends.o", object_of([(4, 0o2), (6, 0o4)], [("_after", 0o42, 4), ("_past", 0o43, 6), ("_room", 0o40, 2)], [1]))
     page.load(tools.page_of([given], "ends.html"))
     page.open("#objects=1")
     for key, (text, data) in (("", ("000004", "000002")), ("p", ("000004", "000006")), ("n", ("000004", "020002"))):

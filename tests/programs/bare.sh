@@ -7,21 +7,21 @@
 set -u
 cd "$(dirname "$0")/../.."
 [ -e .git ] || { echo "skipped: no clone is made, as this is not one"; exit 0; }
-room=$(mktemp -d)
-trap 'rm -rf "$room"' EXIT
-mkdir "$room/home" "$room/archive"
-git clone -q . "$room/clone" && git archive HEAD | tar -x -C "$room/archive" || exit 1
+work=$(mktemp -d)
+trap 'rm -rf "$work"' EXIT
+mkdir "$work/home" "$work/archive"
+git clone -q . "$work/clone" && git archive HEAD | tar -x -C "$work/archive" || exit 1
 failed=0
 
 # runs a command in one of the folders
 bare() {
     folder=$1
     shift
-    (cd "$room/$folder" && env -i PATH="$PATH" HOME="$room/home" LANG=C.UTF-8 "$@") >"$room/said" 2>&1 </dev/null
+    (cd "$work/$folder" && env -i PATH="$PATH" HOME="$work/home" LANG=C.UTF-8 "$@") >"$work/said" 2>&1 </dev/null
 }
 
 passes() {
-    bare "$@" || { cat "$room/said"; echo "this fails in a new folder, the $*"; failed=1; }
+    bare "$@" || { cat "$work/said"; echo "this fails in a new folder, the $*"; failed=1; }
 }
 
 passes archive python3 -m compileall -q .
@@ -33,13 +33,13 @@ for folder in clone archive; do
     passes $folder make -s check-text
 done
 # a test that reads what Python writes passes where nothing is compiled, and fails here
-cat >"$room/clone/tests/texts/planted.py" <<'END'
+cat >"$work/clone/tests/texts/planted.py" <<'END'
 from tests.lib.files import read
 import glob
 print(sum(len(read(path)) for path in glob.glob("tests/*/*.*")))
 END
 bare clone env PYTHONDONTWRITEBYTECODE=1 sh -c 'find . -name __pycache__ -exec rm -r {} + && python3 -m tests.texts.planted' ||
-    { cat "$room/said"; failed=1; }
+    { cat "$work/said"; failed=1; }
 ! bare clone python3 -m tests.texts.planted || { echo "a test that reads what Python writes is not noticed"; failed=1; }
 [ $failed -ne 0 ] || echo "texts and plans of make are right in a clone and in an archive, with PATH, HOME and LANG alone"
 exit $failed

@@ -15,7 +15,7 @@ import sys
 import time
 
 from tests.lib.compare import notices, same
-from tests.lib.files import TOP, read, room
+from tests.lib.files import TOP, new_folder, read
 from tests.lib.programs import ran
 from tests.programs import terminal
 
@@ -113,7 +113,7 @@ def check_zsh(folder):
 
 def main(words):
     made = os.path.abspath(words[0]) if words else "../made"
-    with room("examples"):
+    with new_folder("examples"):
         if not words:
             ran(sys.executable, f"{TOP}/packaging/completion.py", made)
         file, made = f"{made}/v7.bash", os.path.abspath(made)

@@ -9,7 +9,7 @@ import subprocess
 import sys
 import textwrap
 
-from tests.lib.files import read, read_bytes, room
+from tests.lib.files import new_folder, read, read_bytes
 from tests.lib.programs import program, ran
 
 
@@ -32,7 +32,7 @@ def shell(*words):
 
 
 def main():
-    with room("examples"):
+    with new_folder("examples"):
         os.mkdir("../build")
         if textwrap.indent(session(), "    ") not in read("README.md"):
             sys.exit("the answers are not those of examples/README.md")

@@ -10,7 +10,7 @@ import subprocess
 import sys
 
 from tests.lib.compare import notices, same
-from tests.lib.files import room, write
+from tests.lib.files import new_folder, write
 from tests.lib.programs import FAULTS, program, ran
 
 DEEP = 2100
@@ -112,5 +112,5 @@ def main():
 
 if __name__ == "__main__":
     EXPLAIN = program("v7-explain")
-    with room():
+    with new_folder():
         main()

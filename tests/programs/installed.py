@@ -89,11 +89,11 @@ def make():
     """Installs, looks and uninstalls. The faults."""
     os.umask(0o077)
     script = f"{TOP}/packaging/installed.py"
-    with tempfile.TemporaryDirectory() as room:
-        os.chmod(room, 0o755)
-        stage, root = f"{room}/stage", f"{room}/usr/local"
+    with tempfile.TemporaryDirectory() as folder:
+        os.chmod(folder, 0o755)
+        stage, root = f"{folder}/stage", f"{folder}/usr/local"
         subprocess.run([sys.executable, script, "put", BUILD, f"{stage}{root}"], check=True)
-        subprocess.run([sys.executable, script, "copy", stage, f"{room}/package", root], check=True)
+        subprocess.run([sys.executable, script, "copy", stage, f"{folder}/package", root], check=True)
         subprocess.run([sys.executable, script, "copy", stage, "", root], check=True)
         faults, pages, links = look(root)
         write(f"{root}/planted.md", "[a link](none.md)\n")
@@ -112,9 +112,9 @@ def make():
                        "bash-completion/completions/v7-explain", "zsh/site-functions/_v7"):
             if f"share/{wanted}" not in there and (has_html or not wanted.endswith(".html")):
                 faults.append(f"share/{wanted} is not installed")
-        faults += [f"a package has {installed.NOTED}"] if os.path.exists(f"{room}/package{root}/{installed.NOTED}") else []
+        faults += [f"a package has {installed.NOTED}"] if os.path.exists(f"{folder}/package{root}/{installed.NOTED}") else []
         subprocess.run([sys.executable, script, "remove", root], check=True)
-        faults += [f"left: {room}/usr"] if os.path.exists(f"{room}/usr") else []
+        faults += [f"left: {folder}/usr"] if os.path.exists(f"{folder}/usr") else []
     return faults, pages, links
 
 

@@ -15,7 +15,7 @@ import re
 import sys
 
 from tests.lib.compare import notices, same
-from tests.lib.files import read_bytes, room, write
+from tests.lib.files import new_folder, read_bytes, write
 from tests.lib.objects import gnu_named, pack
 from tests.lib.programs import program, ran, v7
 from tests.oracles import agree, model, notes
@@ -493,7 +493,7 @@ CALLS = [
 def fault_of(row):
     """What is wrong with the answer to a kind of input, in a folder of its own."""
     name, call, kind = row
-    with room():
+    with new_folder():
         try:
             call(kind)
         except (Exception, SystemExit) as unlike:  # also what a script cannot read of a wrong answer

@@ -17,8 +17,8 @@ for program in v7 v7-from-gnu v7-object v7-explain v7-lesson; do
     [ -x "$build/$program" ] || { echo "$build/$program is missing: make build/$program makes it"; exit 2; }
 done
 [ $# -gt 0 ] || set -- man/*.1 man/*.5 man/*.7 README.md CONTRIBUTING.md examples/*.md docs/*.md docs/*/*.md
-room=$(mktemp -d)
-trap 'rm -rf "$room"' EXIT
+work=$(mktemp -d)
+trap 'rm -rf "$work"' EXIT
 PATH=$build:$PATH
 export PATH
 LC_ALL=C
@@ -45,9 +45,9 @@ blocks() {
 
 # for each command a file N.typed, N.input and N.shown in the new folder
 commands() {
-    rm -f "$room"/*.typed "$room"/*.input "$room"/*.shown
-    blocks "$1" | awk -v room="$room" '
-        function name(kind) { return sprintf("%s/%03d.%s", room, n, kind) }
+    rm -f "$work"/*.typed "$work"/*.input "$work"/*.shown
+    blocks "$1" | awk -v work="$work" '
+        function name(kind) { return sprintf("%s/%03d.%s", work, n, kind) }
         /^\$ / { if (n) close(name("shown")); n++; print substr($0, 3) >name("typed"); close(name("typed"))
                  printf "" >name("input"); printf "" >name("shown"); next }
         n == 0 || /^$/ { next }
@@ -62,13 +62,13 @@ differs() {
 
 # runs them in a copy of examples
 run() {
-    rm -rf "$room/build" "$room/examples"
-    mkdir "$room/build"
-    cp -r "$top/examples" "$room/examples"
-    cd "$room/examples" || exit 2
+    rm -rf "$work/build" "$work/examples"
+    mkdir "$work/build"
+    cp -r "$top/examples" "$work/examples"
+    cd "$work/examples" || exit 2
     status=0
     ran=0
-    for typed in "$room"/*.typed; do
+    for typed in "$work"/*.typed; do
         [ -e "$typed" ] || break
         part=${typed%.typed}
         line=$(cat "$typed")
@@ -96,8 +96,8 @@ run() {
 # a page of the manual, on a terminal of 80 columns: groff has nothing to say
 formats() {
     command -v groff >/dev/null && command -v man >/dev/null || { echo "$1: not formatted, as man or groff is missing"; return; }
-    MANWIDTH=80 man --warnings -l "$1" >/dev/null 2>"$room/warnings"
-    [ ! -s "$room/warnings" ] || { cat "$room/warnings"; echo "$1: groff warns"; failed=1; }
+    MANWIDTH=80 man --warnings -l "$1" >/dev/null 2>"$work/warnings"
+    [ ! -s "$work/warnings" ] || { cat "$work/warnings"; echo "$1: groff warns"; failed=1; }
 }
 
 # mandoc finds nothing to say of the pages, but for pages of others that this machine lacks
@@ -108,8 +108,8 @@ lint() {
 
 failed=0
 count=0
-echo planted >"$room/planted"
-differs "$room/planted" /dev/null >/dev/null || { echo "a planted difference is not reported"; exit 1; }
+echo planted >"$work/planted"
+differs "$work/planted" /dev/null >/dev/null || { echo "a planted difference is not reported"; exit 1; }
 skipped=0
 for page in man/*.[1-9]; do
     [ ! -e "$page" ] || formats "$page"

@@ -5,10 +5,10 @@
 # tier: all, 20 seconds; programs: v7; for: examples; needs: pdp11
 set -eu
 cd "$(dirname "$0")/../../examples"
-room=$(mktemp -d)
-trap 'rm -rf "$room"' EXIT
+work=$(mktemp -d)
+trap 'rm -rf "$work"' EXIT
 for twice in twice.o 'double.o twice.o'; do
-    "${V7_BUILD:-../build}/v7" ld -e _start -o "$room/doubled" main.o $twice count.o print.o start.o || test $? -eq 1
-    sh simulate.sh "$room/doubled" | tee "$room/printed"
-    echo '21 doubled is 42' | cmp - "$room/printed"
+    "${V7_BUILD:-../build}/v7" ld -e _start -o "$work/doubled" main.o $twice count.o print.o start.o || test $? -eq 1
+    sh simulate.sh "$work/doubled" | tee "$work/printed"
+    echo '21 doubled is 42' | cmp - "$work/printed"
 done

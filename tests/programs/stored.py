@@ -9,7 +9,7 @@ import os
 import sys
 
 from tests.lib.compare import Differs, notices, same
-from tests.lib.files import TOP, read_bytes, room
+from tests.lib.files import TOP, new_folder, read_bytes
 from tests.lib.programs import program, ran
 from tools.compiling import CRATES
 
@@ -28,7 +28,7 @@ def compare(crate, done):
 def differs(name, crate):
     """Runs a program as it is stored, and whether another output or status came."""
     data = f"crates/{crate}/data"
-    with room(data if os.path.isdir(f"{TOP}/{data}") else ""):
+    with new_folder(data if os.path.isdir(f"{TOP}/{data}") else ""):
         done = ran(program(name), *stored(crate, "args").decode().splitlines(), given=stored(crate, "stdin"))
     notices(compare, crate, done._replace(out=b"planted" + stored(crate, "stdout")))
     notices(compare, crate, done._replace(out=stored(crate, "stdout"), status=3))

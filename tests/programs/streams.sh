@@ -12,16 +12,16 @@ PATH=$build:$PATH
 for program in v7 v7-explain v7-object v7-from-gnu v7-lesson; do
     [ -x "$build/$program" ] || { echo "$build/$program is missing: make builds it"; exit 2; }
 done
-room=$(mktemp -d)
-trap 'rm -rf "$room"' EXIT
-cp examples/*.o examples/squares.gnu "$room"
-cd "$room" || exit 2
+work=$(mktemp -d)
+trap 'rm -rf "$work"' EXIT
+cp examples/*.o examples/squares.gnu "$work"
+cd "$work" || exit 2
 # what is said of a failure goes there, though standard output is closed
 exec 9>&1
 
 fail() {
     echo "$1" >&9
-    : >"$room/failed"
+    : >"$work/failed"
 }
 
 # the run just before ended with this status, and the file `fault` holds this line, or nothing

@@ -17,7 +17,7 @@ import subprocess
 
 from installed import version
 from tests.lib.compare import notices, same
-from tests.lib.files import TOP, read, room, write
+from tests.lib.files import TOP, new_folder, read, write
 from tests.lib.programs import FAULTS, program, ran
 
 TOOLS = ["ld", "nm", "session", "size", "strip"]
@@ -69,7 +69,8 @@ BESIDE = {
         ("-R a.o", "-R needs -l"), ("a.o -m b.o", "-m has to be the first argument"),
         ("-m -z a.o", "ld does not take the arguments after -m"), ("a.o -t b.o", "-t needs -c"),
         ("-c -o b a.o", "-c and -o exclude each other"), ("-y f a.o b.o", "-y is for one file"),
-        ("-o -d a.o", "-o needs the next argument as its value"), ("-c", "it needs a file"), ("-l -R -s a.o", "-l and -s exclude each other")],
+        ("-o -d a.o", "-o needs the next argument as its value"), ("-c", "it needs a file"),
+        ("-l -R -s a.o", "-l and -s exclude each other")],
     "v7-object": [
         ("", "it takes two files"), ("a", "it takes two files"), ("a b c", "it takes two files"), ("-- -x", "it takes two files"),
         ("-", "it takes two files"), ("-x a b", "there is no option -x"), ("a b -yx", "there is no option -y"),
@@ -403,7 +404,7 @@ def check_mixed():
 
 
 def main():
-    with room("examples"):
+    with new_folder("examples"):
         write("commands.txt", "add main.o\n")
         print(f"at a terminal: {check_help()} pages, {check_reasons()} reasons, {check_random()} refused of {RANDOM_LINES} random lines, "
               f"{check_hints()} hints, {check_session()} sessions")
