@@ -90,16 +90,12 @@ def passes(*words, env=None):
     return "\n".join([*filter(SHOWN.match, lines), last])
 
 
-def has_module(name):
-    """Whether this Python has a module, or the system's, by which the test of the page goes on if another Python comes first."""
-    pythons = [sys.executable, *filter(os.path.exists, ["/usr/bin/python3"])]
-    return any(ran(python, "-c", f"import {name}").status == 0 for python in pythons)
-
-
 def is_there(tool):
-    """Whether a tool is there, and with a compiler the headers of the C library: Debian has gcc without these."""
+    """Whether a tool is there, and with a compiler the headers of the C library: Debian has gcc without these. A module may be the system's,
+    by which the test of the page goes on if another Python comes first."""
     if tool in ("venv", "selenium"):
-        return has_module(tool)
+        pythons = [sys.executable, *filter(os.path.exists, ["/usr/bin/python3"])]
+        return any(ran(python, "-c", f"import {tool}").status == 0 for python in pythons)
     return shutil.which(tool) and (tool != "cc" or ran("cc", "-E", "-", given=b"#include <stdlib.h>\n").status == 0)
 
 
@@ -252,11 +248,6 @@ def run_unproved(tests):
 
 # --- which tests and crates a change concerns
 
-def programs_with(crate):
-    """The programs, and libv7, that have a crate in them."""
-    return {name for name, top in {**CRATES, "libv7.so": "v7_c"}.items() if crate in below(top, crates_in(TOP))}
-
-
 def concern(path, test):
     """Why a change of a file concerns a test, or nothing: it was made for it, uses the script, or runs a program that has the crate."""
     if any(f"{path}/".startswith(f"{it.rstrip('/')}/") for it in [test.path, *test.words("for")]):
@@ -264,7 +255,8 @@ def concern(path, test):
     if path.endswith(".py"):
         imports = " ".join(re.findall(r"^ *(?:from|import) .*", read(test.path), re.M))
         return "uses it" if re.search(rf"\b{os.path.basename(path)[:-3]}\b", imports) else ""
-    own = programs_with(path.split("/")[1]) & {*test.words("programs")} if path.startswith("crates/") else set()
+    crate = path.split("/")[1] if path.startswith("crates/") else None
+    own = [name for name in test.words("programs") if crate in below({**CRATES, "libv7.so": "v7_c"}[name], crates_in(TOP))]
     return f"runs {' '.join(sorted(own))}" if own else ""
 
 

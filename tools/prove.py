@@ -100,10 +100,10 @@ class Kit:
         words = [*self.words(crate), *self.logic, "--jobs", str(jobs), "-o", f"{self.place}/{crate.left}"]
         return [self.rattle, "build", *words, "--statements"] if crate.left.endswith(".rlib") else [self.rattle, "check", *words]
 
-    def checking(self, crate, *flags):
+    def checking(self, crate, *flags, kept="out/incremental", jobs=None):
         """The command that checks a crate over what its last check kept."""
-        jobs = str(min(os.cpu_count(), MOST_JOBS))
-        return [self.rattle, "check", *self.words(crate), *self.logic, "--incremental", "out/incremental", "--jobs", jobs, *flags]
+        jobs = str(jobs or min(os.cpu_count(), MOST_JOBS))
+        return [self.rattle, "check", *self.words(crate), *self.logic, "--incremental", kept, "--jobs", jobs, *flags]
 
     def building(self, crate, file):
         """The commands that compile what was proved, and link it if it is a program."""

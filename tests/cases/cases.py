@@ -68,12 +68,6 @@ def check_output(line, what, expected, came):
         raise differ(line, what, "no further line", shown_line(lines[len(expected)]))
 
 
-def check_status(step, came):
-    line, expected = step.status or (step.line, 0)
-    if came != expected:
-        raise differ(line, "status", expected, came)
-
-
 def excerpt(data, at):
     return f"{len(data)} bytes, from byte {at} on: {data[at:at + 16].hex(' ', 2) or 'none'}"
 
@@ -111,12 +105,6 @@ def check_files(step, before, after):
         if before.get(name) != after.get(name):
             how = "has gone" if name not in after else "has changed" if name in before else "has appeared"
             raise Mistake(step.line, f"{os.fsdecode(name)} {how}, and no line describes it")
-
-
-def check_asked(step, came):
-    line, expected = step.asked
-    if came != expected:
-        raise differ(line, "asked", shown(b", ".join(expected), 2000), shown(b", ".join(came), 2000))
 
 
 # --- commands
@@ -175,10 +163,13 @@ def play_step(step, plans, directory):
         came, requests = run(step.line, step.words, directory, given), []
     check_output(step.line, "standard error", step.error, came.err)
     check_output(step.line, "standard output", step.output, came.out)
-    check_status(step, came.status)
+    line, status = step.status or (step.line, 0)
+    if came.status != status:
+        raise differ(line, "status", status, came.status)
     check_files(step, before, snapshot(directory))
-    if step.asked:
-        check_asked(step, requests)
+    line, asked = step.asked or (step.line, requests)
+    if requests != asked:
+        raise differ(line, "asked", shown(b", ".join(asked), 2000), shown(b", ".join(requests), 2000))
 
 
 # --- states of sessions

@@ -238,11 +238,7 @@ def link_case(rng, number):
 
 def bad_file_of(rng, names):
     """A file that is often no object."""
-    return rng.choice([bad_object_of, program_of, damaged_object])(rng, names)
-
-
-def damaged_object(rng, names):
-    return damage(rng, object_of(rng, names))
+    return rng.choice([bad_object_of, program_of, lambda *given: damage(rng, object_of(*given))])(rng, names)
 
 
 def zeros(size):
@@ -516,15 +512,11 @@ def options_of(arguments):
     return sum(bits[letter] for letter in arguments.letters)
 
 
-def report_of(findings):
-    """The lines of a report, by its names."""
-    lines = [f"{name}: Multiply defined" for name in findings.multiples + findings.reserved]
-    lines += [] if findings.entry is None else [f"{findings.entry}: Entry point not in text"]
-    return "".join(line + "\n" for line in lines + ["Undefined:"] * bool(findings.undefined) + findings.undefined)
-
-
 def found_lines(found):
-    return found.status, found.file, report_of(found.findings)
+    """The same of a link whose report is names: the status, the file, and the report's lines."""
+    multiples, reserved, entry, undefined = found.findings
+    lines = [f"{name}: Multiply defined" for name in multiples + reserved] + [f"{entry}: Entry point not in text"] * (entry is not None)
+    return found.status, found.file, "".join(line + "\n" for line in lines + ["Undefined:"] * bool(undefined) + undefined)
 
 
 def each_call(*calls):
@@ -576,19 +568,14 @@ def model_edit(states, forced, edit):
     return refused and refused[0]
 
 
-def library_edit(session, edit):
-    """What the library gives for an edit: nothing, or its fault."""
-    [given] = each_call(session.withdraw if edit is None else lambda: session.add(edit))
-    return given[0] if isinstance(given, tuple) else None
-
-
 def library_session(number):
     """What model and library give for a session: the edits, the externals, and the link."""
     rng, names, arguments, objects = given_of("session", number)
     objects = objects or [object_of(rng, names)]
     edits = [rng.choice([None, *objects]) for _ in range(rng.randrange(12))]
     states, session = [[]], library.Session(**asked_of(arguments))
-    ours = [library_edit(session, edit) for edit in edits]
+    given = [each_call(session.withdraw if edit is None else lambda: session.add(edit))[0] for edit in edits]
+    ours = [fault and fault[0] for fault in given]
     theirs = [model_edit(states, arguments.forced, edit) for edit in edits]
     merged, _ = merged_of(states[-1], arguments.forced)
     shown = [external["name"] for external in session.state()["externals"]]

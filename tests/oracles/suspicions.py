@@ -44,10 +44,6 @@ def instruction(file, place):
     return FOUND.get(file.words[place])
 
 
-def is_other(word):
-    return any(word in words for words in OTHERS)
-
-
 def operands(file, place):
     """The operands of the instruction at a place: for each the place of its word, or None, its letter, its mode and its register."""
     at = place + 1
@@ -255,7 +251,7 @@ def wrong_at(file, place):
         yield 2 * place, "relocated"
         return
     if file.words[place] not in FOUND:
-        if not is_other(file.words[place]):
+        if not any(file.words[place] in words for words in OTHERS):
             yield 2 * place, "none begins"
         return
     if place + length(file, place) > len(file.words):

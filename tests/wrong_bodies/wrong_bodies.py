@@ -127,7 +127,7 @@ class Edit:
 
     def __init__(self, folder, body):
         self.folder, self.name = folder, body.name
-        self.waited, self.function, self.alone = False, None, False
+        self.function, self.alone = None, False
         try:
             self.changes = edits.pairs(body.text)
             self.misfit = ""
@@ -194,17 +194,20 @@ class Answer:
         """What the prover calls a function, and the closures in it."""
         return list(filter(function.is_named, self.verdicts))
 
+    def folders(self, function):
+        """Where the proofs of these are."""
+        return tuple(f"proofs/{name.replace('::', '/')}/" for name in self.names(function))
+
     def complaints(self, edit):
         """What it says in a function and in its proof; of an edit with no function, all that it says."""
         if not edit.function:
             return [text for _, _, text in self.places]
-        folders = tuple(f"proofs/{name.replace('::', '/')}/" for name in self.names(edit.function))
+        folders = self.folders(edit.function)
         return [text for file, line, text in self.places if file.startswith(folders) or edit.has(file, line)]
 
     def open_goals(self, function):
         """The kinds of the goals of a function that are not proved: if a condition changes, the ways to its returns have other names."""
-        folders = tuple(f"proofs/{name.replace('::', '/')}/" for name in self.names(function))
-        found = set()
+        folders, found = self.folders(function), set()
         for name in self.names(function):
             _, searched, goals = self.verdicts[name].partition("`search` did not prove ")
             found.update(CALLED.findall(goals.split(";")[0]) if searched else [])
@@ -294,7 +297,7 @@ class Trial:
                 shutil.rmtree(f"{copy}/{path}", ignore_errors=True)
             for path, text in texts.items():
                 write(f"{copy}/{path}", text)
-            done = run([*self.kit.check(self.crate), "--incremental", kept], copy)
+            done = run(self.kit.checking(self.crate, kept=kept, jobs=1), copy)
         self.copies += 1
         return Answer(self.crate.name, done.returncode, done.stdout)
 
@@ -363,7 +366,7 @@ class Trial:
         below = answer.waits_for(edit.function, self.crate.name)
         others = [it for it in chosen if it is not edit and below & set(answer.names(it.function))]
         self.apart |= {frozenset((edit.function, it.function)) for it in others}
-        edit.alone, edit.waited = not others, True
+        edit.alone = not others
         print(f"{self.crate.name}/{edit.name}: waits for another copy: {line[:150]}", flush=True)
         return False
 
@@ -373,28 +376,15 @@ class Trial:
         if not function:
             self.end(edit, "refused only for its shape", line)
             return
-        folders = [f"proofs/{'/'.join(it)}" for it in self.proofs_of(function)]
+        top = f"{self.folder}/proofs"
+        found = [os.path.relpath(at, top) for at, _, files in os.walk(top) if files]
+        folders = [f"proofs/{path}" for path in found if function.is_named(path.replace(os.sep, "::"))]
         right, wrong = self.check({}, folders), self.check(edits.changed(edit.changes, self.folder), folders)
         more = wrong.open_goals(function) - right.open_goals(function)
         if wrong.is_told and more:
             self.end(edit, "", f"without its proof `{min(more)}` is open, and not with the right body")
         else:
             self.end(edit, "refused only for its shape: change a value, and keep the names", line)
-
-    def proofs_of(self, function):
-        """The folders with proofs of a function, as lists of names."""
-        for at, _, files in os.walk(f"{self.folder}/proofs"):
-            names = os.path.relpath(at, f"{self.folder}/proofs").split(os.sep)
-            if files and function.is_named("::".join(names)):
-                yield names
-
-
-class Kit(prove.Kit):
-    """The kit, as a copy of a crate is checked with it."""
-
-    def check(self, crate):
-        return [self.rattle, "check", *self.words(crate), *self.logic, "--jobs", "1"]
-
 
 def has_libraries(crates, place):
     """Has `rt lib` prove libraries, lowest first, or find them proved, as after the gate, and names them in a folder. Whether all are."""
@@ -407,11 +397,6 @@ def has_libraries(crates, place):
     return True
 
 
-def without_comments(text):
-    """A text without the lines that are comments: no contract is weaker for these."""
-    return "\n".join(line for line in text.split("\n") if not re.match(r"\s*(//|--)", line))
-
-
 def digest(crate):
     """The digest of the code and the definitions of a crate, without comments, and of its edits."""
     whole = hashlib.sha256()
@@ -419,7 +404,8 @@ def digest(crate):
     texts = [(os.path.relpath(path, f"crates/{crate}"), edits.read(path)) for path in paths]
     texts += [(f"edits/{body.name}", body.text) for body in edits.edits_of(crate)]
     for name, text in sorted(texts):
-        whole.update(f"{name}\n{without_comments(text)}\n".encode())
+        lines = [line for line in text.split("\n") if not re.match(r"\s*(//|--)", line)]
+        whole.update("\n".join([name, *lines, ""]).encode())
     return whole.hexdigest()
 
 
@@ -433,12 +419,6 @@ def noted():
     return dict(re.findall(r"^(\w+) ([0-9a-f]{64})$", edits.read(SEEN), re.M)) if os.path.exists(SEEN) else {}
 
 
-def have_changed():
-    """The crates whose digest the file does not have."""
-    was = noted()
-    return [crate for crate in with_edits() if digest(crate) != was.get(crate)]
-
-
 def note(passed):
     """Writes the digests of crates whose edits are all refused, by name; those of other crates stay."""
     found = {**noted(), **passed}
@@ -449,7 +429,7 @@ def try_edits(names, jobs, only, until):
     """Tries the edits of crates, or only some, once the libraries below are proved; no copy begins after a time. The trials, and whether
     all edits are refused, by crate."""
     with tempfile.TemporaryDirectory(prefix="wrong-bodies-") as place:
-        kit, crates = Kit(place), {it.name: it for it in prove.crates_under(*names)}
+        kit, crates = prove.Kit(place), {it.name: it for it in prove.crates_under(*names)}
         needed = {below for name in names for below in crates[name].below}
         slots = threading.Semaphore(jobs)
         trials = {name: Trial(crates[name], kit, slots, only, until) for name in names}
@@ -494,8 +474,9 @@ def main():
     strange = {*given.names} - {*known, *known.values()}
     if strange or not shutil.which("rt"):
         parser.error(f"no crate with edits, or no edit: {' '.join(sorted(strange))}" if strange else "rt is not on the PATH")
-    crates = have_changed() if given.c else sorted({name.split("/")[0] for name in given.names}) or with_edits()
+    crates, was = sorted({name.split("/")[0] for name in given.names}) or with_edits(), noted()
     if given.c:
+        crates = [crate for crate in crates if digest(crate) != was.get(crate)]
         print(f"changed since their wrong bodies were refused: {' '.join(crates) or 'no crate'}", flush=True)
     only = {*given.names} if any("/" in name for name in given.names) else set()
     passed, right = whole(crates, given.j, only, given.m) if crates else ({}, True)
