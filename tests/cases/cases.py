@@ -244,9 +244,7 @@ def play_states(part, place, directory):
 def play_part(part, folder):
     with tempfile.TemporaryDirectory() as directory:
         for name, data in folder.items():
-            path = os.path.join(os.fsencode(directory), name)
-            os.makedirs(os.path.dirname(path), exist_ok=True)
-            write(path, data)
+            write(os.path.join(os.fsencode(directory), name), data)
         for place, step in enumerate(part.steps):
             play_states(part, place, directory)
             play_step(step, [item for item in part.plans if item.word != "state" and item.place <= place], directory)
