@@ -8,6 +8,7 @@ The meanings are those of the help.
 import os
 import re
 import sys
+from shlex import quote
 
 sys.path.insert(1, os.path.dirname(os.path.dirname(os.path.abspath(__file__))))
 from tests.lib.files import TOP, read, write  # noqa: E402
@@ -100,10 +101,6 @@ case $of in
 """
 
 
-def quoted(text):
-    return "'" + text.replace("'", "'\\''") + "'"
-
-
 def kind_of(value):
     return VALUES.get(value, "file")
 
@@ -114,7 +111,7 @@ def bash(found):
     for command, options in found.items():
         rows = [f"{option} {kind_of(value)} {meaning}" for option, (value, meaning) in options.items()]
         rows.append(f"files {TAKES.get(command, 'file')}")
-        cases.append(f"    {quoted(command)}) cat <<'END' ;;\n" + "\n".join(rows) + "\nEND\n")
+        cases.append(f"    {quote(command)}) cat <<'END' ;;\n" + "\n".join(rows) + "\nEND\n")
     return BASH % ("".join(cases), " ".join(["v7", *HELP]))
 
 
@@ -135,8 +132,8 @@ def zsh(found):
         elif TAKES.get(command) != "none":
             rows.append(f"*:FILE:{files_of(TAKES.get(command, 'file'))}")
         if command != "v7":
-            cases.append(f"{quoted(command)}) _arguments -s {' '.join(map(quoted, rows))} ;;\n")
-    choices = " ".join(quoted(f"{name}:{meaning}") for name, (_, meaning) in found["v7"].items())
+            cases.append(f"{quote(command)}) _arguments -s {' '.join(map(quote, rows))} ;;\n")
+    choices = " ".join(quote(f"{name}:{meaning}") for name, (_, meaning) in found["v7"].items())
     return ZSH % (" ".join(["v7", *HELP]), choices, "".join(cases))
 
 

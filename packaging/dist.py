@@ -24,6 +24,7 @@ sys.path.insert(1, os.path.dirname(os.path.dirname(os.path.abspath(__file__))))
 from tests.lib.files import TOP, read, read_bytes, write  # noqa: E402
 from tests.lib.programs import PROGRAMS  # noqa: E402
 from tests.lib.rattle import below, crates_in  # noqa: E402
+import backend  # noqa: E402
 import installed  # noqa: E402
 
 KEPT = "build/proved"
@@ -96,7 +97,7 @@ def libraries(place):
     how = {"env": {key: text for key, text in os.environ.items() if key not in ("MAKEFLAGS", "MFLAGS", "MAKELEVEL")}}
     for path in glob.glob("build/libv7.*"):
         os.remove(path)
-    run("make", "-s", *(["-o", "crates/v7_c/out/libv7_c.a"]), "install-lib", *flags, **how)
+    run("make", "-s", "-o", "crates/v7_c/out/libv7_c.a", "install-lib", *flags, **how)
     run("strip", "--strip-unneeded", shared(place))
     run("strip", "-g", "-D", f"{place}/library/usr/lib/libv7.a")
 
@@ -148,7 +149,7 @@ def provenance(release, place):
         "named above, and python3 and make. Then dist/SHA256SUMS is the same, whatever the folder, the user and the date.",
         "To link a program again with another C library: `cc -static -o v7 v7.o`, with an object of the folder v7 beside libv7.",
     ]
-    return "\n".join(part for part in parts if part is not None) + "\n"
+    return "\n".join(parts) + "\n"
 
 
 def licences(release, place):
@@ -290,12 +291,6 @@ PACKAGES = [
 ]
 
 
-def newest_libc(path):
-    """The version of the C library that a shared library needs."""
-    found = re.findall(r"GLIBC_([0-9.]+)", asked("objdump", "-T", path))
-    return max(found, key=lambda text: [*map(int, text.split("."))])
-
-
 def library_files(root):
     """What the packages for Debian have beside the files of the tar: documents of the library, and the module of Python."""
     doc = f"{root}/usr/share/doc"
@@ -356,7 +351,7 @@ def debian_packages(release, place, root):
     library_files(root)
     for path in glob.glob(f"{root}/usr/share/man/*/*"):
         squeeze(path)
-    libc = newest_libc(shared(place))
+    libc = ".".join(map(str, backend.needs(shared(place))[1]))
     notice = read(f"{root}/usr/share/doc/v7/NOTICE")
     os.remove(f"{root}/usr/share/doc/v7/NOTICE")
     how = {"env": {**os.environ, "SOURCE_DATE_EPOCH": str(release.date)}, "stdout": subprocess.DEVNULL}

@@ -110,10 +110,6 @@ def sized(sizes, names):
     return pack(text, data, sizes[b"bss"], [(name[:8], 0o40, 0) for name in names])
 
 
-def with_names(count, prefix):
-    return sized({b"text": 0, b"data": 0, b"bss": 0}, [prefix + b"%04d" % number for number in range(count)])
-
-
 def source(item, folder, size=0):
     """The file that a line names last: one of the folder, or a sample. It has at least this size."""
     name = item.arguments[-1]
@@ -142,7 +138,7 @@ MAKERS = {
     "text": lambda item, folder: b"".join(encoded(line, text) for line, text in item.block),
     "bytes": lambda item, folder: b"".join(item.arguments[1:]),
     "sized": lambda item, folder: sized(*item.arguments[1:]),
-    "names": lambda item, folder: with_names(*item.arguments[1:]),
+    "names": lambda item, folder: pack(symbols=[(item.arguments[2] + b"%04d" % number, 0o40, 0) for number in range(item.arguments[1])]),
     "same": source,
     "cut": cut,
     "poke": poked,

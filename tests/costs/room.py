@@ -45,32 +45,25 @@ def asked(words, path):
 
 
 def main():
-    faults = []
-
-    def compare(what, found, expected, exact=True):
-        print(f"{what}: {found}, {'as' if exact else 'at most'} {expected}")
-        if found != expected if exact else found > expected:
-            faults.append(what)
-
+    size, ld = {}, {}
     with new_folder():
-        requested = {}
         for words, names in ((0, 0), (1000, 0), (3000, 0), (0, FEW), (0, MANY)):
             path = f"{words}-{names}.o"
             write_object(path, words, names)
-            for tool, options in (("size", ["size"]), ("ld", ["ld", "-s", "-o", "/dev/null"])):
-                requested[tool, words, names] = asked(options, path)
-        read = requested["size", 3000, 0] - requested["size", 1000, 0]
-        compare("bytes for 2,000 words that are read", read, 2000 * READ)
-        linked = requested["ld", 3000, 0] - requested["ld", 1000, 0]
-        compare("for 2,000 words that are linked", linked, 2000 * (READ + LINKED))
-        symbols = requested["size", 0, MANY] - requested["size", 0, FEW]
-        compare("for 1,792 symbols that are read", symbols, (MANY - FEW) * SYMBOL)
-        names = requested["ld", 0, MANY] - requested["ld", 0, FEW]
-        compare("for 1,792 names that are linked", names, (MANY - FEW) * NAME, exact=False)
-        frame = requested["ld", 0, 0] - requested["size", 0, 0]
-        compare("for a link of nothing, beside a list of it", frame, FRAME, exact=False)
-    for fault in faults:
-        print(f"fault: {fault}")
+            size[words, names], ld[words, names] = asked(["size"], path), asked(["ld", "-s", "-o", "/dev/null"], path)
+    # what is measured, how many bytes that is, and how many it has to be, or at most
+    rows = [
+        ("bytes for 2,000 words that are read", size[3000, 0] - size[1000, 0], "as", 2000 * READ),
+        ("for 2,000 words that are linked", ld[3000, 0] - ld[1000, 0], "as", 2000 * (READ + LINKED)),
+        ("for 1,792 symbols that are read", size[0, MANY] - size[0, FEW], "as", (MANY - FEW) * SYMBOL),
+        ("for 1,792 names that are linked", ld[0, MANY] - ld[0, FEW], "at most", (MANY - FEW) * NAME),
+        ("for a link of nothing, beside a list of it", ld[0, 0] - size[0, 0], "at most", FRAME),
+    ]
+    faults = 0
+    for what, found, how, wanted in rows:
+        is_wrong = found > wanted or how == "as" and found != wanted
+        print(f"{what}: {found}, {how} {wanted}{': this is a fault' * is_wrong}")
+        faults += is_wrong
     return 1 if faults else 0
 
 

@@ -184,9 +184,6 @@ class Terminal:
     def type(self, line):
         os.write(self.master, line.encode("utf-8", "surrogateescape") + b"\n")
 
-    def end_input(self):
-        os.write(self.master, b"\4")
-
     def give(self, script):
         """Writes to the pipe of standard input, and closes it."""
         with self.process.stdin as pipe:
@@ -356,10 +353,7 @@ def play(typed, ending):
     for line, answer in typed:
         terminal.type(line)
         same(f"session: {line[:20]}", terminal.shown(b"v7> "), answer + "v7> ")
-    if ending is None:
-        terminal.end_input()
-    else:
-        terminal.type(ending)
+    os.write(terminal.master, b"\4" if ending is None else ending.encode() + b"\n")
     shown, _, _, status = terminal.ended()
     return shown, status
 
