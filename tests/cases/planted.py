@@ -22,6 +22,7 @@ import shutil
 import sys
 import tempfile
 from concurrent.futures import ThreadPoolExecutor
+from typing import NamedTuple
 
 from tests.lib.compare import same
 from tests.lib.files import TOP, read, write
@@ -34,7 +35,7 @@ from tools.compiling import CRATES, compile_program
 from tools.sketch import compile_library
 
 PAGE = "tests/cases/PLANTED.md"
-ROW = re.compile(r"^\| `([\w/*]+)` \| .* \| (.*) \|$")
+ROW = re.compile(r"^\| `([\w/*]+)` \| .* \| `([\w/.]+)` \| (.*) \|$")
 # the edits of tests/cases/planted, by their names
 EDITS = {os.path.basename(path)[:-len(".edit")]: path for path in sorted(glob.glob(f"{TOP}/tests/cases/planted/*.edit"))}
 # what the scripts that count as cases print, whether they find something or not
@@ -54,6 +55,13 @@ class Fault(Exception):
     pass
 
 
+class Row(NamedTuple):
+    """A bug, where it is below crates, and the cases that have to fail with it."""
+    bug: str
+    where: str
+    cases: list
+
+
 def rows_of(table, runs):
     """The rows of a table of tests/programs/largest.py: for each what plays it, and the programs that it runs, as a case has them."""
     return {f"largest.py: {name}, {kind}": (["tests.programs.largest", f"{name}, {kind}"], runs(name))
@@ -70,9 +78,9 @@ SCRIPTS = {
 
 
 def rows():
-    """The bugs of the table, each with the cases that have to fail. A name with a `*` stands for several edits."""
-    found = map(ROW.match, read(f"{TOP}/{PAGE}").split("\n"))
-    return [(bug, re.findall(r"`([^`]+)`", row[2])) for row in found if row for bug in (fnmatch.filter(EDITS, row[1]) or [row[1]])]
+    """The bugs of the table. A name with a `*` is that of several edits."""
+    found = filter(None, map(ROW.match, read(f"{TOP}/{PAGE}").split("\n")))
+    return [Row(bug, row[2], re.findall(r"`([^`]+)`", row[3])) for row in found for bug in (fnmatch.filter(EDITS, row[1]) or [row[1]])]
 
 
 def changed(bug):
@@ -187,22 +195,23 @@ def check_table():
     """Whether each edit fits the code, each edit of tests/cases/planted has a row, and each case of a row is there."""
     table, there = rows(), there_are()
     planted = ["planted: no case planted", "planted: there are 0 such edits"]
-    same("faults of a row that is planted", [*faults_of("planted", ["planted"], there)], planted)
-    faults = [f"{bug}: no row" for bug in sorted(EDITS.keys() - {bug for bug, _ in table})]
-    faults += [fault for row in table for fault in faults_of(*row, there)]
+    same("faults of a row that is planted", [*faults_of(Row("planted", "", ["planted"]), there)], planted)
+    faults = [f"{bug}: no row" for bug in sorted(EDITS.keys() - {row.bug for row in table})]
+    faults += [fault for row in table for fault in faults_of(row, there)]
     print(f"{PAGE} has {len(table)} bugs", *faults, sep="\n")
     return bool(faults) or not table
 
 
-def faults_of(bug, expected, there):
-    """What is wrong with a row of the table: cases that are not there, and an edit that does not fit."""
-    yield from (f"{bug}: no case {name}" for name in expected if name not in there)
-    if not expected:
-        yield f"{bug}: no case"
+def faults_of(row, there):
+    """What is wrong with a row of the table: cases that are not there, an edit that does not fit, and another place."""
+    yield from (f"{row.bug}: no case {name}" for name in row.cases if name not in there)
+    if not row.cases:
+        yield f"{row.bug}: no case"
     try:
-        changed(bug)
+        if not all(path.startswith(f"crates/{row.where}") for path in changed(row.bug)):
+            yield f"{row.bug}: not in {row.where}"
     except Fault as fault:
-        yield f"{bug}: {fault}"
+        yield f"{row.bug}: {fault}"
 
 
 def list_failing(bugs):
@@ -216,30 +225,30 @@ def list_failing(bugs):
             print(f"{bug}: {fault}", flush=True)
 
 
-def try_row(bug, names, there):
+def try_row(row, there):
     """Plants a bug: what is wrong, if not all cases fail that its row names."""
     try:
-        found = failing(bug, {name: there[name] for name in names})
+        found = failing(row.bug, {name: there[name] for name in row.cases})
     except (Fault, Failed) as fault:
         return str(fault)
-    passed = [name for name in names if name not in found] if names else ["no case is named"]
+    passed = [name for name in row.cases if name not in found] if row.cases else ["no case is named"]
     return "not found: " + ", ".join(passed) if passed else None
 
 
 def try_rows(table):
     """Plants the bugs, after the cases are played without one: whether all wanted cases fail, and without a bug none."""
     there = there_are()
-    wanted = {name: there[name] for _, names in table for name in names}
+    wanted = {name: there[name] for row in table for name in row.cases}
     faults = 0
     programs(set().union(*map(programs_of, wanted.values())))
     with ThreadPoolExecutor(SIDE_BY_SIDE) as pool:
         good = pool.submit(failed, GOOD, wanted)
-        tried = pool.map(lambda row: try_row(*row, there), table)
+        tried = pool.map(lambda row: try_row(row, there), table)
         passed = good.result()
         print(f"{len(wanted)} cases without a bug: {'failed: ' + ', '.join(passed) if passed else 'as expected'}", flush=True)
         faults += bool(passed)
-        for (bug, _), fault in zip(table, tried):
-            print(f"{bug}: {fault or 'found'}", flush=True)
+        for row, fault in zip(table, tried):
+            print(f"{row.bug}: {fault or 'found'}", flush=True)
             faults += bool(fault)
     print(f"{len(table)} bugs planted, {faults} faults")
     return faults
@@ -250,7 +259,7 @@ def main(words):
         return list_failing(words[1:])
     if words == ["-c"]:
         return check_table()
-    table = [row for row in rows() if not words or row[0] in words]
+    table = [row for row in rows() if not words or row.bug in words]
     return 1 if not table or try_rows(table) else 0
 
 
