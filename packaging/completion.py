@@ -1,9 +1,7 @@
 #!/usr/bin/env python3
-"""Makes the completion of bash and of zsh, of what the programs show as help: commands, options with what they mean, and files by kind.
+"""Makes the completion of bash and of zsh from the help of the programs: commands, options with what they mean, and files by kind.
 
 usage: packaging/completion.py FOLDER      writes v7.bash and _v7
-
-The meanings are those of the help.
 """
 import os
 import re

@@ -1,6 +1,6 @@
 #!/usr/bin/env python3
-"""Lays out what is installed: programs, manual, documents, as HTML too, examples, the pages of lessons, and completion; and puts it
-into its place. The packages of a release have the same, by packaging/dist.py.
+"""Lays out what is installed, and puts it into its place: programs, manual, documents, as HTML too, examples, the pages of lessons, and
+completion. The packages of a release have the same, by packaging/dist.py.
 
 usage: packaging/installed.py put BUILD FOLDER          what the programs of the folder BUILD come with, below FOLDER
        packaging/installed.py pages BUILD FOLDER        the pages of the lesson, in FOLDER

@@ -1,4 +1,4 @@
-"""Scripts that look at the code, the documents and the programs: README.md. The modules of other folders are found from here."""
+"""Scripts that test: README.md. Modules of packaging/ and examples/ are found from here."""
 import os
 import sys
 

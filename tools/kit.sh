@@ -1,6 +1,6 @@
 #!/bin/sh
-# Stops where the Rattle kit is missing, or is none of those that all proofs and tests have passed with: `kit.sh KIT...`.
-# With `any` every kit passes.
+# Fails if the Rattle kit is missing, or is none of those that all proofs and tests have passed with: `kit.sh KIT ..`. With `any` every
+# kit passes.
 set -u
 version=$(rt version 2>/dev/null) || {
     echo "The command rt of the Rattle kit is not on the PATH. The proofs and tests of v7 have passed with: $*." >&2

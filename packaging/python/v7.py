@@ -582,7 +582,7 @@ class _Run:
 
     def __init__(self, objects: Iterable[bytes], options: int, entry: str, forced: Iterable[str], wants: int,
                  call: Any = None, size: int = 0) -> None:
-        """Links objects, or by another call what has so many bytes: once, if it reports at most 2,000 names."""
+        """Links objects, or by another call what has this size: once, if it reports at most 2,000 names."""
         parts, call, most = _list(objects), call or _LIBRARY.v7_run, _LIBRARY.v7_most
         request, size = _asked(parts, options, entry, forced, wants), size + sum(map(len, parts))
         most.restype = ctypes.c_size_t

@@ -122,7 +122,7 @@ def path(word):
 
 
 def some_bytes(word):
-    """Bytes, the same bytes so many times, or words that count up."""
+    """Bytes, repeated bytes, or words that count up."""
     if b"*" in word:
         same, count = word.split(b"*")
         return some_bytes(same) * number(count)

@@ -235,7 +235,7 @@ def files_of(part):
 
 
 def play_states(part, place, directory):
-    """Plays the states before which so many commands come."""
+    """Plays the states that come after this number of commands."""
     for item in part.plans:
         if item.word == "state" and item.place == place:
             play_state(item, snapshot(directory))

@@ -1,4 +1,4 @@
-"""Runs commands under valgrind, and counts their instructions: what all counts of this project have in common.
+"""Runs commands under valgrind, and counts their instructions, for all counts of this project.
 
 A processor copies or clears many bytes by one `rep movsb` or `rep stosb`, and callgrind counts such an instruction once for each
 byte. So glibc is asked to use neither, by ENVIRONMENT. Only counts with the same setting can be compared.
@@ -56,7 +56,7 @@ def ended(command, folder=None):
 
 
 def milliseconds(command, folder=None, runs=60):
-    """The least time of a processor that a command takes in so many runs."""
+    """The least time of a processor that a command takes in a number of runs."""
     runs = [ended(command, folder)[0] for _ in range(runs)]
     return 1000 * min(used.ru_utime + used.ru_stime for used in runs)
 

@@ -1,10 +1,10 @@
-"""Counts, by valgrind, the bytes that the program asks for, and fails where it asks for more than it needs.
+"""Counts by valgrind the bytes that the program requests, and fails if they are more than it needs.
 
 tier: all, 20 seconds; programs: v7; for: crates/link_session crates/link_out; needs: valgrind
 
-No contract can say that a list has no more room than it needs where it grows by `reserve`. So objects of more and more
-words and names are listed and linked, and what one word and one name more cost is compared with the sizes of what is
-kept of them. Lists of one object have their room at once, so a list that has twice its room is seen.
+No contract can say that a list has no more room than it needs if it grows by `reserve`. So objects of more and more words and names are
+listed and linked, and what one more word and one more name cost is compared with the sizes of what is kept of them. The lists of one
+object have their room at once, so a list that has twice its room is seen.
 """
 import re
 import sys
@@ -24,14 +24,14 @@ SYMBOL = 12
 # its entry with name, state and hash, its place in the table of hashes, its head, a mark, its place among the multiply
 # defined, what becomes of it, and its name in the report
 NAME = 100
-# so many names fill a table of hashes, which has room for 7 eighths of a power of two
+# numbers of names that fill a table of hashes, which has room for 7 eighths of a power of two
 FEW, MANY = 1792, 3584
 # what a link of nothing asks for beside a list of sizes of nothing, at most
 FRAME = 10000
 
 
 def write_object(path, words, names):
-    """Writes an object of so many words of text, which are numbers, and of so many undefined names."""
+    """Writes an object with this number of words of text, which are numbers, and of undefined names."""
     write(path, pack([(0, 0)] * words, symbols=[(b"n%06d" % n, 0o40, 0) for n in range(names)]))
 
 

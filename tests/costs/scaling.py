@@ -34,7 +34,7 @@ CODE = [
 
 
 def names(first, count, kind=DEFINED):
-    """So many symbols with names of their own."""
+    """Symbols with names of their own, and this number as the first."""
     return [(f"n{number:05d}", kind, 0) for number in range(first, first + count)]
 
 
@@ -53,7 +53,7 @@ def reference(number):
 
 
 def text(count):
-    """So many words of instructions without relocation, in an order that is the same each time."""
+    """Words of instructions without relocation, in an order that is the same each time."""
     words, number = [], 1
     while len(words) < count:
         number = (number * 1103515245 + 12345) % 2**31
@@ -74,7 +74,7 @@ class Work:
         return name
 
     def of_names(self, count, most):
-        """Objects that define so many names in all."""
+        """Objects that together define this number of names."""
         return [self.object(f"n{first}.o", [], names(first, min(most, count - first))) for first in range(0, count, most)]
 
     def of_words(self, count):
@@ -90,51 +90,51 @@ class Work:
     # Each of these answers the command for a size, and the script that it reads; at size 0 the command without the work.
 
     def objects(self, size):
-        """Links so many objects of 100 words and 10 names."""
+        """Links `size` objects of 100 words and 10 names."""
         return self.link(*self.of_words(size))
 
     def names(self, size):
-        """Links objects with so many names, 3,840 in each."""
+        """Links objects with `size` names, 3,840 in each."""
         return self.link(self.object("first.o"), *self.of_names(size, 3840))
 
     def collisions(self, size):
-        """Links an object with so many names, whose look-ups all begin at the same place of the table."""
+        """Links an object with `size` names, whose look-ups all begin at the same place of the table."""
         return self.link(self.object("first.o"), self.object("collide.o", [], [(name, DEFINED, 0) for name in colliding()[:size]]))
 
     def references(self, size):
-        """Links so many words that refer to 100 names defined before."""
+        """Links `size` words that refer to 100 names defined before."""
         words = [reference(number % 100) for number in range(size)]
         return self.link(self.object("defines.o", [], names(0, 100)), self.object("refers.o", words, names(0, 100, WANTED)))
 
     def chains(self, size):
-        """Links so many words that wait for one name, which a later object defines."""
+        """Links `size` words that wait for one name, which a later object defines."""
         waits = self.object("waits.o", [reference(0)] * size, names(0, 1, WANTED))
         return self.link(waits, self.object("defines.o", [], names(0, 1)))
 
     def scripts(self, size):
-        """Adds an object to a session and withdraws it, so many times."""
+        """Adds an object to a session and withdraws it, `size` times."""
         path = self.object("added.o", [reference(0), (2, 2)], names(0, 1, WANTED))
         return self.session([f"add {path}", "withdraw"] * size)
 
     def nm(self, size):
-        """Lists so many symbols by name."""
+        """Lists `size` symbols by name."""
         return [self.v7, "nm", self.object("table.o", [], names(0, size)[::-1])], ""
 
     def listings(self, size):
-        """Lists so many words that refer to half as many names."""
+        """Lists `size` words that refer to half as many names."""
         words = [reference(number // 2) for number in range(size)]
         return [self.explain, self.object("listed.o", words, names(0, size // 2, WANTED))], ""
 
     def texts(self, size):
-        """Lists so many words of instructions."""
+        """Lists `size` words of instructions."""
         return [self.explain, self.object("text.o", text(size))], ""
 
     def maps(self, size):
-        """Maps the link of so many objects of 100 words and 10 names."""
+        """Maps the link of `size` objects of 100 words and 10 names."""
         return [self.explain, "-m", *self.of_words(size)], ""
 
     def mapped(self, size):
-        """Maps the link of one object of so many symbols, every other one a label, and of six words for each. A word leads to a label by
+        """Maps the link of one object of `size` symbols, every other one a label, and of six words for each. A word leads to a label by
         its address, and the next one to another symbol by its number, which has 12 bits in a relocation word."""
         labels, most = (size + 1) // 2, min(size, 4096) // 2
         words = [reference(2 * (7 * number % most) + 1) if number % 2 else (4 * (7 * number % labels), 2) for number in range(6 * size)]
@@ -142,7 +142,7 @@ class Work:
         return [self.explain, "-m", self.object("mapped.o", words, symbols)], ""
 
     def steps(self, size):
-        """Shows what each step of a lesson changes, with so many objects of 100 words and 10 names."""
+        """Shows what each step of a lesson changes, with `size` objects of 100 words and 10 names."""
         return [self.lesson, "-c", *self.of_words(size)], ""
 
 

@@ -1,4 +1,4 @@
-"""How scripts compare, and show that they can fail."""
+"""Comparing, and showing that a comparer can fail."""
 import contextlib
 import io
 import sys

@@ -1,4 +1,4 @@
-"""The folder of the repository, and files in it or in a folder that a script works in."""
+"""The folder of the repository, and reading and writing of files."""
 import contextlib
 import os
 import shutil

@@ -1,4 +1,4 @@
-"""The programs that are tested, and commands: the programs are in build/, or in the folder V7_BUILD."""
+"""Runs commands, and the programs that are tested: these are in build/, or in the folder V7_BUILD."""
 import importlib
 import os
 import subprocess

@@ -1,4 +1,4 @@
-"""What scripts read of sources in Rattle (`.rt`), of definitions (`.antt`), and of the list of crates: once for all."""
+"""Reads sources in Rattle (`.rt`), definitions (`.antt`), and the list of crates, for all scripts."""
 import os
 import re
 from typing import NamedTuple
@@ -9,7 +9,7 @@ from tests.lib.files import read
 FUNCTION = re.compile(r'^( *)(pub(?:\(\w+\))? )?(?:const |unsafe |extern "C" )*fn (\w+)', re.M)
 CLAUSE = re.compile(r"\s*(?:ensures|requires|invariant)\b")
 TEXT = re.compile(r'"(?:\\.|[^"\\])*"|\'(?:\\.[^\']*|[^\'\\])\'')
-# a definition: what says of which kind it is, its name, and what follows; and a constructor or a field
+# a definition: its kind, its name, and what follows; and a constructor or a field
 STATED = re.compile(r"^((?:(?:abbrev|unfoldable|record|data|def|rec|pub) +)*)([^\s({:]+)(.*)$")
 MEMBER = re.compile(r"^ +(?:pub )?([^\s:(){}=]+) :", re.M)
 

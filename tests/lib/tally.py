@@ -1,4 +1,4 @@
-"""What runs side by side: how far it is, what it says, and what failed."""
+"""Counts jobs that run side by side: how many are done, what they print, and which have failed."""
 import re
 import time
 from concurrent.futures import FIRST_COMPLETED, wait

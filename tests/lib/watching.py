@@ -1,5 +1,5 @@
-"""What a program asks the system for, and how the system refuses it. tests/lib/watch.c is loaded before the program, which has to be
-linked to the C library when it starts."""
+"""Lists what a program requests of the system, and has the system refuse some of it. tests/lib/watch.c is loaded before the program,
+which has to be linked to the C library when it starts."""
 import atexit
 import functools
 import os

@@ -139,7 +139,7 @@ ASKED = [
 
 
 def named(count, kind, start=0, **parts):
-    """An object with so many names, which begin with this number."""
+    """An object with this number of names, which begin at another number."""
     return v7.make(symbols=[(f"{n:08}", kind, 0) for n in range(start, start + count)], **parts)
 
 

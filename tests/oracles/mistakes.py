@@ -26,9 +26,9 @@ from tests.oracles.notes import DOUBT, checked, explained
 from tests.oracles.planting import MISTAKES, dice
 from tests.oracles.suspicions import BSS, DATA, EXTERNAL, KINDS, surely_wrong
 
-# so many lines at most are said of a file
+# the most lines that `-c` prints of a file
 MOST_LINES = 16
-# mistakes are planted in so many objects of each kind
+# the most objects of each kind in which mistakes are planted
 MOST_PLANTED = 100
 # the one whose fault a lesson asks about: its symbol counts from the beginning of data
 WRONG = "examples/total/low.o"

@@ -39,9 +39,9 @@ TAPE = re.compile(rb"(?s).{100}(?:[ 0-7]{6}..){3}(?:[ 0-7]{11}.){2}[ 0-7]{6}")
 SEGMENTS = {2: "text", 3: "data", 4: "bss"}
 # types of symbols, without the external bit
 TYPES = (0, 1, 2, 3, 4, 0o24, 0o37)
-# of bad relocation words, and of odd things, so many are shown one by one
+# the most bad relocation words, and the most odd things, that are shown one by one
 MOST = 16
-# of words of one kind that refer outside of its segment, so many have a line each; more have one
+# the most words of one kind that refer outside of its segment and have a line each; more have one together
 MOST_ALIKE = 4
 OUTSIDE = re.compile(r"the word( at \d+ is of kind (\w+) and refers to \d+; .*)")
 # what is odd of instructions; and what is said if more is odd than is shown
@@ -55,7 +55,7 @@ MEANT = ": a mistake, if this is not meant"
 COMMON = "rounded up to even"
 # what a session answers to a whole file that is not an object
 PROGRAMS_SAID = ("not an object", "no relocation")
-# so many files are cut
+# how many files are cut
 CUTS = 200
 MORE = re.compile(r"and (\d+) more that are odd$")
 dice = random.Random(42)
@@ -369,7 +369,7 @@ def lines_of(path, data):
 
 
 def inventory_of(path, data, odd):
-    """The line of a file in an inventory, unless it has the form of GNU's assembler. So many things are odd in it."""
+    """The line of a file in an inventory, unless it has the form of GNU's assembler. `odd` says how many things are odd in it."""
     kind_said, numbers, said = form(data)[1], ["-"] * 5, "-"
     if not has_no_magic(data):
         file = File(data)
@@ -465,7 +465,7 @@ def random_reloc(count):
 
 
 def random_file(text, data, magic=0o407, flag=0):
-    """A file of so many words, most of whose numbers are at the ends of segments."""
+    """A file of this number of words; most of its numbers are at the ends of segments."""
     bss = 2 * dice.randrange(5)
     edges = [0, 2 * text, 2 * (text + data), 2 * (text + data) + bss]
     count = dice.randrange(6)

@@ -1,4 +1,4 @@
-"""Tries the completion in bash, and in zsh where it is installed: commands, options with their meaning, and files by kind.
+"""Tries the completion in bash, and in zsh if it is installed: commands, options with their meaning, and files by kind.
 
 usage: python3 -m tests.programs.completion [FOLDER]      of the completion in this folder, or made now by packaging/completion.py
 

@@ -1,5 +1,5 @@
-"""Tries what no case can have of `v7-explain -l -R`: links, FIFOs, sockets, devices, names that are not UTF-8, folders that can't be read,
-and folders that are nested deeper than a path may be long; and that `v7-explain` opens none of the first four by their own paths.
+"""Runs `v7-explain -l -R` over what no case can have: links, FIFOs, sockets, devices, names that are not UTF-8, folders that can't be
+read, and folders that are nested deeper than a path may be long. `v7-explain` may open none of the first four by their own paths.
 
 tier: check, 3 seconds; programs: v7-explain; for: crates/v7_explain/src/folders.rt crates/surroundings
 """

@@ -1,4 +1,4 @@
-"""Looks at what is installed: no link of a document or a page is dead, and lines of prose have at most 100 columns.
+"""Checks what is installed: no link of a document or a page is dead, and lines of prose have at most 100 columns.
 
 usage: python3 -m tests.programs.installed look FOLDER      what is below this folder, or a file
        python3 -m tests.programs.installed            installs the programs by packaging/installed.py, as `make install` does, into a new

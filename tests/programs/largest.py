@@ -36,12 +36,12 @@ NAME = re.compile(r"^(?:[0-7]{6}|      ) [A-Z] (.*)$", re.M)
 # --- inputs
 
 def named(count, kind=WANTED, value=0, first=0):
-    """So many symbols with names of their own."""
+    """This number of symbols, each with a name of its own."""
     return [(b"n%05d\0\0" % number, kind, value) for number in range(first, first + count)]
 
 
 def file_of(text=0, data=0, symbols=(), relocs=(0,), word=NOP, bss=0, magic=0o407, flag=0):
-    """A file of so many equal words, whose relocation words take turns. Text of instructions ends with a return."""
+    """A file of equal words, whose relocation words take turns. Text of instructions ends with a return."""
     def relocated(count):
         return None if flag else [relocs[place % len(relocs)] for place in range(count)]
     words = [word] * (text - 1) + [RETURN] if text and word == NOP else [word] * text

@@ -1,5 +1,5 @@
-"""Refuses one request for memory after another to each program, alone and with all after it, and judges what comes of it. Of the calls of
-libv7 tests/libv7/c/calls.c does so.
+"""Refuses one request for memory after another to each program, alone and with all after it, and judges what comes of it.
+tests/libv7/c/calls.c does the same with the calls of libv7.
 
 usage: python3 -m tests.programs.memory [CALL ..]      all calls of the table, or these: 'v7 nm'
 tier: check, 90 seconds; programs: v7 v7-explain v7-object v7-from-gnu v7-lesson; for: crates/surroundings tests/lib/watch.c

@@ -1,5 +1,5 @@
-"""Looks that what documents, manual pages, code and scripts name is there: a file, a page of the manual, a heading, a target of make, a
-test. No link leads nowhere, and docs/README.md has a link to each document.
+"""Finds what documents, manual pages, code and scripts name and what is not there: a file, a page of the manual, a heading, a target of
+make, a test. A link has to lead to something, and docs/README.md has to have a link to each document.
 
 usage: python3 -m tests.texts.links [FILE ..]     all texts of the repository, or these
 tier: text, 4 seconds; for: docs README.md CONTRIBUTING.md CHANGES.md man examples crates include packaging tests tools Makefile

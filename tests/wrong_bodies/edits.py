@@ -1,9 +1,9 @@
-"""Looks whether each wrong body still fits the code: each text that it takes out is in its file exactly once.
+"""Checks that each wrong body still fits the code: each text that it takes out is in its file exactly once.
 
 A wrong body has a line 'file: PATH', with a path in the crate, and pairs of lines 'old: TEXT' and 'new: TEXT'. Each pair changes what the
-earlier ones left. The gate has the prover refuse the files *.edit in must-fail/ of each crate. The further ones of a crate are records
-of its file wrong-bodies, with a blank line between two: each begins with the lines 'name: NAME' and 'does: SENTENCE', which is what it
-would do to a user. `make check-wrong-bodies` has the prover refuse all.
+earlier ones left. The gate has the prover refuse the files *.edit in must-fail/ of each crate. The file wrong-bodies of a crate has more,
+as records with a blank line between two. Each begins with the lines 'name: NAME' and 'does: SENTENCE', which is what it would do to a
+user. `make check-wrong-bodies` has the prover refuse all.
 
 tier: text, 1 seconds; for: crates
 """
