@@ -91,8 +91,8 @@ def passes(*words, env=None):
 
 
 def is_there(tool):
-    """Whether a tool is there, and with a compiler the headers of the C library: Debian has gcc without these. A module may be the system's,
-    by which the test of the page goes on if another Python comes first."""
+    """Whether a tool is there, and with a compiler the headers of the C library: Debian has gcc without these. A module may be that of the
+    system's Python, by which the test of the page goes on if another one comes first."""
     if tool in ("venv", "selenium"):
         pythons = [sys.executable, *filter(os.path.exists, ["/usr/bin/python3"])]
         return any(ran(python, "-c", f"import {tool}").status == 0 for python in pythons)

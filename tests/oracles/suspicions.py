@@ -285,8 +285,8 @@ def wrong_uses(file, place):
 
 
 def wrong_external(file, at, goes, beyond):
-    """What is wrong with an operand word that refers to a number of bytes beyond an external. What is called begins at its name; the value of
-    a common, which is undefined, is the number of its bytes."""
+    """What is wrong with an operand word that refers to a number of bytes beyond an external. What is called begins at its name; the value
+    of a common, which is undefined, is the number of its bytes."""
     number = file.relocation[at] >> 4
     _, kind, value = file.symbols[number] if number < len(file.symbols) else (b"", 0o40, 0)
     size = value if kind & 0o77 == 0o40 else 0
