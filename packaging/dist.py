@@ -22,7 +22,7 @@ from typing import NamedTuple
 
 sys.path.insert(1, os.path.dirname(os.path.dirname(os.path.abspath(__file__))))
 from tests.lib.files import TOP, read, read_bytes, write  # noqa: E402
-from tests.lib.programs import PROGRAMS  # noqa: E402
+from tests.lib.programs import PROGRAMS, ran  # noqa: E402
 from tests.lib.rattle import below, crates_in  # noqa: E402
 import backend  # noqa: E402
 import installed  # noqa: E402
@@ -110,13 +110,9 @@ def shared(place):
 # --- what comes with them
 
 def debian(*names):
-    """The versions of packages of Debian, where there are any."""
-    versions = []
-    for name in names:
-        ran = subprocess.run(["dpkg-query", "-W", "-f", "${Package} ${Version}", name], stdout=subprocess.PIPE,
-                             stderr=subprocess.DEVNULL, text=True, check=False)
-        versions += [ran.stdout] if ran.returncode == 0 else []
-    return ", ".join(versions) or "not known"
+    """The versions of those of these packages of Debian that are installed."""
+    versions = ran("dpkg-query", "-W", "-f", "${Package} ${Version}\n", *names).texts()[1]
+    return ", ".join(versions.splitlines()) or "not known"
 
 
 def major():

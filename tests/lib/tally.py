@@ -25,14 +25,13 @@ class Tally:
     def far(self):
         return f"{len(self.lines) + len(self.failed)} of {len(self.jobs)}, {time.monotonic() - self.begun:.0f} seconds"
 
-    def take(self, name, result):
+    def take(self, job):
         try:
-            line = result()
-            self.lines.append(line)
-            print(f"{self.far()}: {name}: {line}", flush=True)
+            self.lines.append(job.result())
+            print(f"{self.far()}: {self.jobs[job]}: {self.lines[-1]}", flush=True)
         except Failed as failed:
-            self.failed.append(name)
-            print(f"{self.far()}: FAILED: {name}\n{str(failed).rstrip()}", flush=True)
+            self.failed.append(self.jobs[job])
+            print(f"{self.far()}: FAILED: {self.jobs[job]}\n{str(failed).rstrip()}", flush=True)
 
     def take_all(self):
         """Takes each result as it comes, and returns the status to end with. What runs is printed if nothing comes for a while."""
@@ -40,7 +39,7 @@ class Tally:
         while left:
             done, left = wait(left, SECONDS_SILENT, FIRST_COMPLETED)
             for job in done:
-                self.take(self.jobs[job], job.result)
+                self.take(job)
             if not done:
                 print(f"{self.far()}; now {', '.join(self.busy())}", flush=True)
         if self.failed:

@@ -145,13 +145,13 @@ def other_internals():
                 faults.append(f"{path} imports {name}, of the internals of {crate}")
 
 
-def led_to(starts, left_out=LEFT_OUT):
+def led_to(starts):
     """How many lines of definitions some names lead to, by file."""
     reached, waiting = {}, list(starts)
     while waiting:
         crate, module, name = waiting.pop()
         path = path_of(crate, module)
-        if not os.path.exists(path) or (crate, module, name) in left_out:
+        if not os.path.exists(path) or (crate, module, name) in LEFT_OUT:
             continue
         known, scope = in_file(path)
         places = {own: place for place, it in enumerate(known) for own in it.names}
