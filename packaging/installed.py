@@ -202,7 +202,7 @@ def put(build, to, has_html=None, made=()):
 # --- into its place
 
 def copy(stage, dest, prefix):
-    """Copies with modes of its own, whatever the mask is, and notes each file and each folder that was not there. A package, which is made
+    """Copies files with fixed modes, whatever the file mask is, and notes each file, and each folder that is new. A package, which is made
     in a folder `dest`, has no such note."""
     root = os.path.abspath(dest + prefix)
     noted = [*read(f"{root}/{NOTED}").split("\n")[:-1]] if os.path.exists(f"{root}/{NOTED}") else []
@@ -233,7 +233,7 @@ def copy(stage, dest, prefix):
 
 
 def remove(prefix):
-    """Takes away the files that were noted, and the folders that were made for them and are empty now."""
+    """Removes the files that were noted, and the folders that were made for them and are empty now."""
     root = os.path.abspath(prefix)
     if not os.path.exists(f"{root}/{NOTED}"):
         sys.exit(f"{root}/{NOTED} is not there: nothing was installed")

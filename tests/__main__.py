@@ -1,4 +1,4 @@
-"""Runs tests, the cheapest first, and tells which tests a change concerns.
+"""Runs tests, the cheapest first, and lists those that a change concerns.
 
 usage: python3 -m tests NAME ..          tests, all of a folder (`oracles`), or all of a tier: `text`, `test`, `check` or `all`
        python3 -m tests list             all tests by tier, with their seconds, and the programs that they run
@@ -166,8 +166,8 @@ def check_itself():
 
 
 def commit():
-    """The commit of which all files are; nothing if one has changed, but for the digests that a test of wrong bodies writes, or without
-    git or its folder."""
+    """The commit that the files are of; nothing without git, or if one has changed, but for the digests that a test of wrong bodies
+    writes."""
     if not shutil.which("git"):
         return ""
     changed = ran("git", "status", "--porcelain", "--", ".", ":!tests/wrong_bodies/wrong-bodies.seen")
@@ -249,7 +249,7 @@ def run_unproved(tests):
 # --- which tests and crates a change concerns
 
 def concern(path, test):
-    """Why a change of a file concerns a test, or nothing: it was made for it, uses the script, or runs a program that has the crate."""
+    """Why a change of a file concerns a test: it was made for the file, imports the script, or runs a program that has the crate."""
     if any(f"{path}/".startswith(f"{it.rstrip('/')}/") for it in [test.path, *test.words("for")]):
         return "made for it"
     if path.endswith(".py"):
@@ -315,7 +315,7 @@ def which(*paths):
 
 
 def named(tests, word):
-    """The tests of a tier, a folder or a name. What takes hours is named by its tier, or by its name if no other test has this."""
+    """The tests of a tier, a folder or a name. One of the tier `all` is chosen by a folder or a name only if no other test is."""
     own = [it for it in tests if it.name == word]
     found = [it for it in tests if word in (it.name, it.title(), it.path.split("/")[-2])]
     found = [it for it in tests if it.tier == word] or [it for it in found if it.tier != "all" or own == [it]] or found

@@ -248,9 +248,9 @@ class Map(NamedTuple):
 
 
 class Remark(NamedTuple):
-    """A remark on a file: one of REMARK_SHORT_HEADER to REMARK_ABSOLUTE_TEXT, the byte of the file, and the text; and the part that the
-    byte is in, or that its relocation word belongs to, with the index of the word, text before data, or the number of the symbol. A byte
-    that is elsewhere has the part 0."""
+    """A remark on a file: one of REMARK_SHORT_HEADER to REMARK_NO_END, the byte of the file, and the text; and the part that the byte is
+    in, or that its relocation word belongs to, with the index of the word, text before data, or the number of the symbol. A byte that is
+    elsewhere has the part 0."""
 
     kind: int
     byte: int
@@ -517,7 +517,7 @@ def from_gnu(data: bytes, options: int = 0) -> bytes:
 
 
 def remarks(data: bytes) -> List[Remark]:
-    """What is wrong and odd in a file, as `v7-explain` tells it.
+    """What is wrong and odd in a file, as `v7-explain` reports it.
 
     >>> for remark in remarks(b"\\7\\1"):
     ...     print(remark.kind == REMARK_SHORT_HEADER, remark.byte, remark.text)

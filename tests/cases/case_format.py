@@ -16,8 +16,7 @@ class Mistake(Exception):
 
 @dataclass
 class Item:
-    """A line with a word at the front, what it has after the word, and its `|` lines; and how many commands of its part come before
-    it."""
+    """A line that begins with a word: its arguments, its `|` lines, and how many commands of its part come before it."""
     line: int
     word: str
     arguments: tuple
@@ -27,7 +26,7 @@ class Item:
 
 @dataclass
 class Step:
-    """A command, what it reads, and what is to come of it. Each text has its line, and so have the requests."""
+    """A command, its input, and what has to come of it. Each text has its line, and so have the requests."""
     line: int
     words: list
     given: list = field(default_factory=list)

@@ -63,7 +63,7 @@ class Row(NamedTuple):
 
 
 def rows_of(table, runs):
-    """The rows of a table of tests/programs/largest.py: for each what plays it, and the programs that it runs, as a case has them."""
+    """The rows of a table of tests/programs/largest.py: for each its command, and the programs that it runs, as a case has them."""
     return {f"largest.py: {name}, {kind}": (["tests.programs.largest", f"{name}, {kind}"], runs(name))
             for name, _, kinds in table for kind in kinds}
 

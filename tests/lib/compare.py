@@ -25,8 +25,8 @@ def same(what, found, wanted):
 
 
 def notices(comparer, *given):
-    """Gives a comparer something with a difference, which is planted: it has to raise. What it prints is not shown. Each script that
-    compares calls this once a run, so a comparer that always agrees cannot stay."""
+    """Gives a comparer a planted difference: it has to raise. What it prints is not shown. Each script that compares calls this once a run,
+    so that a comparer which always agrees is found."""
     with contextlib.redirect_stdout(io.StringIO()):
         try:
             comparer(*given)

@@ -42,7 +42,7 @@ def depth(lines):
 
 
 def items(text):
-    """The items at the left of a source, each as its lines, without its tests, and without attributes and comments before them."""
+    """The items of a source that begin at the left margin, each as its lines, without tests, attributes and comments."""
     item = []
     for line in re.sub(r"#\[cfg\(test\)\].*", "", text, flags=re.S).split("\n"):
         if item or line and not line.startswith(("#", "//", " ", "}")):

@@ -15,7 +15,7 @@ FIRST = b"open /"
 
 
 class NotWatched(Exception):
-    """Why a program cannot be watched."""
+    """The reason why a program cannot be watched."""
 
 
 def is_memory(request):
@@ -40,8 +40,8 @@ class Watch:
     """Watches one run of a program."""
 
     def __init__(self, plans):
-        """Each plan is `refuse` and a request, or `read` or `write`, a file, and after how many bytes that fails. The request for memory
-        of number 7 is `memory 7`, and `memory 7..` has all after it too."""
+        """Each plan is `refuse` and a request, or `read` or `write`, a file, and after how many bytes that fails. The seventh request for
+        memory is `memory 7`, and with all after it `memory 7..`."""
         self.library = compiled()
         self.list = os.path.join(os.path.dirname(self.library), f"list{os.getpid()}")
         self.plans, self.refused, self.granted = [self.lines_of(*plan) for plan in plans], [], []
@@ -63,8 +63,8 @@ class Watch:
         return {"LD_PRELOAD": self.library, "WATCH_LIST": self.list, "WATCH_PLAN": b"".join(word + b"\n" for word in lines)}
 
     def requests(self):
-        """The requests in order. Equal reads or writes that follow each other are one, and reads of standard input are left out. Those
-        for memory that were refused are then in `refused`, and the last before all are, in `granted`."""
+        """The requests in order. Equal reads or writes that follow each other are one, and reads of standard input are left out. Afterwards
+        `refused` has the requests for memory that were refused, and `granted` the last one before all are."""
         if not os.path.exists(self.list):
             raise NotWatched("tests/lib/watch.c is not loaded")
         lines = read_bytes(self.list).split(b"\n")[1:-1]

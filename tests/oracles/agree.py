@@ -487,7 +487,7 @@ def merged_of(objects, forced):
 
 
 def by_model(merged, arguments):
-    """What three calls have to give for a link: the status, the file and the report's lines, the same, and its names with their objects."""
+    """What the calls of `by_library` have to give for a link."""
     try:
         link = model.Link(merged, arguments)
     except model.Refused as refused:
@@ -531,8 +531,8 @@ def each_call(*calls):
 
 
 def by_library(by, *given, **asked):
-    """What the library, or a session of it, gives for a link, by the calls that give the report as lines, as names, and as names with their
-    objects."""
+    """What the library, or a session of it, gives for a link by three calls: the status, the file and the report's lines; the same, made of
+    the names of the report; and these names with their objects."""
     return each_call(
         lambda: by.link(*given, **asked),
         lambda: found_lines(by.link_findings(*given, **asked)),

@@ -459,7 +459,7 @@ def in_listing(padded):
 
 
 def without_notes(text):
-    """The lines of a text but for the notes. These begin with a slash, and so does a row that counts those as the row before it."""
+    """The lines of a text without the notes. These begin with a slash, as does the row that counts repetitions of the row before it."""
     return [line for line in text.split("\n")[:-1] if not line.startswith("/") or " the row before, " in line]
 
 

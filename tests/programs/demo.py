@@ -14,7 +14,7 @@ from tests.lib.programs import program, ran
 
 
 def session():
-    """Plays the session, and returns its answers. The answer to a line is what a session with this line says more than one without it."""
+    """Plays the session, and returns its answers. The answer to a line is what the session prints more than without this line."""
     print("$ v7 session", flush=True)
     lines, answers = read("session.txt").splitlines(keepends=True), ""
     for count, line in enumerate(lines, 1):

@@ -34,8 +34,8 @@ NO_MEMORY = FAULTS["memory"].encode() + b"\n"
 
 @dataclass
 class Call:
-    """A command, the files that it needs, and what it reads. Its answer for a file begins as `begins` says; without that, all of its
-    answer is one."""
+    """A command, the files that it needs, and its input. Each answer for a file begins as `begins` has it. Without that there is one
+    answer."""
     name: str
     words: list
     files: dict
@@ -195,8 +195,8 @@ class Session(Command):
 
 
 def refuse_each(player, judge, rest):
-    """Refuses one request after another, and with `..` all after it: how many there are, how many runs came out as if nothing had been
-    refused, and what was wrong in others."""
+    """Refuses one request after another, and with `..` all after it. Returns how many there are, how many runs came out as if nothing had
+    been refused, and what was wrong in others."""
     number, alike, last, faults = 1, 0, None, []
     while (came := player.run(number=number, rest=rest)).was_refused:
         try:
@@ -216,7 +216,7 @@ def refuse_each(player, judge, rest):
 
 
 def refuse_all(player):
-    """Refuses one request after another, alone and with all after it: what `refuse_each` answers of the first, and what was wrong."""
+    """Refuses one request after another, alone and with all after it. Returns what `refuse_each` does, with all that was wrong."""
     judge = (Session if player.call.script else Command)(player)
     if not player.call.script:
         notices(judge.place, judge.whole)

@@ -43,8 +43,8 @@ def c_types(kind):
 
 
 def expanded(fields, known):
-    """Names and types of the code as pairs of C. A slice of bytes is one field where the header has `struct v7_slice`; a second field has
-    any name."""
+    """Names and types of the code as pairs of C. A slice of bytes is one field if the header has `struct v7_slice` there. The size of
+    another slice is a field of any name."""
     found = []
     for name, kind in fields:
         first, *size = c_types(kind)

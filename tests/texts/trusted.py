@@ -69,7 +69,7 @@ def imports(text):
 
 
 def exported(crate):
-    """The modules of a crate that are public, and the names that its root gives out of others; of a program, its `perform`."""
+    """The public modules of a crate, and the names that its root exports from others; of a program, its `perform`."""
     if os.path.exists(f"crates/{crate}/src/main.rt"):
         return set(), {"program": {"perform"}}
     text = read(f"crates/{crate}/src/lib.rt")
@@ -82,8 +82,8 @@ def exported(crate):
 
 @functools.lru_cache(None)
 def contracts(crate):
-    """The contracts of a crate: of each function, and of what contracts see of a type, the source, the name, whether it is public, and each
-    definition that it cites with where that is from."""
+    """The contracts of a crate, and what contracts see of a type: for each the source, the name, whether it is public, and each definition
+    that it cites, with the place of that."""
     found, (modules, names) = [], exported(crate)
     for path in sorted(glob.glob(f"crates/{crate}/src/**/*.rt", recursive=True)):
         module, text = path.split("/src/")[1][:-3], read(path)

@@ -68,7 +68,7 @@ def pairs(text):
 
 
 def changed(changes, folder, texts=None):
-    """The texts of the files that the changes lead to, by path in the crate's folder, beginning with those that are given."""
+    """The texts of the files after the changes, by path in the crate's folder. Texts that are given are changed further."""
     texts = dict(texts or {})
     for file, old, new in changes:
         if file not in texts:

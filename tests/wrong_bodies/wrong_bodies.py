@@ -387,7 +387,7 @@ class Trial:
             self.end(edit, "refused only for its shape: change a value, and keep the names", line)
 
 def has_libraries(crates, place):
-    """Has `rt lib` prove libraries, lowest first, or find them proved, as after the gate, and names them in a folder. Whether all are."""
+    """Has `rt lib` prove libraries, lowest first, unless they are proved, and links them in a folder. Whether all are proved."""
     for crate in crates:
         done = run(["rt", "lib"], f"crates/{crate.name}")
         if done.returncode:
@@ -426,8 +426,8 @@ def note(passed):
 
 
 def try_edits(names, jobs, only, until):
-    """Tries the edits of crates, or only some, once the libraries below are proved; no copy begins after a time. The trials, and whether
-    all edits are refused, by crate."""
+    """Tries the edits of crates, or only some, once the libraries below are proved. No copy begins after a time. Returns the trials, and
+    whether all edits are refused, by crate."""
     with tempfile.TemporaryDirectory(prefix="wrong-bodies-") as place:
         kit, crates = prove.Kit(place), {it.name: it for it in prove.crates_under(*names)}
         needed = {below for name in names for below in crates[name].below}
@@ -441,8 +441,8 @@ def try_edits(names, jobs, only, until):
 
 
 def whole(names, jobs, only, most):
-    """Tries the edits of crates, or only some, for some minutes at most, and prints a summary. The digests of the crates whose edits are
-    all refused, and whether none of those tried was not."""
+    """Tries the edits of crates, or only some, for some minutes at most, and prints a summary. Returns the digests of the crates whose edits
+    are all refused, and whether each edit that was tried is refused."""
     was = {name: digest(name) for name in names}
     begun = time.monotonic()
     trials, passed = try_edits(names, jobs, only, begun + 60 * most)
