@@ -406,8 +406,8 @@ def remains(data):
 
 
 def compare_remains(path, data, listing):
-    """The rows and the last line of a listing are those of `remains`. After the columns of a row comes a remark, which does not begin with a
-    number."""
+    """The rows and the last line of a listing are those of `remains`. After the columns of a row comes a remark, which does not begin with
+    a number."""
     rows, last = remains(data)
     lines, part, found = listing.splitlines(), "", []
     for line in lines[:-1]:

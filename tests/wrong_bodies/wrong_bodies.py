@@ -441,8 +441,8 @@ def try_edits(names, jobs, only, until):
 
 
 def whole(names, jobs, only, most):
-    """Tries the edits of crates, or only some, for some minutes at most, and prints a summary. Returns the digests of the crates whose edits
-    are all refused, and whether each edit that was tried is refused."""
+    """Tries the edits of crates, or only some, for some minutes at most, and prints a summary. Returns the digests of the crates whose
+    edits are all refused, and whether each edit that was tried is refused."""
     was = {name: digest(name) for name in names}
     begun = time.monotonic()
     trials, passed = try_edits(names, jobs, only, begun + 60 * most)
