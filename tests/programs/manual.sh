@@ -55,11 +55,6 @@ commands() {
         { print >name("shown") }'
 }
 
-# whether what came is not what is shown
-differs() {
-    ! diff "$1" "$2"
-}
-
 # runs them in a copy of examples
 run() {
     rm -rf "$work/build" "$work/examples"
@@ -84,11 +79,7 @@ run() {
         eval "$line" <"$part.input" >"$part.came" 2>&1
         status=$?
         ran=$((ran + 1))
-        if differs "$part.shown" "$part.came" >"$part.diff"; then
-            echo "$1: $line"
-            cat "$part.diff"
-            failed=1
-        fi
+        diff "$part.shown" "$part.came" >"$part.diff" || { echo "$1: $line"; cat "$part.diff"; failed=1; }
     done
     cd "$top" || exit 2
 }
@@ -109,7 +100,7 @@ lint() {
 failed=0
 count=0
 echo planted >"$work/planted"
-differs "$work/planted" /dev/null >/dev/null || { echo "a planted difference is not reported"; exit 1; }
+! diff "$work/planted" /dev/null >/dev/null || { echo "a planted difference is not reported"; exit 1; }
 skipped=0
 for page in man/*.[1-9]; do
     [ ! -e "$page" ] || formats "$page"

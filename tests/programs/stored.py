@@ -6,9 +6,8 @@ tier: test, 3 seconds; programs: v7 v7-explain v7-object v7-from-gnu v7-lesson l
  for: crates/v7_explain crates/v7_lesson crates/library_uses
 """
 import os
-import sys
 
-from tests.lib.compare import Differs, notices, same
+from tests.lib.compare import notices, same
 from tests.lib.files import TOP, new_folder, read_bytes
 from tests.lib.programs import program, ran
 from tools.compiling import CRATES
@@ -25,26 +24,16 @@ def compare(crate, done):
     same(f"crates/{crate}/status, with {done.err!r}", done.status, int(stored(crate, "status") or 0))
 
 
-def differs(name, crate):
-    """Runs a program as it is stored, and whether another output or status came."""
-    data = f"crates/{crate}/data"
-    with new_folder(data if os.path.isdir(f"{TOP}/{data}") else ""):
-        done = ran(program(name), *stored(crate, "args").decode().splitlines(), given=stored(crate, "stdin"))
-    notices(compare, crate, done._replace(out=b"planted" + stored(crate, "stdout")))
-    notices(compare, crate, done._replace(out=stored(crate, "stdout"), status=3))
-    try:
-        compare(crate, done)
-    except Differs as difference:
-        print(difference)
-        return True
-    return False
-
-
 def main():
-    differing = [name for name, crate in CRATES.items() if differs(name, crate)]
-    print(f"{len(CRATES)} stored runs compared{': not as stored: ' * bool(differing)}{', '.join(differing)}")
-    return 1 if differing else 0
+    for name, crate in CRATES.items():
+        data = f"crates/{crate}/data"
+        with new_folder(data if os.path.isdir(f"{TOP}/{data}") else ""):
+            done = ran(program(name), *stored(crate, "args").decode().splitlines(), given=stored(crate, "stdin"))
+        notices(compare, crate, done._replace(out=b"planted" + stored(crate, "stdout")))
+        notices(compare, crate, done._replace(out=stored(crate, "stdout"), status=3))
+        compare(crate, done)
+    print(f"{len(CRATES)} stored runs compared")
 
 
 if __name__ == "__main__":
-    sys.exit(main())
+    main()

@@ -205,23 +205,18 @@ class Terminal:
         return rest, plain(output or b""), plain(error or b""), self.process.returncode
 
 
-def at_terminal(words):
-    """What standard error shows at a terminal, what standard output gives to a pipe, and the status."""
-    shown, output, _, status = Terminal(words, (0, 2)).ended()
+def at_terminal(words, streams=(0, 2)):
+    """What standard error shows at a terminal, what standard output gives to a pipe, and the status. Any other input is empty."""
+    terminal = Terminal(words, streams)
+    if 0 not in streams:
+        terminal.give(b"")
+    shown, output, _, status = terminal.ended()
     return shown, output, status
 
 
 def through_pipes(words, script=b""):
     status, out, err = ran(program("v7"), *words, given=script, seconds=SECONDS)
     return plain(err), plain(out), status
-
-
-def without_input(words):
-    """Standard error is a terminal, and standard input is empty."""
-    terminal = Terminal(words, (2,))
-    terminal.give(b"")
-    shown, output, _, status = terminal.ended()
-    return shown, output, status
 
 
 # --- help and version
@@ -314,7 +309,7 @@ def check_random():
     for _ in range(RANDOM_LINES):
         words = [choice.choice(TOOLS)] + [choice.choice(WORDS) for _ in range(choice.randrange(1, 6))]
         error, output, status = through_pipes(words)
-        shown, shown_output, shown_status = without_input(words)
+        shown, shown_output, shown_status = at_terminal(words, (2,))
         is_usage = error == "v7: usage\n"
         refused += is_usage
         same(f"{words}: output and status", (shown_output, shown_status), (output, status))
