@@ -51,10 +51,6 @@ SECONDS = "300"
 SIDE_BY_SIDE = len(os.sched_getaffinity(0))
 
 
-class Fault(Exception):
-    pass
-
-
 class Row(NamedTuple):
     """A bug, where it is below crates, and the cases that have to fail with it."""
     bug: str
@@ -89,12 +85,12 @@ def changed(bug):
     own = [body.text for body in edits.edits_of(crate) if body.name == name]
     found = own if crate else [read(EDITS[name])] if name in EDITS else []
     if len(found) != 1:
-        raise Fault(f"there are {len(found)} such edits")
+        raise Failed(f"there are {len(found)} such edits")
     start = f"crates/{crate}" if crate else "."
     try:
         files = edits.changed(edits.pairs(found[0]), start)
     except edits.Misfit as misfit:
-        raise Fault(str(misfit)) from None
+        raise Failed(str(misfit)) from None
     return {os.path.normpath(f"{start}/{path}"): text for path, text in files.items()}
 
 
@@ -127,7 +123,7 @@ def failed(folder, texts):
 def script_fails(folder, words):
     done = ran(sys.executable, "-m", *words, cwd=TOP, env={**os.environ, "LIBV7": os.path.join(folder, "libv7.so"), "V7_BUILD": folder})
     if not PRINTED.search(done.said()):
-        raise Fault(done.said())
+        raise Failed(done.said())
     return done.status != 0
 
 
@@ -141,7 +137,7 @@ def cases_that_fail(folder, texts):
         said = ran(sys.executable, "-m", "tests.cases.cases", file.name, cwd=TOP, env=environment).said()
     names = re.findall(r"^ok (\w+)", said, re.M) + re.findall(rf"^{file.name}:\d+: (\w+): ", said, re.M)
     if sorted(names) != sorted(texts) or re.search(r": build/\S+ is missing$", said, re.M):
-        raise Fault(said)
+        raise Failed(said)
     return [name for name in texts if not re.search(rf"^ok {name}$", said, re.M)]
 
 
@@ -210,7 +206,7 @@ def faults_of(row, there):
     try:
         if not all(path.startswith(f"crates/{row.where}") for path in changed(row.bug)):
             yield f"{row.bug}: not in {row.where}"
-    except Fault as fault:
+    except Failed as fault:
         yield f"{row.bug}: {fault}"
 
 
@@ -226,7 +222,7 @@ def try_row(row, there):
     """Plants a bug: what is wrong, if not all cases fail that its row names."""
     try:
         found = failing(row.bug, {name: there[name] for name in row.cases})
-    except (Fault, Failed) as fault:
+    except Failed as fault:
         return str(fault)
     passed = [name for name in row.cases if name not in found] if row.cases else ["no case is named"]
     return "not found: " + ", ".join(passed) if passed else None
