@@ -41,10 +41,6 @@ def asked(*words):
     return subprocess.run(words, stdout=subprocess.PIPE, check=True, text=True).stdout.strip()
 
 
-def first_line(*words):
-    return asked(*words).split("\n")[0]
-
-
 def digest(path):
     return hashlib.sha256(read_bytes(path)).hexdigest()
 
@@ -132,8 +128,8 @@ def provenance(release, place):
         f"Commit     {release.commit}{'' if release.is_clean else ', with changes that are not committed'}",
         f"Date       {formatdate(release.date)}, of the commit",
         f"Kit        {release.kit_version}",
-        f"Compiler   {first_line('cc', '--version')}",
-        f"Linker     {first_line('ld', '--version')}",
+        f"Compiler   {asked('cc', '--version').splitlines()[0]}",
+        f"Linker     {asked('ld', '--version').splitlines()[0]}",
         f"Packages   {debian('libc6-dev', f'gcc-{major()}', 'binutils', 'dpkg', 'cmark-gfm', 'mandoc')}\n",
         "The prover ended with these lines, one for each crate that a program or libv7 contains. `functions` is the number of",
         "functions that were proved, and `sum` the logic:\n",
@@ -363,11 +359,6 @@ def debian_packages(release, place, root):
     return names
 
 
-def wheel(place):
-    """The wheel of Python, in dist. Its name."""
-    return asked(sys.executable, "packaging/python/backend.py", "dist", shared(place))
-
-
 def main(words):
     if words not in ([], ["--kept"]):
         sys.exit(__doc__)
@@ -390,7 +381,8 @@ def main(words):
         tree(release, place, f"{place}/deb", "/usr", f"/{LIBDIR}")
         os.renames(f"{place}/deb/usr/share/zsh/site-functions", f"{place}/deb/usr/share/zsh/vendor-completions")
         config(f"{place}/deb/{LIBDIR}/pkgconfig/v7.pc", "/usr", f"/{LIBDIR}")
-        names += [*debian_packages(release, place, f"{place}/deb"), wheel(place)]
+        names += debian_packages(release, place, f"{place}/deb")
+        names.append(backend.build_wheel("dist", {"library": shared(place)}))
     write("dist/SHA256SUMS", "".join(f"{digest(f'dist/{name}')}  {name}\n" for name in names))
     print(read("dist/SHA256SUMS"), end="")
 

@@ -181,11 +181,8 @@ class File:
             if relocation & 1:
                 return self.referred(relocation, address)
             return self.exact(2, address) if relocation & 0o16 == 0 else None
-        if relocation & 1:
-            return None
-        if relocation & 0o16 == 0 and not (register == 7 and mode == 3):
-            return None
-        return self.referred(relocation, word)
+        is_plain = relocation & 1 or relocation & 0o16 == 0 and (register, mode) != (7, 3)
+        return None if is_plain else self.referred(relocation, word)
 
     def target(self, address):
         name = self.exact(2, address) if self.relocation is not None else self.located(address, True)
