@@ -12,11 +12,9 @@ the gate left them, and over what `rt check` of the crate left, or else its earl
 the prover refuses the function itself. If it only says that the function calls another one that is not proved, the edit goes into a
 later copy without the edits of that one. An edit outside of functions, as of a constant or a definition, has a copy for itself.
 
-It is an error if an edit does not fit its crate, if the prover cannot read the text that it makes, if its function is proved,
-or if the function is refused for what it calls alone. It is an error too if the function is refused only for its shape: the
-proof names a goal or a step that is gone, so another goal may lack its answer. Then the script checks the function with the edit and
-without it, both times without what is written of its proof. The refusal counts if the edit has a goal open and the right body none
-of its kind: of a clause at any return, or else of its name.
+It is an error if an edit does not fit its crate, if the prover cannot read the text that it makes, if its function is proved, or if the
+function is refused for what it calls alone. CONTRIBUTING.md, "When a refusal shows nothing", has what is judged if it is refused only for
+its shape. A goal is of the same kind as another one if it is of the same clause at any return, or else has its name.
 
 N copies are checked side by side, two if it is not given. The last line has how many edits are refused, and the minutes.
 """
