@@ -112,7 +112,7 @@ def missing(tests):
     return [it for it in needed(tests) if not is_there(it)]
 
 
-def tell_needs(tests, tier=""):
+def print_needs(tests, tier=""):
     """Prints Debian's packages that a tier and those before it need, and that are missing; or all that each tier needs."""
     for name in [] if tier else TIERS:
         print(f"{name}: make python3", *map(package, needed([test for test in tests if test.tier == name])))
@@ -260,7 +260,7 @@ def concern(path, test):
     return f"runs {' '.join(sorted(own))}" if own else ""
 
 
-def tell_crate(name):
+def print_crate(name):
     """What to do in a crate, and the crates that are proved again after it."""
     crates = {it.name: it for it in crates_under(*crates_in(TOP))}
     above = [it for it in crates.values() if crates[name] in it.below]
@@ -272,7 +272,7 @@ def tell_crate(name):
     print(f"its wrong bodies:\n  make check-wrong-bodies NAMES={name}")
 
 
-def tell(what, tests, before="V7_BUILD=build/quick "):
+def print_tests(what, tests, before="V7_BUILD=build/quick "):
     """A command that runs tests, and its minutes. A test goes by its title if not all of its name are run."""
     if tests:
         others = {it.name for it in listed() if it not in tests}
@@ -292,18 +292,18 @@ def which(*paths):
     """Prints the tests and the crates that a change of these files concerns."""
     paths = paths or changed_since(os.environ.get("SINCE") or "HEAD")
     for name in sorted({path.split("/")[1] for path in paths if path.startswith("crates/")} & crates_in(TOP).keys()):
-        tell_crate(name)
+        print_crate(name)
     reasons = [(test, {concern(path, test) for path in paths} - {""}) for test in listed()]
     made = [test for test, why in reasons if why & {"made for it", "uses it"} and test.tier != "all"]
-    tell("tests of texts that were made for it, or use it", [it for it in made if it.tier == "text"], "")
-    tell("other tests that were made for it, or use it, once make quick has compiled the programs and libv7 in 3 minutes",
+    print_tests("tests of texts that were made for it, or use it", [it for it in made if it.tier == "text"], "")
+    print_tests("other tests that were made for it, or use it, once make quick has compiled the programs and libv7 in 3 minutes",
          [it for it in made if it.tier != "text"])
     cases = [path for path in paths if path.endswith(".case")]
     if cases:
         print(f"these cases alone:\n  V7_BUILD=build/quick python3 -m tests.cases.cases {' '.join(cases)}")
     print("all texts, all cases and tests of code, unproved, 5 minutes:\n  make test\nbefore it is merged, 60 minutes:\n  make check")
     others = [test for test, why in reasons if why and test not in made]
-    tell("of that, what runs a program with it, also with those of make quick", [it for it in others if it.tier == "check"])
+    print_tests("of that, what runs a program with it, also with those of make quick", [it for it in others if it.tier == "check"])
     for test in (it for it in others if it.tier == "all"):
         start, *words = test.command()
         before = "V7_BUILD=build/quick " if test.words("programs") else ""
@@ -330,7 +330,7 @@ def main(words):
     if words[:1] == ["which"]:
         return which(*(os.path.relpath(os.path.abspath(it), TOP) for it in words[1:]))
     if words[:1] == ["needs"] and (len(words) == 1 or words[1] in TIERS):
-        return tell_needs(tests, *words[1:])
+        return print_needs(tests, *words[1:])
     if words[:1] == ["parts"] and words[1:]:
         return run_parts(*words[1:])
     if words == ["list"]:
