@@ -131,8 +131,8 @@ demo: build/v7
 lesson: build/v7-lesson
 	build/v7-lesson $(or $(FILES),examples/k.o examples/l.o)
 
-# the pages that a release has: lesson.html has every order of five objects, program.html a program in C, and tables.html pointers and
-# bss. v7-lesson(1) says how to make others
+# the pages that a release has: `lesson.html` has every order of five objects, `program.html` a program in C, and `tables.html` pointers
+# and bss. v7-lesson(1) says how to make others
 page: build/v7-lesson
 	python3 packaging/installed.py pages build build
 
