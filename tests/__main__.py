@@ -238,7 +238,9 @@ def run_unproved(tests):
         first = {pool.submit(passes, *it.command()): it.title() for it in tests if not it.words("programs")}
         programs = {pool.submit(compile_program, TOP, name, folder): f"the program {name}" for name in CRATES}
         work = [(f"tests of {name}", run_tests, name, count) for name, count in crates_with_tests().most_common()]
-        work += [(path, once_compiled, [*programs], folder, *play, path) for path in sorted(glob.glob("tests/cases/data/*.case"))]
+        # those that repeat most take longest, so they come first
+        files = sorted(glob.glob("tests/cases/data/*.case"), key=lambda path: -sum(map(int, re.findall(r"\* ?(\d+)", read(path)))))
+        work += [(path, once_compiled, [*programs], folder, *play, path) for path in files]
         work += [(it.title(), once_compiled, [*programs], folder, *it.command()) for it in tests if it.words("programs")]
         tally = Tally({**first, **programs, **{pool.submit(*rest): name for name, *rest in work}})
         status = tally.take_all()
