@@ -365,11 +365,12 @@ def main(words):
     if words == ["-b"]:
         return check_false()
     is_packaged = words[:1] == ["-p"]
-    all_cases = Run(is_packaged)
-    for name in words[is_packaged:] or sorted(glob.glob(os.path.relpath(os.path.join(SAMPLES, "*.case")))):
+    all_cases, files = Run(is_packaged), words[is_packaged:]
+    for name in files or sorted(glob.glob(os.path.relpath(os.path.join(SAMPLES, "*.case")))):
         all_cases.file(name)
     all_cases.summary()
-    return 1 if all_cases.bad or not all_cases.played else 0
+    # a file that is named may have only cases that are skipped
+    return 1 if all_cases.bad or not (all_cases.played or files) else 0
 
 
 if __name__ == "__main__":
