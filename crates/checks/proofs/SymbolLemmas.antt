@@ -2,7 +2,7 @@
 use Rattle.std.proofs.Common.{◌≡◌, refl, ℕ, ◌+◌, ◌<◌, Bool, true, false, if◌then◌else◌, not, ◌&&◌, is_some, Option, Some, None, List, []}
 use Rattle.std.proofs.Common.{◌∷◌, ◌++◌, take, length, get_or, sym, ◌∙◌, ap, arith}
 use Rattle.std.proofs.{lemmas.List.{take_more, length-take}, lemmas.Slice.Eq.bytes_eq-Decides, lemmas.Bool.and_parts}
-use Rattle.std.specs.Prelude.{bytes_eq}
+use Rattle.std.specs.Prelude.{bytes_eq, Result, Ok, Err, OnOk}
 use Rattle.aout_core.specs.{declared.symbol.Symbol.Symbol, WellFormed.first_of, WellFormed.is_external}
 use Rattle.checks.specs.Odd.{first_named_from, first_named, has_name}
 
@@ -49,3 +49,12 @@ noted_more symbols i s other found old new inside is put looked so_far =
     ∙ ap (λ (k : ℕ). first_of (first_named other before) (if has_name s other then Some k else None)) (sym count)
     ∙ sym (first_named-joined other 0 before s)
     ∙ ap (λ (l : List Symbol). first_named other l) (sym joined)
+
+-- what is noted of the name of an external
+pub external_noted : {A E : Type 0} (r : Result A E) (s : Symbol) (i : ℕ) (old new : List ℕ → Option ℕ) → is_external s ≡ true →
+    OnOk r ((other : List ℕ) → new other ≡ (if bytes_eq s.name other && not (is_some (old s.name)) then Some i else old other)) →
+    OnOk r ((other : List ℕ) → new other ≡ (if has_name s other && not (is_some (old s.name)) then Some i else old other))
+external_noted (Ok x) s i old new e h =
+    λ other. h other
+    ∙ ap (λ (b : Bool). if (b && bytes_eq s.name other) && not (is_some (old s.name)) then Some i else old other) (sym e)
+external_noted (Err x) s i old new e h = h

@@ -1,5 +1,5 @@
 //! What is odd of a file, and not refused. Only tested: the texts of the findings.
-ghost use Rattle.std.specs.Prelude.{◌≡◌, ◌^◌, ◌<◌, ◌&&◌, not, None, Some, length, slice_get, take, if◌then◌else◌, is_some, IfOk};
+ghost use Rattle.std.specs.Prelude.{◌≡◌, ◌^◌, ◌<◌, ◌&&◌, not, None, Some, length, slice_get, take, if◌then◌else◌, bytes_eq, is_some, IfOk};
 ghost use Rattle.std.specs.Ordering.{nat_cmp};
 ghost use Rattle.std.specs.{Prelude.{OnOk, List, ℕ}, List.{flat_map, list_any}, BTreeMap.get, Cmp.Lexicographic.slice_cmp};
 ghost use Rattle.aout_core.specs.{WellFormed.is_external, Placed.{placed_word, placed_words, relocs_of, words_of}};
@@ -218,6 +218,24 @@ fn find_symbol(
     );
 }
 
+/// The number that was noted first with a name, which is noted if none was.
+fn first_noted(
+    seen: &mut BTreeMap<Name, usize>,
+    name: Name,
+    number: usize,
+) -> Result<Option<usize>, AllocError>
+    ensures first { IfOk result (λ first. first ≡ get (slice_cmp nat_cmp) seen.old name) }
+    ensures noted { OnOk result ((other : List ℕ) → get (slice_cmp nat_cmp) seen.new other
+        ≡ (if bytes_eq name other && not (is_some (get (slice_cmp nat_cmp) seen.old name))
+        then Some number else get (slice_cmp nat_cmp) seen.old other)) }
+{
+    if let Some(first) = seen.get(&name) {
+        return Ok(Some(*first));
+    }
+    seen.insert(name, number)?;
+    Ok(None)
+}
+
 /// The number of the first external so far that has the name of an external, which is noted if none has it.
 fn first_alike(
     seen: &mut BTreeMap<Name, usize>,
@@ -234,11 +252,7 @@ fn first_alike(
     if !symbol.is_external() {
         return Ok(None);
     }
-    if let Some(first) = seen.get(&symbol.name) {
-        return Ok(Some(*first));
-    }
-    seen.insert(symbol.name, number)?;
-    Ok(None)
+    first_noted(seen, symbol.name, number)
 }
 
 fn find_symbols(findings: &mut Findings, source: &Source<'_>)

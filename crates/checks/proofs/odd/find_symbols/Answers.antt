@@ -11,7 +11,7 @@ loop-number-preserved c =
           let put = c.find_symbol.ensures whole in
           let so_far = c.loop-number.invariant.0 put.0 in
           let left = drop_more symbols c.loop-number.number symbol c.loop-number-test.true in
-          (so_far.0, rw (put.1, append_assoc) (rw (left, ← c.index-symbols-number.is) at so_far.1)),
+          (so_far.0, rw (put.1, append_assoc c.loop-number.findings.found) (rw (left, ← c.index-symbols-number.is) at so_far.1)),
       λ other. noted_more symbols c.loop-number.number symbol other (get (slice_cmp nat_cmp) c.loop-number.seen symbol.name)
           (get (slice_cmp nat_cmp) c.loop-number.seen other) (get (slice_cmp nat_cmp) c.first_alike.new.seen other)
           c.loop-number-test.true c.index-symbols-number.is
