@@ -1,5 +1,5 @@
 -- Where memory may run out, stage by stage.
-use Rattle.std.proofs.Common.{◌≡◌, ℕ, List, [], Result, Ok, Err, refl, ap, ◌∙◌, inl}
+use Rattle.std.proofs.Common.{◌≡◌, ℕ, List, [], Result, Ok, Err, refl, sym, ap, ◌∙◌, subst, inl}
 use Rattle.std.specs.Prelude.{IfErr, IsOk}
 use Rattle.aout_core.specs.{Refusals.refused, Contents.Contents}
 use Rattle.link_session.specs.{Labelled.Labelled, Labelled.objects, Undo.Kept}
@@ -45,7 +45,9 @@ module _ (forced : List (List ℕ)) (o : Choices) (parts : List (List ℕ)) wher
   run_is : (w : Wants) (k : Kept) → k.forced ≡ forced → taken_each forced parts ≡ Ok (objects k.entries) →
       parts_run w forced o parts ≡ at 0 (objects_run w k.forced o (objects k.entries))
   run_is w k names taken =
-      let os = objects k.entries in rw (taken, parts_link os taken, names) (run_by w os (link forced os o))
+      let os = objects k.entries in
+      rw (taken, parts_link os taken)
+      (run_by w os (link forced os o) ∙ ap (λ (f : List (List ℕ)). at 0 (objects_run w f o os)) (sym names))
 
   pub parts_given : (w : Wants) (k : Kept) (x : RunOutput) → k.forced ≡ forced → taken_each forced parts ≡ Ok (objects k.entries) →
       objects_run w k.forced o (objects k.entries) ≡ Ok x → parts_run w forced o parts ≡ Ok x
@@ -67,7 +69,11 @@ module _ (forced : List (List ℕ)) (o : Choices) (parts : List (List ℕ)) wher
   pub parts_without_memory : (k : Kept) → k.forced ≡ forced → taken_each forced parts ≡ Ok (objects k.entries) →
       IsOk (link k.forced (objects k.entries) o) → MayRunOutInLink forced o parts 0
   parts_without_memory k names taken linked =
-      inl (refl, rw (parts_link (objects k.entries) taken) (is_linked (link forced (objects k.entries) o) (rw names at linked)))
+      inl (
+        refl,
+        rw (parts_link (objects k.entries) taken) (is_linked (link forced (objects k.entries) o)
+            (subst (λ (f : List (List ℕ)). IsOk (link f (objects k.entries) o)) names linked)),
+      )
 
 -- memory may run out in a link, once the options and the forced names are accepted
 pub link_runs_out : {A : Type 0} (bits : ℕ) (entry bytes : List ℕ) (parts : List (List ℕ)) (o : Choices) (forced : List (List ℕ))

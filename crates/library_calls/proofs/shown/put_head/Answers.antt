@@ -1,4 +1,4 @@
-use Rattle.std.proofs.Common.{append_assoc}
+use Rattle.std.proofs.Common.{refl, append_assoc}
 use Rattle.library_calls.proofs.shown.put_head.Goals as goal
 
 pub returns-in-Json : goal.returns-in-Json

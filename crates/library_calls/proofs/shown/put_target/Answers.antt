@@ -1,4 +1,4 @@
-use Rattle.std.proofs.Common.{append_assoc}
+use Rattle.std.proofs.Common.{refl, append_assoc}
 use Rattle.library_calls.proofs.shown.put_target.Goals as goal
 
 pub returns-in-External : goal.returns-in-External
