@@ -11,7 +11,11 @@ use surroundings::Answer;
 use texts::Text;
 
 /// The line for a path. Its status is 0, whatever the file is.
-pub(crate) fn row_answer(alloc: Global, path: &str, row: &InventoryRow) -> Result<Answer, AllocError>
+pub(crate) fn row_answer(
+    alloc: Global,
+    path: &str,
+    row: &InventoryRow,
+) -> Result<Answer, AllocError>
     ensures { IfOk result (λ answer. IsShown 0 answer) }
 {
     let mut text = Text::new(alloc);

@@ -1,5 +1,7 @@
 //! The questions of lessons: a text file, of which each line is checked against the objects as it is read.
-use crate::answers::{Act, Asked, Wanted, changed_words, first_word, put_answer, word_at, word_named};
+use crate::answers::{
+    Act, Asked, Wanted, changed_words, first_word, put_answer, word_at, word_named,
+};
 use crate::files::text_at;
 use crate::given::Given;
 use crate::json::Json;
