@@ -6,7 +6,7 @@ use Rattle.std.specs.Prelude.{◌≡◌, ◌⊎◌, ℕ, Bool, if◌then◌else�
 use Rattle.aout_core.specs.{Contents.Contents, Decoding.decode, Refusals.refused}
 use Rattle.command_words.specs.Calls.{AsksForNone, IsAsked, IsWhole, dashes_in, files_of}
 use Rattle.command_words.specs.{declared.fault.WordsFault.TheVariants.Usage, declared.words.Call.Call, declared.words.Call.TheVariants.Ld}
-use Rattle.link_maps.specs.{Maps.IsMapOf, Members.all_of, Taking.split, Taking.split_of}
+use Rattle.link_maps.specs.{Maps.IsPlaced, Members.all_of, Taking.split, Taking.split_of}
 use Rattle.link_maps.specs.{declared.map.LinkMap.LinkMap, declared.members.Objects.Objects}
 use Rattle.link_out.specs.{Inputs.{Cause, Refusal, linked, object_in}, function.Link.Outcome, function.Reports.status_of}
 use Rattle.link_session.specs.Labelled.{Labelled}
@@ -72,7 +72,7 @@ status_with has_absent status = if has_absent then max status 1 else status
 abbrev pub IsMap : List (List ℕ) → List (List ℕ) → Choices → List (List ℕ × List ℕ) → Result Answer Fault → Type 0
 IsMap asked forced choices inputs result =
     (result ≡ Err (faults.Memory refused))
-    ⊎ ((o : Objects) × (m : LinkMap) × AreTaken forced inputs o × IsMapOf o forced choices m
+    ⊎ ((o : Objects) × (m : LinkMap) × AreTaken forced inputs o × IsPlaced o choices m
     × (a : Answer) × IsShown (status_with (has_absent m forced (all_of o) asked) (status_linked (linked forced inputs choices))) a
     × (result ≡ Ok a))
 

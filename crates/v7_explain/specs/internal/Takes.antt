@@ -1,7 +1,7 @@
 -- Objects that are taken one after another.
 use Rattle.std.specs.Prelude.{◌≡◌, ◌⊎◌, ℕ, List, [], ◌∷◌, ◌++◌, Option, Some, None, Result, Ok, Err, IfOk}
 use Rattle.aout_core.specs.{Contents.Contents, Decoding.decode, Refusals.refused}
-use Rattle.link_maps.specs.{Maps.IsMapOf, Members.all_of, Taking.split, Taking.split_of, declared.map.LinkMap.LinkMap}
+use Rattle.link_maps.specs.{Maps.IsPlaced, Members.all_of, Taking.split, Taking.split_of, declared.map.LinkMap.LinkMap}
 use Rattle.link_maps.specs.{declared.members.Objects.Objects, Rows.linked_in}
 use Rattle.link_out.specs.{Inputs.object_in, Outcomes.report_names, declared.linked.Linked.Linked, function.Reports.status_of}
 use Rattle.link_session.specs.Labelled.{Labelled}
@@ -57,5 +57,5 @@ status_made (Some linked) = status_of (report_names linked.report)
 -- the map of these objects, with the status that the link has
 abbrev pub IsMapAnswer : List (List ℕ) → Objects → List (List ℕ) → Choices → Answer → Type 0
 IsMapAnswer asked o forced choices a =
-    (m : LinkMap) × IsMapOf o forced choices m
+    (m : LinkMap) × IsPlaced o choices m
     × IsShown (status_with (has_absent m forced (all_of o) asked) (status_made (linked_in m.outcome))) a

@@ -9,7 +9,7 @@ returns c = λ inputs read taken.
       taken = taken;
       is_map = m;
       shows = shows_link c.args.forced.now c.args.options.now inputs c.args.all c.in_ok-map.map.outcome read taken.names taken.taken
-          m.made m.outcome;
+          m.placed.made m.placed.outcome;
       records = c.in_ok-records.ensures;
       head = c.head_of-head.ensures;
       run = c.in_ok-run_shown.ensures;
