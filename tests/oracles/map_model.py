@@ -250,7 +250,8 @@ class Mapped:
         for place in places:
             row = self.found.objects[place]
             pairs = (row.text, row.text_size), (row.data, row.data_size), (row.bss, row.bss_size)
-            lines.append("".join(f"  {start:06o}{size:>7}" for start, size in pairs) + f"  {self.paths[place]}")
+            line, path = "".join(f"  {start:06o}{size:>7}" for start, size in pairs), self.paths[place]
+            lines += [line, f"    {path}"] if len(path) > 33 else [f"{line}  {path}"]
         return lines
 
     def word(self, segment, address, label, line, of):

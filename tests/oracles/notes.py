@@ -26,6 +26,8 @@ from tests.oracles.disassembly import FOUND, SYS, File as Text, decoded, has_wor
 from tests.oracles.disassembly import in_listing as shown
 
 PROGRAMS = {0o405: "an overlay", 0o407: "a program", 0o410: "a program, pure text", 0o411: "a program, separate text and data"}
+MAGICS = {0o405: "overlay", 0o407: "normal, data after text", 0o410: "text can be shared, data at a multiple of 020000",
+          0o411: "text and data in spaces of their own"}
 KINDS = {0o405: "overlay", 0o407: "program 0407", 0o410: "program 0410", 0o411: "program 0411"}
 # the first bytes of other files, what is said of them, and their kinds in an inventory
 MEMBERS = "take its members out with the ar of its system"
@@ -47,8 +49,6 @@ OUTSIDE = re.compile(r"the word( at \d+ is of kind (\w+) and refers to \d+; .*)"
 # what is odd of instructions; and what is said if more is odd than is shown
 SUSPICIOUS = re.compile(r"the first word of the|the pc bit of|an instruction leads to|is cut by the end of|the branch at|"
                         r"the word at \d+ (?:counts|is of a call|adds|leads to|jumps)|is of the last instruction of text")
-# the words of the header, which the cases of listings show
-HEADER = re.compile(r"0[01][0246]  [0-7]{6}  ")
 DOUBT = ", if this is"
 # what right objects may have too
 MEANT = ": a mistake, if this is not meant"
@@ -203,6 +203,17 @@ def has_no_magic(data):
     return len(data) < 16 or File(data).magic not in PROGRAMS
 
 
+def header_said(data):
+    """What a listing says of the words of a header, unless the file is known to have another form."""
+    if len(data) < 16 or has_no_magic(data) and form(data)[0]:
+        return []
+    file = File(data)
+    sizes = f"{file.text} bytes of text, {file.data_size} of data, {file.bss} of bss, {file.table} of symbols"
+    words = (10, file.entry, "entry point"), (12, file.unused, "unused"), (14, file.flag, "flag: no relocation")
+    return [f"000  {file.magic:06o}  magic: {MAGICS.get(file.magic, 'none that a file begins with')}; {sizes}",
+            *(f"{at:03o}  {word:06o}  {said}" for at, word, said in words if word)]
+
+
 def odd_header(file):
     if file.entry and file.flag == 0:
         yield 10, f"the entry point of an object, {file.entry:06o}, is ignored"
@@ -334,10 +345,10 @@ def notes_of(data):
     found, file = wrong(data)
     if file is None:
         said = [text for text in (form(data)[0],) if text and has_no_magic(data)]
-        return [f"wrong: {note}" for note in at_byte(found)] + said, at_byte(found) + said
+        return header_said(data) + [f"wrong: {note}" for note in at_byte(found)] + said, at_byte(found) + said
     what, odd = kind(file, found), odd_said(data)
     refused = at_byte(found) or ([what] if what != "an object" else [note for note in odd if not note.endswith(COMMON)][:MOST])
-    notes = [what] if what else []
+    notes = ([what] if what else []) + header_said(data)
     return notes + [f"wrong: {note}" for note in at_byte(found)] + [f"odd: {note}" for note in odd[:MOST]], refused
 
 
@@ -354,8 +365,8 @@ def odd_said(data):
 
 
 def without_suspicious(notes):
-    """Notes without those on instructions and on the header, and without how many more things are odd."""
-    return [note for note in notes if not SUSPICIOUS.search(note) and not MORE.match(note) and not HEADER.match(note)]
+    """Notes without those on instructions, and without how many more things are odd."""
+    return [note for note in notes if not SUSPICIOUS.search(note) and not MORE.match(note)]
 
 
 def odd_count(notes):
@@ -364,7 +375,7 @@ def odd_count(notes):
 
 
 def lines_of(path, data):
-    """The notes of a listing but for those of the header: the path with the size, what the file is, and what is wrong or odd."""
+    """The notes of a listing: the path with the size, what the file is, its header, and what is wrong or odd."""
     return [f"{path}: 0{len(data):o} ({len(data)}) bytes", *notes_of(data)[0]]
 
 
