@@ -16,6 +16,7 @@ from tests.lib.compare import notices
 from tests.lib.files import TOP, read, read_bytes, write
 from tests.lib.objects import unpack
 from tests.lib.programs import FAULTS, ran
+from tests.oracles.disassembly import decoded
 from tests.page.page_lessons import bad_questions, lesson_answers, questions_of_all_kinds, remarks, states_in
 from tests.page.page_tools import (CLASS, FIVE, IN_C, LAYOUTS, PARTS, SEGMENTS, SIXTEEN, TABLES, WORD, Tools, addend_said, known_as,
                                    lessons_of, object_of, planted, report, same, size_said, words_of)
@@ -200,6 +201,14 @@ def place_said(places, layout):
     return ("nowhere", 0) if not row else (row, 0) if number == "end" else (kind, int(number))
 
 
+def compare_marks(state, what):
+    """A word that the last addition bound has the place of its name, and its value now."""
+    known = dict(zip(state.names, state.names_now))
+    for part, offset, *mark in state.record["marks"]:
+        if len(mark) == 6:
+            same(f"{what}: {part} {offset:o} is bound", mark[4:], [known[mark[2]][1], state.words[part, offset]["value"]])
+
+
 def compare_states(tools, files, data, what):
     """All states of a page; the links of those with at most two objects, and of the others those in the order of the files."""
     states, seen = states_of(data), set()
@@ -212,6 +221,7 @@ def compare_states(tools, files, data, what):
             seen.add(key)
             state, lines, here = states[key], steps[count - 1], [files[number] for number in key]
             same(f"{what}, {key}: the image", state.lines(), lines)
+            compare_marks(state, f"{what}, {key}")
             sizes = sizes_of(lines)
             in_image = {(line.split()[0], int(line.split()[1], 8)): place_in_image(line, sizes) for line in lines if line.startswith(PARTS)}
             for place, word in state.words.items():
@@ -237,6 +247,19 @@ def texts_of(words, relocs):
     return found
 
 
+def operands_of(text):
+    """The words of text that belong to the instruction before them, by the PDP-11 alone."""
+    text.knows_calls = False
+    return [place for place in range(len(text.words)) if text.owner(place) is not None]
+
+
+def labels_of(file):
+    """The part, the word and the name of each symbol of text and data, and whether it is an external."""
+    starts = {2: 0, 3: 2 * len(file.text)}
+    return [[SEGMENTS[kind % 32 - 1], (value - starts[kind % 32]) % WORD // 2, kind & 0o40 > 0, name.rstrip(b"\0").decode("latin-1")]
+            for name, kind, value in file.symbols if kind % 32 in starts]
+
+
 def compare_objects(tools, files, data):
     """What the page has of each object is what its file has."""
     for path, one in zip(files, data["objects"]):
@@ -244,6 +267,8 @@ def compare_objects(tools, files, data):
         same(f"{path}: words", (one["text"], one["data"], one["bss"]), ([*file.text], [*file.data], file.header[3]))
         same(f"{path}: symbols", one["symbols"], tools.nm(path).splitlines())
         same(f"{path}: texts", one["texts"], texts_of(file.data, file.relocation[len(file.text):]))
+        same(f"{path}: operands", one["operands"], operands_of(decoded(read_bytes(path))))
+        same(f"{path}: labels", one["labels"], labels_of(file))
         for which, part in enumerate(PARTS):
             relocs = file.relocation[:len(file.text)] if part == "text" else file.relocation[len(file.text):]
             shown = {index: one["groups"][group][1] for index, group, _ in one[f"{part}References"]}
