@@ -110,9 +110,10 @@ fn function_of(alloc: Global, file: &File, what: &str) -> Result<Option<(u16, u1
     Ok(Some((start, end)))
 }
 
-/// The address with which a line of a disassembly begins.
+/// The address with which a line of a disassembly begins, or that of the first row that it counts.
 fn address_of(line: &[u8]) -> Option<u64> {
-    match line.split_at_checked(6) {
+    let row = line.strip_prefix(b"/ ".as_slice()).unwrap_or(line);
+    match row.split_at_checked(6) {
         Some((digits, rest)) if rest.first() == Some(&b' ') => octal_number(digits),
         _ => None,
     }
