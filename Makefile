@@ -10,7 +10,7 @@
 #: make which CHANGED=PATH    which tests and crates a change concerns; or SINCE=COMMIT                    Python       seconds
 #: make check-text            texts, names, limits and quotes, compared with the code                      Python       1 minute
 #: make test                  cases and tests with programs that are not proved                            kit          5 minutes
-#: make gate                  proves everything, and tries the wrong bodies of must-fail/                  kit          35 minutes
+#: make gate                  proves everything, and tries the wrong bodies of must-fail/                  kit          50 minutes
 #: make check                 all that CI runs: the gate, and tests of the proved programs                 tools/needs  60 minutes
 #: make check-all             this, all wrong bodies, planted bugs, the page and the release               tools/needs  4.5 hours
 #: make check-wrong-bodies    has the prover refuse those of changed crates, or of NAMES=CRATE              kit          to 2 hours
@@ -110,8 +110,9 @@ install-lib: $(FROM)/libv7.so
 wheel: lib
 	python3 packaging/python/backend.py build
 
-# the release: packages of what was proved and built, in dist
+# the release: packages of what was proved and built, in dist. They name the verdict of each crate, which the gate does not leave
 dist:
+	rm -f build/gated
 	python3 packaging/dist.py
 
 # all as a release has it, but unproved. What has not changed is not compiled again
@@ -149,15 +150,17 @@ check-text:
 test:
 	@python3 -m tests test
 
-# every proof from nothing, the wrong bodies of must-fail/, the tests, the programs' stored runs. A check takes up to 4 GB. If there are 5 for
-# each processor, each has a crate; else rt decides, and counts on 5 to 7
+# every proof from nothing, the wrong bodies of must-fail/, the tests, the programs' stored runs. A check takes up to 4 GB. If there are 5
+# for each processor, each has a crate; else rt decides, and counts on 5 to 7
 gate:
 	RT_JOBS=$${RT_JOBS:-$$(awk -v n=$$(nproc) '$$1 == "MemAvailable:" && $$2 > n * 5e6 { print n }' /proc/meminfo)} rt ci
+	mkdir -p build
+	touch build/gated
 
-# the cheapest first, so that a fault shows early. The gate leaves the programs that the tests of `check` run. Beside these, as many wrong
-# bodies of crates that have changed are tried as a quarter of an hour allows
+# the cheapest first, so that a fault shows early. The gate leaves the programs that the tests of `check` run. Beside these, wrong bodies
+# of crates that have changed are tried: those that begin within 12 minutes end within a quarter of an hour
 check:
-	@MINUTES=15 python3 -m tests parts 'make quick' 'make test' 'make gate' 'make all lib build/library_uses' \
+	@MINUTES=12 python3 -m tests parts 'make quick' 'make test' 'make gate' 'make all lib build/library_uses' \
 		'make check-wrong-bodies & python3 -m tests check; status=$$?; wait $$! && exit $$status' $(MORE)
 
 # all wrong bodies, in place of those of crates that have changed

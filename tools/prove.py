@@ -5,11 +5,11 @@ usage: python3 -m tools.prove NAME FILE
        python3 -m tools.prove --only NAME [FLAG ..]      checks this crate while it is written, over the libraries that were proved before;
                                                   FLAGs are those of `rattle check`, such as --only MODULE::NAME
 
-Libraries that do not wait for each other are proved side by side. Each is proved from nothing, by the kit's `rattle` with the
-words of the gate, and the crates above it read its statements and not its proofs. These are kept in build/proved, packed, since
-the gate refuses folders with sources that no crate lists. A crate is proved again where its sources, or those of one below it, have
-changed. If only FILE is gone, what was proved is compiled again. Beside them NAME.verdict has the line by which the prover ends, and
-NAME.o what a program is linked from: a release is made of these.
+Libraries that do not wait for each other are proved side by side. Each is proved from nothing, by the kit's `rattle` with the words of the
+gate, and the crates above it read its statements and not its proofs. These are kept in build/proved, packed, since the gate refuses folders
+with sources that no crate lists. A crate is proved again where its sources, or those of one below it, have changed; a library that `make
+gate` has proved since is taken from there. If only FILE is gone, what was proved is compiled again. Beside them NAME.verdict has the line
+by which the prover ends, and NAME.o what a program is linked from: a release is made of these.
 
 While it works it prints a line for each crate, and at least one every ten seconds.
 """
@@ -29,6 +29,8 @@ from tests.lib.rattle import FUNCTION, crates_in
 from tests.lib.tally import Failed, Tally
 
 KEPT = "build/proved"
+# `make gate` leaves this once all is proved
+GATED = "build/gated"
 # more jobs of one check seldom help
 MOST_JOBS = 8
 # of a processor for a function
@@ -162,6 +164,17 @@ class Proving:
             packed.extractall(self.kit.place)
         return True
 
+    def is_gated(self, crate):
+        """Whether the gate proved a library since its sources last changed. What it left is copied."""
+        left = f"crates/{crate.name}/out/rlib/{crate.left}"
+        if not all(map(os.path.exists, (GATED, f"{left}/format"))):
+            return False
+        last = max(os.path.getmtime(file) for file in ("crates.txt", *(file for it in (crate, *crate.below) for file in it.files)))
+        if not last < os.path.getmtime(f"{left}/format") < os.path.getmtime(GATED):
+            return False
+        shutil.copytree(left, f"{self.kit.place}/{crate.left}")
+        return True
+
     def is_built(self, crate):
         """Whether there is what is built of a crate, if anything is."""
         return crate is not self.top or all(map(os.path.exists, [self.file, *[f"{KEPT}/{crate.name}.o"] * crate.is_program]))
@@ -193,6 +206,8 @@ class Proving:
         is_kept = self.is_kept(crate, stamp)
         if is_kept and self.is_built(crate):
             return "proved before"
+        if not is_kept and crate is not self.top and self.is_gated(crate):
+            return "proved by the gate"
         self.busy.append(crate.name)
         try:
             if not is_kept:
