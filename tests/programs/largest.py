@@ -154,7 +154,7 @@ def longest_lines(kind):
 def check_notes(data, status, text):
     """The notes of a listing, and the status that they lead to."""
     wanted, _ = notes.notes_of(data)
-    found = re.findall(r"^/ ((?:wrong: |odd: |an? ).*)$", text, re.M)
+    found = re.findall(r"^/ ((?:wrong: |odd: |an? |\d{3}  ).*)$", text, re.M)
     same("notes", found, wanted)
     same("status", status, int(any(note.startswith("wrong") for note in wanted)))
 
