@@ -164,13 +164,18 @@ fn answer_by(
     answer.word = said.word;
     answer.place = said.place;
     let run = &given.run;
-    leave_items(fits, &run.file, &mut *answer.file, &mut answer.file_size);
-    leave_items(
-        fits,
-        &run.report,
-        &mut *answer.report,
-        &mut answer.report_size,
-    );
+    answer.file_size = run.file.len();
+    answer.report_size = run.report.len();
+    // else the result may be too short to have the buffers, and nothing beyond it is read
+    if fits {
+        leave_items(true, &run.file, &mut *answer.file, &mut answer.file_size);
+        leave_items(
+            true,
+            &run.report,
+            &mut *answer.report,
+            &mut answer.report_size,
+        );
+    }
     if LIST_RESULT <= answer.size {
         leave_items(
             fits,
