@@ -2,7 +2,7 @@
 use Rattle.std.proofs.Common.{◌≡◌, ℕ, zero, suc, ◌+◌, ◌-◌, ◌<◌, ◌≤◌, Bool, true, false, not, ◌&&◌, ◌||◌, cond, eqb, nat_lt, nat_cmp, is_lt}
 use Rattle.std.proofs.Common.{◌==◌, List, [], ◌∷◌, length, take, drop, Option, Some, None, IsSome, refl, sym, ◌∙◌, ap, subst, arith, find}
 use Rattle.std.specs.Prelude.{get_or, slice_get, ◌%◌}
-use Rattle.std.proofs.lemmas.{Bool.{or_from, or_left, or_right, or_parts, false_from_ne_true, both_ways}, Bool.Decides.nat_tests, Cmp.{nat_cmp_total, on_total, then_total}}
+use Rattle.std.proofs.lemmas.{Bool.{or_from, or_left, or_right, or_parts, false_from_ne_true, both_ways, true≢false}, Bool.Decides.nat_tests, Cmp.{nat_cmp_total, on_total, then_total}}
 use Rattle.std.proofs.lemmas.List.{MinMax.ranks_by, Elements.filter_agree, Elements.filter_passes, Quantifiers.position-Some, Kept.IsSortedBy-filter, Sorted.sorted_far}
 use Rattle.std.specs.{List.{filter, list_any, position, position_or_len}, List.Sorted.{IsSortedByKey, IsPartitionedBy, IsPartitionPoint, ties}, Cmp.IsStrictWeakOrder}
 use Rattle.std.specs.{Ordering.ordering_then, declared.cmp.Ordering.Ordering, declared.cmp.Ordering.TheVariants.{Less, Equal, Greater}}
@@ -77,6 +77,26 @@ rest_is p (x ∷ xs) (suc i) h =
     rest_is p xs i
     ((λ k d low high. h.0 (suc k) d (omega arith) (omega (arith, high))), λ k d low high. h.1 (suc k) d (omega (arith, low)) (omega (arith, high)))
     ∙ sym (ap (λ (b : Bool). cond (not b) (x ∷ others) others) yes)
+
+-- of two elements or more, none passes, or only the first
+pub none_before : (p : Symbol → Bool) (xs : List Symbol) (a : Symbol) → IsPartitionedBy p xs → 2 ≤ length xs →
+    a ≡ get_or xs 0 a → p a ≡ false → IsPartitionPoint (λ s. p s ≡ true) (λ s. p s ≡ false) xs 0
+none_before p [] a part two is fails = absurd (omega (arith, two))
+none_before p (x ∷ xs) a part two is fails = (
+  (λ k d low high. absurd (omega (arith, high))),
+  λ k d low high. false_from_ne_true (p (get_or (x ∷ xs) k d)) (λ t.
+      true≢false (sym (part 0 k d low high t) ∙ subst (λ (s : Symbol). p s ≡ false) is fails)),
+)
+
+pub one_before : (p : Symbol → Bool) (xs : List Symbol) (a b : Symbol) → IsPartitionedBy p xs → 2 ≤ length xs →
+    a ≡ get_or xs 0 a → b ≡ get_or xs 1 b → p a ≡ true → p b ≡ false → IsPartitionPoint (λ s. p s ≡ true) (λ s. p s ≡ false) xs 1
+one_before p [] a b part two first second passes fails = absurd (omega (arith, two))
+one_before p (x ∷ []) a b part two first second passes fails = absurd (omega (arith, two))
+one_before p (x ∷ y ∷ xs) a b part two first second passes fails = (
+  (λ k d low high. part k 0 d (omega (arith, high)) (omega arith) (subst (λ (s : Symbol). p s ≡ true) first passes)),
+  λ k d low high. false_from_ne_true (p (get_or (x ∷ y ∷ xs) k d)) (λ t.
+      true≢false (sym (part 1 k d low high t) ∙ subst (λ (s : Symbol). p s ≡ false) second fails)),
+)
 
 pub filter_twice : (p q : Symbol → Bool) (xs : List Symbol) → filter q (filter p xs) ≡ filter (λ s. p s && q s) xs
 filter_twice p q [] = refl

@@ -13,7 +13,8 @@ fn is_before(symbol: &Symbol, number: u16, value: usize) -> bool
     ensures { result ≡ is_before number value symbol.now }
 {
     let of = symbol.type_bits % 0o40;
-    of < number || (of == number && usize::from(symbol.value) < value)
+    // without branches, as nobody can guess which way they go
+    (of < number) | ((of == number) & (usize::from(symbol.value) < value))
 }
 
 /// How many of these symbols in order are before a value of a segment.
@@ -24,6 +25,22 @@ fn count_before(ordered: &[Symbol], number: u16, value: usize) -> usize
     ensures rest { drop result ordered.now ≡ filter (λ s. not (is_before number value s)) ordered.now }
 {
     ordered.partition_point(|symbol| is_before(symbol, number, value))
+}
+
+/// The same, in few steps if at most one is before it.
+fn count_near(ordered: &[Symbol], number: u16, value: usize) -> usize
+    requires { IsSortedByKey key key_cmp ordered.now }
+    ensures bound { result ≤ length ordered.now }
+    ensures front { take result ordered.now ≡ filter (λ s. is_before number value s) ordered.now }
+    ensures rest { drop result ordered.now ≡ filter (λ s. not (is_before number value s)) ordered.now }
+{
+    if ordered.len() < 2 || is_before(&ordered[1], number, value) {
+        return count_before(ordered, number, value);
+    }
+    if is_before(&ordered[0], number, value) {
+        return 1;
+    }
+    0
 }
 
 fn first_external(symbols: &[Symbol]) -> Option<usize>
@@ -63,7 +80,7 @@ impl<'a> Names<'a> {
     {
         let number = segment.number();
         let rest = &self.ordered[count_before(&self.ordered, number, from)..];
-        &rest[..count_before(rest, number, to)]
+        &rest[..count_near(rest, number, to)]
     }
 
     /// The symbols of a segment at an address, in the order of the table.

@@ -14,7 +14,7 @@ returns c =
     let alike : c.deref-2.result.now ≡ ordered = c.deref-2.ensures.value ∙ sym c.deref.ensures.value in
     let rest : drop i ordered ≡ filter (λ s. not (is_before n c.args.from s)) ordered =
     subst (λ (ss : List Symbol). drop i ss ≡ filter (λ s. not (is_before n c.args.from s)) ss) alike c.count_before.ensures.rest in
-    c.count_before-2.ensures.front
+    c.count_near.ensures.front
     ∙ ap (filter (λ s. is_before n c.args.to s)) (take_rest ordered i ∙ rest)
     ∙ filter_twice (λ s. not (is_before n c.args.from s)) (λ s. is_before n c.args.to s) ordered
     ∙ ap (λ (m : ℕ). filter (λ s. not (is_before m c.args.from s) && is_before m c.args.to s) ordered) c.number-number.ensures.value
