@@ -164,9 +164,10 @@ fn find_fields(
         NoRoom,
         format_args!("{title} is a common of {value} bytes, which have no room in memory"),
     );
+    let is_outside = !has_address(header, segment, value);
     findings.find_if_as(
-        is_sure_value(file, symbol),
-        !has_address(header, segment, value),
+        is_outside && is_sure_value(file, symbol),
+        is_outside,
         place + 10,
         OutsideValue,
         format_args!("{title} of {label} has value {value:06o}, and {outside}"),
