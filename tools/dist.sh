@@ -84,7 +84,7 @@ twice() {
         user="setpriv --reuid=65534 --regid=65534 --clear-groups"
     build "$work/one" 022 sh -c
     [ -n "${OBJECTS:-}" ] || PROVED=$work/one
-    build "$work/another/folder" 077 env -u MAKEFLAGS TMPDIR=/tmp HOME="$work/another" DONT_FAKE_MONOTONIC=1 TZ=Asia/Tokyo \
+    build "$work/another/folder" 077 env -u MAKEFLAGS TMPDIR=/tmp HOME="$work/another" DONT_FAKE_MONOTONIC=1 NO_FAKE_STAT=1 TZ=Asia/Tokyo \
         LC_ALL=C.UTF-8 $user $date sh -c
     for folder in one another/folder; do
         (cd "$work/$folder/dist" && sha256sum -c --quiet SHA256SUMS) || fail "$folder: SHA256SUMS is wrong"
