@@ -373,7 +373,7 @@ def main(words):
         libraries(place)
         top = f"{place}/tar/{release.name}"
         tree(release, place, top, "", "/lib")
-        write(f"{top}/README.md", read(f"{top}/share/doc/v7/README.md").replace("](", "](share/doc/v7/"))
+        write(f"{top}/README.md", installed.reflowed(read(f"{top}/share/doc/v7/README.md").replace("](", "](share/doc/v7/")))
         config(f"{place}/tar/{release.name}/lib/pkgconfig/v7.pc", "${pcfiledir}/../..", "${prefix}/lib")
         names = [f"{release.name}.tar.gz"]
         pack(release, f"{place}/tar", f"dist/{names[0]}")
