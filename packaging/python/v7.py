@@ -298,7 +298,7 @@ class Fault(Exception):
         where = f" at word {answer.word}" if answer.fault in (23, 24) else f" in part {answer.word}" if answer.fault == 6 else ""
         if is_byte:
             where = f", byte {answer.place}" if answer.fault != 1 else ""
-        elif 60 < answer.fault < 78:
+        elif 60 < answer.fault < 81:
             where = f", line {answer.place}, column {answer.word}"
         elif 10 < answer.fault < 35:
             where += f", object {answer.place}"
@@ -306,6 +306,15 @@ class Fault(Exception):
         self.fault: int = answer.fault
         self.place: int = answer.place
         self.word: int = answer.word
+        self._is_byte = is_byte
+
+    def __reduce__(self) -> Any:
+        """So a fault can be copied, and sent to another process."""
+        return _fault, (self.fault, self.place, self.word, self._is_byte)
+
+
+def _fault(fault: int, place: int, word: int, is_byte: bool) -> Fault:
+    return Fault(_Answer(fault=fault, place=place, word=word), is_byte)
 
 
 def refers_to(number: int) -> int:
@@ -771,8 +780,10 @@ class Session:
         self._handle = _Session()
         self.entry, self.forced = entry, tuple(_items("forced", forced))
         self._kept: List[bytes] = []
-        # the size of the last state that was shown, and how many bytes are kept
-        self._size = self._bytes = 0
+        # whether what is kept here is what the library has: not while an edit is made, nor if an exception as KeyboardInterrupt ended it
+        self._is_sure = True
+        # the size of the last state that was shown
+        self._size = 0
         self._call("v7_session_new", *_slice(_forced(self.forced)))
         for data in _list(objects):
             self.add(data)
@@ -795,14 +806,13 @@ class Session:
     def add(self, data: bytes) -> None:
         """Adds an object after those that are there."""
         whole = _bytes("data", data)
-        self._call("v7_session_add", ctypes.c_char_p(whole), _SIZE(len(whole)))
-        self._kept.append(whole)
-        self._bytes += len(whole)
+        self._kept_now()
+        self._edit("v7_session_add", functools.partial(self._kept.append, whole), ctypes.c_char_p(whole), _SIZE(len(whole)))
 
     def withdraw(self) -> None:
         """Withdraws the object that was added last. If there is none, a `Fault` is raised."""
-        self._call("v7_session_withdraw")
-        self._bytes -= len(self._kept.pop())
+        self._kept_now()
+        self._edit("v7_session_withdraw", self._kept.pop)
 
     def link(self, options: int = 0) -> Program:
         """The link of what is there."""
@@ -814,11 +824,11 @@ class Session:
 
     def link_places(self, options: int = 0) -> List[Finding]:
         """What is reported of the link, with the numbers of the objects that are there."""
-        return link_places(self._kept, options, self.entry, self.forced)
+        return link_places(self._kept_now(), options, self.entry, self.forced)
 
     def map(self, options: int = 0) -> Map:
         """The map of the link of what is there."""
-        return link_map(self._kept, options, self.entry, self.forced)
+        return link_map(self._kept_now(), options, self.entry, self.forced)
 
     def text(self) -> str:
         """What is there, as lines: the words, the names, and what the last addition overwrote."""
@@ -827,6 +837,29 @@ class Session:
     def state(self) -> Dict[str, Any]:
         """The same as a dict: of `objects`, `text`, `data`, `bss`, `externals`, `multiples` and `marks`, as v7(3) has them."""
         return dict(json.loads(self._shown(_JSON)))
+
+    def _kept_now(self) -> List[bytes]:
+        """The objects that are there. After an edit that an exception ended the session is made again of these."""
+        if not self._handle.is_open:
+            raise Fault(_Answer(fault=8))
+        if not self._is_sure:
+            _KEEPING.v7_session_free(ctypes.byref(self._handle))
+            self._call("v7_session_new", *_slice(_forced(self.forced)))
+            for data in self._kept:
+                self._call("v7_session_add", ctypes.c_char_p(data), _SIZE(len(data)))
+            self._is_sure = True
+        return self._kept
+
+    def _edit(self, name: str, keep: Any, *words: Any) -> None:
+        """Makes an edit, and keeps its object or not."""
+        self._is_sure = False
+        try:
+            self._call(name, *words)
+        except Fault:
+            self._is_sure = True
+            raise
+        keep()
+        self._is_sure = True
 
     def _call(self, name: str, *words: Any) -> None:
         answer = _Answer()
@@ -837,9 +870,10 @@ class Session:
 
     def _run(self, options: int, wants: int) -> _Run:
         call = functools.partial(_KEEPING.v7_session_link, ctypes.byref(self._handle))
-        return _Run((), options, self.entry, self.forced, wants, call, self._bytes)
+        return _Run((), options, self.entry, self.forced, wants, call, sum(map(len, self._kept_now())))
 
     def _shown(self, form: int) -> str:
+        self._kept_now()
         state = _given("v7_session_state", ctypes.byref(self._handle), ctypes.c_uint32(form), guess=self._size, library=_KEEPING)
         self._size = len(state)
         return state.decode("latin-1")
