@@ -602,9 +602,15 @@ class _Run:
         result = _Result(ctypes.sizeof(_Result), file_size=size, report_size=(27 * few + 11) * lines)
         result.finding_count, result.place_count = few * findings, few * places
         result.object_count, result.name_count, result.use_count, result.limit_count = (symbols * mapped * times for times in (1, 1, 3, 1))
-        rooms = {"file": ctypes.c_char, "report": ctypes.c_char, "findings": _Finding, "places": _FindingPlace, **_RECORDS}
+        rooms = {"file": ctypes.c_char, "report": ctypes.c_char}
+        if findings or places:
+            rooms.update({"findings": _Finding, "places": _FindingPlace})
+        if mapped:
+            rooms.update(_RECORDS)
         self.status, given = _lent(lambda to: call(ctypes.byref(request), to), result, rooms)
-        self.file, report, self.findings, self.places, *self.records = given
+        self.file, report, *given = given
+        self.findings, self.places = given[:2] if findings or places else ([], [])
+        self.records = given[2:] if findings or places else given
         self.report, self.head = report.decode("latin-1"), result.head
 
     def program(self) -> Program:
