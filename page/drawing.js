@@ -89,7 +89,7 @@ function bundles(state, references) {
     const found = { arrows: new Map(), chains: new Map() };
     for (const one of references) {
         const [row, target] = [rowAt(one.place, one.part, one.id), rowOfPlace(state, one.to)];
-        const isLine = !one.to && one.name && view.layout < 0;
+        const isLine = !one.to && one.name && view.layout < 0 && isWaiting(state, one);
         if (!row || !(target || isLine)) continue;
         const [all, key] = isLine ? [found.chains, one.name] : [found.arrows, target];
         if (!all.has(key)) all.set(key, { key, rows: [], count: 0, rank: one.rank, places: isLine ? [] : [order.get(target)] });

@@ -35,10 +35,10 @@ function broughtParts({ full }, isAll) {
     if (place < 0) return [];
     const object = DATA.objects[full.list[place]];
     const keysOf = (part, indices) => indices.map((index) => keyAt(full, place, part, index));
-    const all = PARTS.flatMap((part) => keysOf(part, [...object[part].keys()]));
-    if (isAll) return [{ title: `${label(object.number)}, all words`, groups: [{ ...newGroup("all", "", all), isPlain: true }] }];
+    const parts = PARTS.filter((part) => object[part].length > 0);
+    if (isAll) return parts.map((part) => ({ title: `${label(object.number)}, ${part}`, groups: [{ ...newGroup(`all-${part}`, "", keysOf(part, [...object[part].keys()])), isPlain: true }] }));
     const names = PARTS.flatMap((part) => keysOf(part, [...new Set(object.labels[part].filter((one) => one.isExternal).map(({ index }) => index))]));
-    const waits = allReferences(full).filter((one) => one.place === place && !one.to && one.name).map(({ id }) => id);
+    const waits = allReferences(full).filter((one) => one.place === place && !one.to && one.name && isWaiting(full, one)).map(({ id }) => id);
     return [
         { title: `${label(object.number)} defines`, groups: names.length > 0 ? [{ ...newGroup("names", "", names), isPlain: true }] : [] },
         { title: `${label(object.number)} waits for`, groups: groupsOf(full, waits) },
@@ -175,7 +175,7 @@ function resultOf(state, word, change) {
     const value = ["span", "value", shown(word.value)];
     if (!mark) return [value, ["span", "meant", " ", ...targetParts(state, word)]];
     const isBack = view.gone >= 0;
-    const by = typeof mark.bound === "number" ? ` ${isBack ? "\u2212" : "+"} ${shown(mark.bound)} = ` : " \u2192 ";
+    const by = typeof mark.bound === "number" && !isBack ? ` + ${shown(mark.bound)} = ` : " \u2192 ";
     return [["s", "was", shown(isBack ? mark.now : mark.value)], ["span", "by", by], value];
 }
 

@@ -53,25 +53,26 @@ function showBar() {
 // whether the segments of a word and of what it refers to have places beside each other: they are one, or a link has placed both
 const isDistance = (word) => SEGMENTS[word.kind] === word.part || view.layout >= 0;
 
-// the sum of a mark, in the direction of the step
-function markSum(mark, isBack) {
+// the sum of a mark; of a distance in decimal with its sign too, since a word before its place is a negative number
+function markSum(mark) {
     if (mark.bound === null || mark.bound === undefined) return "";
-    const [was, bound, now] = [mark.value, mark.bound, mark.now].map(shown);
-    return isBack ? `${now} \u2212 ${bound} = ${was}` : `${was} + ${bound} = ${now}`;
+    const sum = (say) => `${say(mark.value)} + ${say(mark.bound)} = ${say(mark.now)}`;
+    const signed = (number) => String(number < WORD / 2 ? number : number - WORD).replace("-", "\u2212");
+    return sum(shown) + (mark.pc && mark.value >= WORD / 2 ? `, in decimal ${sum(signed)}` : "");
 }
 
 // why a word changed in the last step
 function markText(state, mark) {
     const { part, offset, name, bound } = mark;
     const [word, where] = [wordAt(state, part, offset), `The word at ${part} ${shown(offset)}`];
-    if (view.gone >= 0) return `${where} waits for ${name} again, so ${shown(bound)} was subtracted from it: ${markSum(mark, true)}.`;
+    if (view.gone >= 0) return `${where} waits for ${name} again: its mark gave it back what it was, ${shown(mark.value)}.`;
     const distance = word.pc && isDistance(word) ? `, the distance from ${shown(offset + 2)} to ${shown(word.meant)}` : "";
-    return `${where} waited for ${name}. This is at ${shown(bound)} now, so the linker added it: ${markSum(mark, false)}${distance}.`;
+    return `${where} waited for ${name}. This is at ${shown(bound)} now, so the linker added it: ${markSum(mark)}${distance}.`;
 }
 
 // the marks of words that the last step made or put back, in the order of the image
 function wordMarks() {
-    const marks = stateShown().marks.map(markOf).filter((mark) => markSum(mark, view.gone >= 0));
+    const marks = stateShown().marks.map(markOf).filter((mark) => markSum(mark));
     return marks.sort((a, b) => PARTS.indexOf(a.part) - PARTS.indexOf(b.part) || a.offset - b.offset);
 }
 
@@ -92,6 +93,8 @@ function sentence(state) {
     const notes = [mark ? markText(state, mark) : chosen ? chosenText(state) : broughtText()];
     if (mark && marks.length > 1 && !chosen) notes.push(`${counted(marks.length - 1, "other word")} changed too.`);
     if (!mark && !chosen && view.gone < 0 && view.list.length > 0) notes.push(waitingText(state));
+    const multiples = view.gone < 0 && view.list.length > 0 && !chosen ? state.multiples.slice(stateOf(view.list.slice(0, -1)).multiples.length) : [];
+    for (const name of new Set(multiples)) notes.push(`${name} is defined a second time: the first definition counts.`);
     if (drawn.left > 0) notes.push(`${counted(drawn.left, "arrow")} more: choose a word to see its own.`);
     if (view.guide < 0 && view.list.length === 1 && view.gone < 0) notes.push("Now add another object, and look at which words change.");
     return notes.filter(Boolean);
