@@ -2,7 +2,7 @@
 # Proves two claims again: that a withdrawal takes an addition back, and that a run of edits replies to each and links what they leave.
 # For each it then breaks one line of the code, in a copy, and shows how the prover refuses it. docs/TRUST.md shows what it prints.
 #
-# tier: check, 360 seconds; for: crates/link_session crates/link_out docs/TRUST.md
+# tier: all, 360 seconds; for: crates/link_session crates/link_out docs/TRUST.md
 set -u
 cd "$(dirname "$0")/.."
 work=$(mktemp -d)

@@ -63,8 +63,6 @@ mod reloc;
 pub mod samples;
 mod strip;
 mod symbol;
-#[cfg(test)]
-mod tests;
 mod whole;
 mod wire;
 mod word;

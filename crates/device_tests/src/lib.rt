@@ -33,3 +33,5 @@ mod script_calls;
 mod standard_error;
 #[cfg(test)]
 mod steps;
+#[cfg(test)]
+mod wires;

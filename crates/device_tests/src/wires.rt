@@ -1,6 +1,6 @@
 //! Wires whose device fails once and is then left alone, and what they pass on with no failure.
-use crate::samples::{Failing, TestReader, TestWriter};
-use crate::wire::Wire;
+use aout_core::Wire;
+use aout_core::samples::{Failing, TestReader, TestWriter};
 use std::alloc::Global;
 use std::io::ErrorKind;
 use std::test::Fail;
