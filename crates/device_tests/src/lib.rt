@@ -14,8 +14,6 @@ mod fault_texts;
 mod faults;
 pub mod fixtures;
 #[cfg(test)]
-mod library;
-#[cfg(test)]
 mod links;
 #[cfg(test)]
 mod listing_texts;

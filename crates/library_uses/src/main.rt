@@ -2,6 +2,9 @@
 //! object are those of a file, and the edits are letters, `a` to add the next object and `w` to withdraw the last.
 #![tactic(auto)]
 
+#[cfg(test)]
+mod library;
+
 use anyhow::{Result, anyhow};
 use aout_core::read_all;
 use library_calls::{Cause, add_bytes, begin_session, state_of, withdraw_last};

@@ -1,5 +1,4 @@
 //! The calls that take bytes and give bytes: what they give, and why they give nothing.
-use crate::fixtures::{TWO_OBJECTS, UNDEFINED, sized};
 use aout_core::samples::{A_O, B_O, C_O, D_O, G_O};
 use aout_core::{ObjectFault, ReadFault};
 use library_calls::{
@@ -9,8 +8,34 @@ use library_calls::{
     state_of, strip, take_apart, withdraw_last,
 };
 use link_session::{AddFault, Session};
-use std::alloc::Global;
+use std::alloc::{AllocError, Global};
 use std::test::Fail;
+
+/// What `v7 ld -s a.o b.o` writes.
+const TWO_OBJECTS: [u8; 24] = [
+    0x07, 0x01, 0x06, 0x00, 0x02, 0x00, 0x00, 0x00, 0x00, 0x00, 0x00, 0x00, 0x00, 0x00, 0x01, 0x00,
+    0xc0, 0x15, 0x06, 0x00, 0x87, 0x00, 0x22, 0x00,
+];
+
+/// What `v7 ld c.o g.o` writes: text 004767, 177774; symbols `L1` 02 0, `_f` 040 0, `_g` 040 0.
+const UNDEFINED: [u8; 56] = [
+    0x07, 0x01, 0x04, 0x00, 0x00, 0x00, 0x00, 0x00, 0x24, 0x00, 0x00, 0x00, 0x00, 0x00, 0x01, 0x00,
+    0xf7, 0x09, 0xfc, 0xff, 0x4c, 0x31, 0x00, 0x00, 0x00, 0x00, 0x00, 0x00, 0x02, 0x00, 0x00, 0x00,
+    0x5f, 0x66, 0x00, 0x00, 0x00, 0x00, 0x00, 0x00, 0x20, 0x00, 0x00, 0x00, 0x5f, 0x67, 0x00, 0x00,
+    0x00, 0x00, 0x00, 0x00, 0x20, 0x00, 0x00, 0x00,
+];
+
+/// The bytes of an object of so many bytes of text, its words and relocation words 0, and nothing else.
+fn sized(alloc: Global, text: u16) -> Result<Vec<u8>, AllocError> {
+    let mut bytes = Vec::new(alloc);
+    for word in [0o407, text, 0, 0, 0, 0, 0, 0] {
+        bytes.extend_from_slice(&word.to_le_bytes())?;
+    }
+    for _ in 0..text {
+        bytes.extend_from_slice(&[0, 0])?;
+    }
+    Ok(bytes)
+}
 
 /// With no symbols.
 const STRIPPED: LinkRequest<'static> = LinkRequest {
