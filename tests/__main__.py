@@ -175,7 +175,8 @@ def commit():
 
 
 def run_parts(*commands):
-    """Runs commands, and notes in build/parts those that have passed."""
+    """Runs commands, and notes in build/parts those that have passed. They see when the first one began."""
+    os.environ.setdefault("V7_BEGUN", str(time.time()))
     passed, rows, status = {*read(PARTS).split("\n")} if os.path.exists(PARTS) else set(), [], 0
     for command in commands:
         state, begun = commit(), time.monotonic()
