@@ -31,6 +31,36 @@ impl Json {
         self.is_after_value = true;
     }
 
+    /// Puts a text that is JSON already.
+    pub(crate) fn raw(&mut self, text: &str) {
+        self.open(text);
+        self.is_after_value = true;
+    }
+
+    /// Puts a string without characters that are escaped.
+    pub(crate) fn word(&mut self, word: &str) {
+        self.open("\"");
+        self.text.put(word);
+        self.raw_end("\"");
+    }
+
+    fn raw_end(&mut self, end: &str) {
+        self.text.put(end);
+        self.is_after_value = true;
+    }
+
+    pub(crate) fn number(&mut self, number: u16) {
+        self.put(number);
+    }
+
+    pub(crate) fn index(&mut self, index: usize) {
+        self.put(index);
+    }
+
+    pub(crate) fn truth(&mut self, is_true: bool) {
+        self.raw(if is_true { "true" } else { "false" });
+    }
+
     /// Puts what a list or an object begins with, and in an object its key.
     pub(crate) fn open(&mut self, start: &str) {
         if self.is_after_value {

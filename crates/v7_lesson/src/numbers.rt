@@ -139,15 +139,24 @@ impl Numbers {
 /// Puts a list of the records that are new, after a list of those that have changed, each after its place.
 fn put_changes(out: &mut Json, start: &str, before: &[String], now: &[String]) {
     out.open(start);
-    for (place, (old, new)) in before.iter().zip(now).enumerate() {
-        if old != new {
-            out.put(format_args!("[{place},{new}]"));
+    for place in 0..before.len() {
+        if let Some(new) = now.get(place)
+            && before.get(place) != Some(new)
+        {
+            out.open("[");
+            out.index(place);
+            out.raw(new.as_str());
+            out.close("]");
         }
     }
     out.close("]");
     out.open("[");
-    for record in now.iter().skip(before.len()) {
-        out.put(format_args!("[{record}]"));
+    for place in before.len()..now.len() {
+        if let Some(record) = now.get(place) {
+            out.open("[");
+            out.raw(record.as_str());
+            out.close("]");
+        }
     }
     out.close("]]");
 }

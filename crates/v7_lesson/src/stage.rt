@@ -49,13 +49,23 @@ impl Row {
     }
 }
 
+fn put_name(text: &mut Text, name: &Name) {
+    text.put("name ");
+    text.say(Printable(name.as_bytes()));
+    text.put(": ");
+}
+
 /// Appends a place of a segment, after the name of the segment.
 fn put_place(text: &mut Text, session: &Session, segment: Segment, meant: u16) {
     let name = segment_name(segment);
     if meant > 32767 && usize::from(meant) > size_of(session, segment) {
-        text.say(format_args!("{name} - {:o}", 65536 - u32::from(meant)));
+        text.put(name);
+        text.put(" - ");
+        text.put_octal(u64::from(meant.wrapping_neg()));
     } else {
-        text.say(format_args!("{name} {meant:06o}"));
+        text.put(name);
+        text.put(" ");
+        text.put_six_digits(u32::from(meant));
     }
 }
 
@@ -63,17 +73,26 @@ fn put_place(text: &mut Text, session: &Session, segment: Segment, meant: u16) {
 fn put_cell(text: &mut Text, session: &Session, offset: u16, cell: Cell) {
     let meant = place_meant(cell, offset);
     let pc = if cell.pc { "pc" } else { "  " };
-    text.say(format_args!("{:06o} {pc}  ", cell.value));
+    text.put_six_digits(u32::from(cell.value));
+    text.put(" ");
+    text.put(pc);
+    text.put("  ");
     match Referent::of(session, cell.target) {
-        Referent::Number if cell.pc => text.say(format_args!("a number {meant:06o}")),
+        Referent::Number if cell.pc => {
+            text.put("a number ");
+            text.put_six_digits(u32::from(meant));
+        }
         Referent::Number => text.put("a number"),
         Referent::Segment(segment) => put_place(text, session, segment, meant),
         Referent::Name(name) => {
-            text.say(format_args!("waits for {}", Printable(name.as_bytes())));
+            text.put("waits for ");
+            text.say(Printable(name.as_bytes()));
             if meant > 32767 {
-                text.say(format_args!(" - {:o}", 65536 - u32::from(meant)));
+                text.put(" - ");
+                text.put_octal(u64::from(meant.wrapping_neg()));
             } else if meant > 0 {
-                text.say(format_args!(" + {meant:o}"));
+                text.put(" + ");
+                text.put_octal(u64::from(meant));
             }
         }
     }
@@ -81,7 +100,12 @@ fn put_cell(text: &mut Text, session: &Session, offset: u16, cell: Cell) {
 
 fn put_word(text: &mut Text, session: &Session, place: WordPlace, between: &str, cell: Cell) {
     let WordPlace { segment, offset } = place;
-    text.say(format_args!("{} {offset:06o} {between} ", segment_name(segment)));
+    text.put(segment_name(segment));
+    text.put(" ");
+    text.put_six_digits(u32::from(offset));
+    text.put(" ");
+    text.put(between);
+    text.put(" ");
     put_cell(text, session, offset, cell);
 }
 
@@ -171,12 +195,18 @@ impl Stage {
                     text.put_bytes(instruction);
                 }
             }
-            Row::Bss(bytes) => text.say(format_args!("bss {} bytes", Size(bytes))),
+            Row::Bss(bytes) => {
+                text.put("bss ");
+                text.say(Size(bytes));
+                text.put(" bytes");
+            }
             Row::Name(name, state) => {
-                text.say(format_args!("name {}: {}", Printable(name.as_bytes()), Known(state)));
+                put_name(text, &name);
+                text.say(Known(state));
             }
             Row::Multiple(name) => {
-                text.say(format_args!("name {}: multiply defined", Printable(name.as_bytes())));
+                put_name(text, &name);
+                text.put("multiply defined");
             }
         }
         text.put("\n");

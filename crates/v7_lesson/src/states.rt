@@ -28,7 +28,11 @@ fn next_object(count: usize, list: &[usize], passed: Option<usize>) -> Option<us
 fn put_outline(out: &mut Json, computed: Computed<'_>) {
     let session = computed.session;
     let (text, data) = (session.text_cells().len(), session.data_cells().len());
-    out.put(format_args!("\"sizes\":[{text},{data},{}]", session.bss_total()));
+    out.open("\"sizes\":[");
+    out.index(text);
+    out.index(data);
+    out.number(session.bss_total());
+    out.close("]");
     out.open("\"front\":[");
     if let Some(last) = computed.placed.last() {
         for segment in SEGMENTS {
@@ -44,17 +48,22 @@ fn put_cell_mark(out: &mut Json, session: &Session, place: WordPlace, was: Cell)
     let WordPlace { segment, offset } = place;
     let (name, target) = (segment_name(segment), Referent::of(session, was.target));
     let meant = place_meant(was, offset);
-    out.put(format_args!(
-        "\"{name}\",{offset},{},{},{target},{meant}",
-        was.value, was.pc
-    ));
+    out.word(name);
+    out.number(offset);
+    out.number(was.value);
+    out.truth(was.pc);
+    out.put(target);
+    out.number(meant);
     let bound = match was.target {
         Target::External(index) => defined_at(session, index),
         _ => None,
     };
     match (bound, place.cell(session)) {
-        (Some(bound), Some(now)) => out.put(format_args!("{bound},{}", now.value)),
-        _ => out.put("null"),
+        (Some(bound), Some(now)) => {
+            out.number(bound);
+            out.number(now.value);
+        }
+        _ => out.raw("null"),
     }
 }
 
@@ -68,12 +77,13 @@ fn put_marks(out: &mut Json, session: &Session) {
                 put_cell_mark(out, session, WordPlace::of(place), cell);
             }
             Mark::StateWas(index, state) => {
-                out.put("\"name\"");
+                out.word("name");
                 if let Some((name, _)) = session.external(index) {
                     out.put(Bytes(name.as_bytes()));
                 }
                 let (kind, number) = what_is_known(state);
-                out.put(format_args!("\"{kind}\",{number}"));
+                out.word(kind);
+                out.number(number);
             }
         }
         out.close("]");
