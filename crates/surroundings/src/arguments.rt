@@ -4,6 +4,7 @@ ghost use Rattle.surroundings.specs.Arguments.{letters_of};
 
 use std::alloc::{AllocError, Global};
 use std::env::{Args, Env, FillError};
+use std::io;
 use texts::Text;
 
 /// All that an iterator still gives, in order.
@@ -63,15 +64,18 @@ pub fn readable(alloc: Global, bytes: Vec<u8>) -> Result<String, AllocError>
     }
 }
 
-/// The arguments of a program after its name, in order. One that is not UTF-8 cannot be opened as a path: it is shown by `\ooo` for
-/// each byte that does not print. No contract can say what a system gives, so these lines are to be read. (own choice)
+/// The arguments of a program after its name, in order. One that is not UTF-8 cannot be opened as a path, and shown in another way it
+/// would name another file, so it is refused. No contract can say what a system gives, so these lines are to be read. (own choice)
 ///
-/// Errors: `AllocError` if memory runs out.
-pub fn readable_words<R: Env>(alloc: Global, rt: &R) -> Result<Vec<String>, AllocError> {
+/// Errors: `InvalidData` for such an argument, and that of a refused request if memory runs out.
+pub fn readable_words<R: Env>(alloc: Global, rt: &R) -> io::Result<Vec<String>> {
     let mut words = Vec::new(alloc);
     for number in 1..usize::MAX {
         match argument(alloc, rt, number)? {
-            Some(bytes) => words.push(readable(alloc, bytes)?)?,
+            Some(bytes) => match String::from_utf8(bytes) {
+                Ok(text) => words.push(text)?,
+                Err(_) => return Err(io::Error::from(io::ErrorKind::InvalidData)),
+            },
             None => break,
         }
     }
