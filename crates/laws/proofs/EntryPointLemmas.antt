@@ -1,18 +1,16 @@
 -- The entry point of a linked file, by its own symbol table.
-use Rattle.std.proofs.Common.{◌≡◌, ◌≢◌, ℕ, Bool, true, false, cond, ◌&&◌, eqb, List, Option, Some, None, refl, sym, ◌∙◌, ap, subst, inl}
+use Rattle.std.proofs.Common.{◌≡◌, ℕ, Bool, true, false, cond, ◌&&◌, eqb, List, Option, Some, None, refl, sym, ◌∙◌, ap, inl}
 use Rattle.std.proofs.{Common.{inr, eqb-true}, lemmas.Option.same_Some}
-use Rattle.std.specs.Prelude.{bytes_eq, Ok}
+use Rattle.std.specs.Prelude.{bytes_eq}
 use Rattle.aout_core.specs.declared.symbol.Segment.TheVariants.{TextSeg, DataSeg, BssSeg}
-use Rattle.aout_core.specs.{declared.symbol.Symbol.Symbol, Contents.Contents, Words.plus}
+use Rattle.aout_core.specs.{declared.symbol.Symbol.Symbol, Words.plus}
 use Rattle.link_session.specs.{declared.state.State.State, declared.state.State.TheVariants.Defined}
 use Rattle.link_session.specs.{declared.state.State.TheVariants.Wanted, Mentions.names_by_first_mention, States.state}
-use Rattle.tool_options.specs.{NameLists.is_among, declared.options.Keep.TheVariants.Nothing, Choices.Choices, Choices.lays_commons}
+use Rattle.tool_options.specs.{NameLists.is_among, Choices.lays_commons}
 use Rattle.link_out.specs.function.Finals.{final, final_by, type_of, bound_at, waiting, reserved_or_waiting, etext, edata, end_name}
-use Rattle.link_out.specs.{function.Plans.{Plan, plan, common_offset}, function.Tables.{external_row, table}}
-use Rattle.link_out.specs.{function.Reports.{entry_word, entry_found_bad}, function.Link.{Outcome, link}}
+use Rattle.link_out.specs.{function.Plans.{Plan, common_offset}, function.Tables.{external_row}}
+use Rattle.link_out.specs.{function.Reports.{entry_word, entry_found_bad}}
 use Rattle.laws.specs.relation.Relocated.{entry_of, IsEntry}
-use Rattle.link_out.proofs.OutcomeLemmas.{made}
-use Rattle.laws.proofs.ExternalLemmas.{entry_in_table}
 
 -- the address of a name in text is written
 text_written : (p : Plan) (name : List ℕ) (st : State) → eqb (type_of (final_by p name st).bound) 34 ≡ true →
@@ -67,11 +65,3 @@ entry_once rows (Some name) w v b c (inl h) (inr k) =
 entry_once rows (Some name) w v b c (inr h) (inl k) =
     absurd (let bad : true ≡ false = sym (ap (λ (n : ℕ). eqb n 34) k.2) ∙ h.0 k.0 k.1 in cc)
 entry_once rows (Some name) w v b c (inr h) (inr k) = (h.1 ∙ sym k.1, h.2 ∙ sym k.2)
-
--- the entry word of a linked file by its own table
-pub entry_is_found : (forced : List (List ℕ)) (os : List Contents) (o : Choices) (x : Outcome) → o.keep ≢ Nothing →
-    link forced os o ≡ Ok x → IsEntry x.file.symbols o.entry x.file.header.entry_point x.report.entry_bad
-entry_is_found forced os o x others linked =
-    let p = plan forced os o in
-    subst (λ (y : Outcome). IsEntry y.file.symbols o.entry y.file.header.entry_point y.report.entry_bad) (made p os x linked).outcome
-    (entry_made p (table p os) (λ name. entry_in_table p os name others) o.entry)

@@ -1,18 +1,18 @@
 -- The external entries of a linked file, and the address that each gives.
 use Rattle.std.proofs.Common.{◌≡◌, ◌≢◌, ℕ, Bool, true, false, cond, ◌&&◌, ◌||◌, eqb, List, [], ◌∷◌, ◌++◌, map, Option, Some, None, refl}
-use Rattle.std.proofs.{Common.{sym, ◌∙◌, ap, subst}, lemmas.Slice.Eq.bytes_eq-Decides}
-use Rattle.std.specs.Prelude.{bytes_eq, filter, Ok}
+use Rattle.std.proofs.{Common.{sym, ◌∙◌, ap}, lemmas.Slice.Eq.bytes_eq-Decides}
+use Rattle.std.specs.Prelude.{bytes_eq, filter}
 use Rattle.aout_core.specs.declared.symbol.Segment.TheVariants.{Undefined, TextSeg, DataSeg, BssSeg, Other}
 use Rattle.aout_core.specs.{declared.symbol.Symbol.Symbol, Contents.Contents, Words.plus, WellFormed.is_external}
-use Rattle.link_session.specs.{Mentions.{mentions, names_by_first_mention, externals}, declared.state.State.State}
+use Rattle.link_session.specs.{Mentions.{mentions, names_by_first_mention}, declared.state.State.State}
 use Rattle.link_session.specs.{declared.state.State.TheVariants.{Defined, Wanted}, States.state}
 use Rattle.tool_options.specs.{NameLists.is_among, declared.options.Keep.TheVariants.Nothing, Choices.Choices, Choices.lays_commons}
 use Rattle.link_out.specs.function.Plans.{Plan, plan, common_offset}
 use Rattle.link_out.specs.function.Finals.{Final, final, final_by, type_of, bound_at, waiting, reserved_or_waiting, etext, edata, end_name}
-use Rattle.link_out.specs.{function.Tables.{local_rows, external_row, external_rows, table}, Layouts.Bases, function.Link.{Outcome, link}}
+use Rattle.link_out.specs.{function.Tables.{local_rows, external_row, external_rows, table}, Layouts.Bases}
 use Rattle.laws.specs.relation.Relocated.{entry_of, address_in}
-use Rattle.link_out.proofs.partial_links.PartialLemmas.{IsProper, state_is_proper, local_rows_inner, external_row_outer, externals_in_table}
-use Rattle.link_out.proofs.{RowLemmas.rows_kept-others, OutcomeLemmas.made_file}
+use Rattle.link_out.proofs.partial_links.PartialLemmas.{IsProper, state_is_proper, local_rows_inner, external_row_outer}
+use Rattle.link_out.proofs.{RowLemmas.rows_kept-others}
 
 entry_after : (xs ys : List Symbol) (name : List ℕ) → filter is_external xs ≡ [] → entry_of (xs ++ ys) name ≡ entry_of ys name
 entry_after [] ys name h = refl
@@ -99,14 +99,3 @@ row_address forced os o name = row_address_by (plan forced os o) name (state (me
 pub names_of_rows : (p : Plan) (names : List (List ℕ)) → map (λ s. s.name) (map (external_row p) names) ≡ names
 names_of_rows p [] = refl
 names_of_rows p (n ∷ ns) = ap (λ (ms : List (List ℕ)). n ∷ ms) (names_of_rows p ns)
-
--- each external has one row, in order of first mention
-pub entries_once : (forced : List (List ℕ)) (os : List Contents) (o : Choices) (x : Outcome) → o.keep ≢ Nothing →
-    link forced os o ≡ Ok x → map (λ s. s.name) (filter is_external x.file.symbols) ≡ externals forced os
-entries_once forced os o x others linked =
-    subst (λ (f : Contents). map (λ s. s.name) (filter is_external f.symbols) ≡ externals forced os)
-    (made_file (plan forced os o) os x linked)
-    (ap (λ (rows : List Symbol). map (λ s. s.name) (filter is_external rows))
-    (rows_kept-others o.keep (local_rows (plan forced os o) os ++ external_rows (plan forced os o)) others)
-    ∙ ap (λ (rows : List Symbol). map (λ s. s.name) rows) (externals_in_table (plan forced os o) os)
-    ∙ names_of_rows (plan forced os o) (names_by_first_mention (mentions forced os)))

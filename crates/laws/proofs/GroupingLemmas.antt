@@ -1,65 +1,19 @@
 -- Partial links linked again, grouped in any way, and added to a session.
-use Rattle.std.proofs.Common.{◌≡◌, ℕ, true, false, cond, List, [], ◌∷◌, ◌++◌, map, length, Some, None, refl, sym, ◌∙◌, ap, subst}
-use Rattle.std.proofs.Common.{append-nil}
-use Rattle.std.specs.{Prelude.nat_lt, Prelude.Ok, List.AllByRecursion}
+use Rattle.std.proofs.Common.{◌≡◌, ℕ, true, false, cond, List, [], ◌∷◌, ◌++◌, length, Some, None, refl, sym, ◌∙◌, ap, subst}
+use Rattle.std.specs.{Prelude.nat_lt, List.AllByRecursion}
 use Rattle.aout_core.specs.{declared.symbol.Segment.TheVariants.{TextSeg, DataSeg, BssSeg}, Contents.Contents, WellFormed.IsWellFormed}
 use Rattle.tool_options.specs.{NameLists.is_among, declared.options.Keep.Keep, Choices.Choices}
-use Rattle.link_session.specs.Mentions.{Mention, mentions, mentions_in, forced_mention, names_by_first_mention}
+use Rattle.link_session.specs.Mentions.{mentions}
 use Rattle.link_session.specs.declared.entry.AddFault.TheVariants.{TextFull, DataFull, BssFull, NamesFull}
-use Rattle.link_session.specs.{States.{definition_by, first_definition, state, multiple_names}, Limits.limit_passed}
+use Rattle.link_session.specs.{States.{multiple_names}, Limits.limit_passed}
 use Rattle.link_session.proofs.{NeighbourLemmas.{AreAsLong, as_long_append, as_long_self}, ListLemmas.{all_append, all_split}}
-use Rattle.link_session.proofs.{UpdateLemmas.definition_of, AgreementLemmas.{AgreesIn, no_multiples, own_again}}
 use Rattle.link_out.specs.{function.Link.{Outcome, link}, laws.PartialLinks.{KeepsNoMore, IsPartialLink, IsPart, DefinesNoMultiple}}
 use Rattle.laws.specs.PartialLinksAmongOthers.{IsGrouped, ungrouped, grouped}
-use Rattle.link_out.proofs.partial_links.PartialNames.{HasTable, has_table, final_mention, final_alone}
-use Rattle.link_out.proofs.partial_links.NeighbourMentions.{partial_as_long, states_same}
-use Rattle.link_out.proofs.partial_links.PartialAmong.{names_alike, alone_alike, partial_options}
+use Rattle.link_out.proofs.partial_links.PartialNames.{HasTable, has_table}
+use Rattle.link_out.proofs.partial_links.NeighbourMentions.{partial_as_long}
+use Rattle.link_out.proofs.partial_links.PartialAmong.{names_alike, partial_options}
 use Rattle.link_out.proofs.partial_links.PartialMultiples.{replaces_among_others, multiples_alike}
-use Rattle.link_out.proofs.{partial_links.PartialLemmas.partial_file, ObjectLemmas.linked_is_object, partial_links.SameLinks.with_multiples}
-
--- again
-
--- a partial link that is linked again alone is itself
-pub again_the_same : (forced : List (List ℕ)) (os : List Contents) (by : Choices) (x : Outcome) →
-    AllByRecursion IsWellFormed os → IsPartialLink forced os by x →
-    link forced (x.file ∷ []) by ≡ Ok (record x { report = record x.report { multiples = [] } })
-again_the_same forced os by x good p =
-    let file = partial_options forced os by x p in
-    let has : HasTable forced os by.keep by.entry = has_table forced os by.keep by.entry file.1 in
-    subst (λ (f : Contents). link forced (f ∷ []) by ≡ Ok (record x { report = record x.report { multiples = [] } })) file.0
-    (alone_alike forced forced (λ name e. e) os by.keep by.entry by good file.1 (λ n e. e)
-    ∙ (λ i. with_multiples (none_alone has i) (p.linked i)))
-  where
-    none_alone : HasTable forced os by.keep by.entry → multiple_names (mentions forced (partial_file forced os by.keep by.entry ∷ [])) ≡ []
-    none_alone has =
-        let M = mentions forced (partial_file forced os by.keep by.entry ∷ []) in
-        let final_all : AllByRecursion (AgreesIn M) (mentions_in [] (partial_file forced os by.keep by.entry)) =
-        subst (λ (ms : List Mention). AllByRecursion (AgreesIn M) ms) (sym (final_alone forced os by.keep by.entry has))
-        (final_agrees (names_by_first_mention (mentions forced os))) in
-        no_multiples M M (all_append (AgreesIn M) (map forced_mention forced)
-        (mentions_in [] (partial_file forced os by.keep by.entry) ++ []) (forced_agree forced)
-        (all_append (AgreesIn M) (mentions_in [] (partial_file forced os by.keep by.entry)) [] final_all tt))
-      where
-        forced_agree : (names : List (List ℕ)) →
-            AllByRecursion (AgreesIn (mentions forced (partial_file forced os by.keep by.entry ∷ []))) (map forced_mention names)
-        forced_agree [] = tt
-        forced_agree (n ∷ ns) = (refl, forced_agree ns)
-
-        same_definition : (n : List ℕ) → first_definition (mentions forced (partial_file forced os by.keep by.entry ∷ []))
-            n ≡ definition_by (state (mentions forced os) n)
-        same_definition n = definition_of (mentions forced (partial_file forced os by.keep by.entry ∷ [])) n
-            ∙ ap definition_by (states_same forced [] os [] by.keep by.entry has n
-            ∙ ap (λ (xs : List Contents). state (mentions forced xs) n) (append-nil os))
-
-        final_agrees : (names : List (List ℕ)) →
-            AllByRecursion (AgreesIn (mentions forced (partial_file forced os by.keep by.entry ∷ [])))
-            (map (final_mention (mentions forced os)) names)
-        final_agrees [] = tt
-        final_agrees (n ∷ ns) = (
-          own_again (state (mentions forced os) n)
-              (first_definition (mentions forced (partial_file forced os by.keep by.entry ∷ [])) n) (same_definition n),
-          final_agrees ns,
-        )
+use Rattle.link_out.proofs.{partial_links.PartialLemmas.partial_file, ObjectLemmas.linked_is_object}
 
 -- grouping
 

@@ -1,5 +1,4 @@
 -- The lemmas of this crate, and examples computed from its definitions.
-mod ArrangedLemmas
 mod BuildLemmas
 mod BuildObjects
 mod BuildRuns
@@ -7,12 +6,10 @@ mod BuildSounds
 mod ByteLemmas
 mod CallLemmas
 mod CleanProgramLemmas
-mod CommonLemmas
 mod CoreLemmas
 mod DefinedLemmas
 mod EntryPointLemmas
 mod ExternalLemmas
-mod ExternalsListed
 mod FlowLemmas
 mod GroupingLemmas
 mod HasStateLemmas
@@ -27,8 +24,6 @@ mod LinkedReports
 mod LinkedRows
 mod LinkedTheorem
 mod LoadedLemmas
-mod MapPlaceLemmas
-mod MapWordLemmas
 mod MoveLemmas
 mod OperandLemmas
 mod OperandPlaceLemmas
@@ -38,9 +33,5 @@ mod RelocatedLemmas
 mod SaidLemmas
 mod SameDiskLemmas
 mod SegmentLemmas
-mod ShownLemmas
-mod SizeSums
-mod UndefinedLemmas
-mod UndefinedListed
 mod UndoLemmas
 mod examples

@@ -1,21 +1,21 @@
 -- What a link puts into the core: words and zeros.
-use Rattle.std.proofs.Common.{rules, ◌≡◌, ◌≢◌, ℕ, ◌+◌, ◌-◌, ◌*◌, ◌/◌, ◌%◌, ◌<◌, ◌≤◌, true, cond, List, [], ◌∷◌, ◌++◌, length, Some}
-use Rattle.std.proofs.{Common.{refl, sym, ◌∙◌, ap, subst, arith}, lemmas.List.Sums.sum_by-append, lemmas.Option.slice_get_within}
+use Rattle.std.proofs.Common.{rules, ◌≡◌, ◌≢◌, ℕ, ◌+◌, ◌-◌, ◌*◌, ◌/◌, ◌%◌, true, cond, List, [], ◌∷◌, ◌++◌, length, Some}
+use Rattle.std.proofs.{Common.{refl, sym, ◌∙◌, subst, arith}, lemmas.Option.slice_get_within}
 use Rattle.std.specs.{Prelude.slice_get, Prelude.Ok, List.AllByRecursion}
 use Rattle.aout_core.specs.{declared.symbol.Symbol.Symbol, declared.symbol.Segment.Segment, declared.reloc.Reloc.Reloc, Contents.Contents}
 use Rattle.aout_core.specs.{declared.symbol.Segment.TheVariants.{TextSeg, DataSeg, BssSeg}, declared.header.Header.Header}
-use Rattle.aout_core.specs.{Words.{plus, minus}, WellFormed.is_pc_relative, Addresses.data_start_in}
-use Rattle.link_session.specs.{Starts.size_of, Starts.total, Starts.own, Sessions.IsObject, Cells.segment_words, Cells.segment_relocs}
+use Rattle.aout_core.specs.{Words.{plus, minus}, WellFormed.is_pc_relative}
+use Rattle.link_session.specs.{Starts.total, Starts.own, Sessions.IsObject, Cells.segment_words, Cells.segment_relocs}
 use Rattle.link_session.proofs.ListLemmas.{all_split}
 use Rattle.tool_options.specs.{declared.options.Keep.TheVariants.Nothing, declared.options.Layout.Layout}
-use Rattle.tool_options.specs.{declared.options.Layout.TheVariants.{Plain, Pure, Split}, Choices.{Choices, lays_commons}}
+use Rattle.tool_options.specs.{declared.options.Layout.TheVariants.{Plain, Pure, Split}, Choices.{Choices}}
 use Rattle.link_out.specs.{Layouts.magic_of, Results.Outcome, function.Link.link}
-use Rattle.laws.specs.relation.Relocated.{base_in, move_in, entry_of, IsRelocated, HoldsObjects}
-use Rattle.laws.specs.{relation.LinkedFrom.IsLinkedFrom, CommonsAndEntries.IsCommon, CommonsAndEntries.HasSpace}
-use Rattle.laws.specs.Core.{Space, of_data, has_segment, first_address, bytes_of, segment_byte, core, IsWordAt}
-use Rattle.laws.specs.CoreLaws.{space_of, IsPlace, IsLoaded, IsZero}
+use Rattle.laws.specs.relation.Relocated.{base_in, move_in, IsRelocated, HoldsObjects}
+use Rattle.laws.specs.{relation.LinkedFrom.IsLinkedFrom}
+use Rattle.laws.specs.Core.{Space, has_segment, first_address, bytes_of, segment_byte, IsWordAt}
+use Rattle.laws.specs.CoreLaws.{space_of, IsPlace, IsLoaded}
 use Rattle.laws.proofs.{SegmentLemmas.{HasWords, made_length}, RelocatedLemmas.{words_relocated, objects_fill}}
-use Rattle.laws.proofs.{CommonLemmas.commons_have_space, LinkedTheorem.linked_exactly, ByteLemmas.{low_byte, high_byte}}
+use Rattle.laws.proofs.{LinkedTheorem.linked_exactly, ByteLemmas.{low_byte, high_byte}}
 
 -- places
 
@@ -96,12 +96,6 @@ whole_words segment has os good =
     let e = made_length (λ (earlier : List Contents) (c : Contents) (w : ℕ) (r : Reloc). w) segment has [] os good in
     omega arith
 
--- bss is loaded as zeros
-zero_at : (file : Contents) → has_segment file.header.magic BssSeg of_data ≡ true → (address : ℕ) →
-    first_address file.header BssSeg ≤ address → address < first_address file.header BssSeg + file.header.bss_size →
-    core file of_data address ≡ Some 0
-zero_at file has address from before = search rules
-
 -- a relocated word is loaded
 
 module _ (forced : List (List ℕ)) (os : List Contents) (o : Choices) (x : Outcome) (good : AllByRecursion IsObject os)
@@ -142,50 +136,9 @@ module _ (forced : List (List ℕ)) (os : List Contents) (o : Choices) (x : Outc
         sums : (f b t i : ℕ) → b ≡ f → 2 * (t / 2) ≡ t → f + 2 * (t / 2 + i) ≡ b + t + 2 * i
         sums f b t i e g = omega arith
 
-  -- zeros
-
-  -- for `core_law`: bss is loaded as zeros
-  pub bss_zero : (before : List Contents) (k : Contents) (after : List Contents) → os ≡ before ++ k ∷ after → (n : ℕ) →
-      n < k.header.bss_size → IsZero x.file os before k n
-  bss_zero before k after all n h =
-      let sum : total BssSeg os ≡ total BssSeg before + (0 + k.header.bss_size + total BssSeg after) =
-      ap (λ (ys : List Contents). total BssSeg ys) all ∙ sum_by-append (size_of BssSeg) before (k ∷ after)
-      ∙ ap (λ (m : ℕ). total BssSeg before + m) (sum_by-append (size_of BssSeg) (k ∷ []) after) in
-      let address : ℕ = address_of x.file.header os before k BssSeg n in
-      record {
-        address = address;
-        place = place_at x.file.header os before k BssSeg tt n;
-        zero =
-            zero_at x.file (found_in forced os o x linked BssSeg tt) address (over (data_start_in x.file.header
-            + x.file.header.data_size) (x.file.header.bss_size - total BssSeg os) (total BssSeg before) n)
-            (under (data_start_in x.file.header + x.file.header.data_size) x.file.header.bss_size (total BssSeg os)
-            (total BssSeg before) k.header.bss_size (total BssSeg after) n sum full.bss h);
-      }
-    where
-      over : (e c t n : ℕ) → e ≤ e + c + t + n
-      over e c t n = omega arith
-
-      under : (e b all t s more n : ℕ) → all ≡ t + (0 + s + more) → all ≤ b → n < s → e + (b - all) + t + n < e + b
-      under e b all t s more n f g h = omega arith
-
--- each byte of a common is a zero
-pub common_zero : (forced : List (List ℕ)) (os : List Contents) (o : Choices) (x : Outcome) → o.keep ≢ Nothing →
-    lays_commons o ≡ true → link forced os o ≡ Ok x →
-    (name : List ℕ) (size : ℕ) → IsCommon forced os name size → (row : Symbol) →
-    entry_of x.file.symbols name ≡ Some row → (n : ℕ) → n < size → core x.file of_data (row.value + n) ≡ Some 0
-common_zero forced os o x others lays linked name size common row found n h =
-    let room : HasSpace x.file os name size = commons_have_space forced os o x others lays linked name size common in
-    search rules
-  where
-    over : (e v n : ℕ) → e ≤ v → e ≤ v + n
-    over e v n f = omega arith
-
-    under : (e b t v s n : ℕ) → v + s ≤ e + (b - t) → n < s → v + n < e + b
-    under e b t v s n f g = omega arith
-
 -- each word of a link that keeps symbols is loaded
 
--- for `core_law`: each word of an object is at its address, with what was added to it
+-- each word of an object is at its address, with what was added to it
 pub words_loaded : (forced : List (List ℕ)) (before : List Contents) (k : Contents) (after : List Contents) (o : Choices) (x : Outcome) →
     AllByRecursion IsObject (before ++ k ∷ after) → o.keep ≢ Nothing → link forced (before ++ k ∷ after) o ≡ Ok x →
     (segment : Segment) (i w : ℕ) (r : Reloc) → slice_get (segment_words segment k) i ≡ Some w →

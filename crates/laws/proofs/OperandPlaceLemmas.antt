@@ -13,7 +13,7 @@ use Rattle.link_session.proofs.ListLemmas.{all_split}
 use Rattle.tool_options.specs.{declared.options.Keep.TheVariants.Nothing, Choices.Choices}
 use Rattle.link_out.specs.{Results.Outcome, function.Link.link}
 use Rattle.laws.specs.OperandPlaces.{addressing_of, within_text, kind_meant, IsNamedByte, IsAddress, HasOperand, IsOperand}
-use Rattle.laws.specs.OperandPlaces.{OperandsAreThere, IsDirect, JumpsArrive, PointersToSegments, PointersToNames}
+use Rattle.laws.specs.OperandPlaces.{OperandsAreThere, IsDirect, JumpsArrive}
 use Rattle.laws.specs.OperandWords.{machine_value, moves_instructions, space_used}
 use Rattle.laws.specs.{relation.Relocated.{move_in, entry_of, address_in}, relation.LinkedFrom.IsLinkedFrom, WordsAndNames.IsDefined}
 use Rattle.laws.specs.{Core.{Space, of_instructions, of_data, IsWordAt}, Operands.{operand, segment_meant, Defines}}
@@ -268,33 +268,3 @@ jumps_arrive forced before k after o x good kept linked once i w following here 
           subst (λ (space : Space). IsAddress x.file (before ++ k ∷ after) front c to n space (machine_value a (h.address + 2) h.word))
           (jump_space instruction.row.operation a j direct) (h.names kept once front c back all to n b);
     }
-
--- pointers
-alone_value : (r : Reloc) (start address word more w : ℕ) → is_pc_relative r ≡ false → operand (is_pc_relative r)
-    address word ≡ plus more (operand (is_pc_relative r) start w) → operand false address word ≡ plus more (w % 65536)
-alone_value r start address word more w e f = search rules
-
--- for `pointer_law`: a word that refers to a segment of its object
-pub pointers_to_segments : PointersToSegments
-pointers_to_segments forced before k after o x good linked from i w r ew er alone to n b =
-    let f = segments_found forced before k after o x good linked from i w r ew er b.meant to b.is b.segment in
-    let value =
-    alone_value r (own k from + 2 * i) f.address f.word (move_in x.file.header (before ++ k ∷ after) before k to) w alone f.finds in
-    record {
-      address = f.address;
-      place = f.place;
-      word = f.word;
-      is_there = f.is_there;
-      points =
-          λ space. address_by forced (before ++ k ∷ after) o x good linked before k after refl to n space
-          (operand false f.address f.word)
-          (value ∙ moved_own (w % 65536) (move_in x.file.header (before ++ k ∷ after) before k to) (own k to) n
-          (address_of x.file.header (before ++ k ∷ after) before k to n) b.byte
-          (any_place x.file.header (before ++ k ∷ after) before k to n).symbol);
-    }
-
--- and one that refers to a name
-pub pointers_to_names : PointersToNames
-pointers_to_names forced before k after o x good kept linked once from i w r ew er alone front c back all to n b =
-    let f = address_found forced before k after o x good kept linked from i w r ew er b.is in
-    search (rules, alone_value, named_address)

@@ -13,7 +13,7 @@ use Rattle.tool_options.specs.Choices.{Choices}
 use Rattle.link_out.specs.{Results.Outcome, function.Link.link}
 use Rattle.laws.proofs.LinkedTheorem.{linked_exactly}
 use Rattle.laws.proofs.{InstructionLemmas.moves_low, InstructionPlaceLemmas.instructions_there, OperandPlaceLemmas.operands_there}
-use Rattle.instructions.specs.declared.mode.Addressing.TheVariants.{Immediate, Absolute, Relative, RelativeDeferred}
+use Rattle.instructions.specs.declared.mode.Addressing.TheVariants.{Immediate, Relative, RelativeDeferred}
 use Rattle.instructions.specs.{declared.operation.Operation.Operation, declared.mode.Addressing.Addressing}
 use Rattle.instructions.specs.{declared.operand.Operand.Operand, declared.instruction.Instruction.Instruction}
 use Rattle.instructions.specs.{declared.call_table.CallRow.CallRow, declared.line.Line.Line, declared.line.Line.TheVariants.Decoded}

@@ -7,9 +7,7 @@ pub mod ConversionExamples
 pub mod DerivedLinks
 pub mod LawExamples
 pub mod LdRuns
-pub mod ListingExamples
 pub mod MachineExamples
-pub mod MapExamples
 pub mod MarkExamples
 pub mod NearLaws
 pub mod NeededClauses

@@ -1,9 +1,7 @@
 -- The definitions that the laws of this crate are written in.
 pub mod relation
 pub mod WordsAndNames
-pub mod CommonsAndEntries
 pub mod PartialLinksAmongOthers
-pub mod Listings
 pub mod Core
 pub mod CoreLaws
 pub mod Operands
@@ -15,5 +13,4 @@ pub mod CleanPrograms
 pub mod Disks
 pub mod SessionsByCommands
 pub mod Calls
-pub mod Maps
 pub mod Builds

@@ -10,10 +10,10 @@ use Rattle.aout_core.specs.WellFormed.{kind_of, is_pc_relative, symbol_number}
 use Rattle.aout_core.specs.{declared.symbol.Symbol.Symbol, declared.symbol.Segment.Segment, declared.symbol.Segment.TheVariants.TextSeg}
 use Rattle.aout_core.specs.{declared.reloc.Reloc.Reloc, declared.reloc.Kind.Kind, Contents.Contents, Words.plus}
 use Rattle.aout_core.specs.declared.reloc.Kind.TheVariants as kinds
-use Rattle.link_session.specs.{Starts.size_of, Starts.own, Sessions.IsObject, Cells.segment_words, Cells.segment_relocs}
+use Rattle.link_session.specs.{Starts.size_of, Starts.own, Sessions.IsObject}
 use Rattle.tool_options.specs.{declared.options.Keep.TheVariants.Nothing, Choices.Choices}
 use Rattle.link_out.specs.{Results.Outcome, function.Link.link}
-use Rattle.laws.specs.{relation.Relocated.entry_of, Core.{Space, of_instructions, is_in, IsWordAt}, CoreLaws.{space_of, IsPlace}}
+use Rattle.laws.specs.{relation.Relocated.entry_of, Core.{Space, of_instructions, is_in, IsWordAt}, CoreLaws.{IsPlace}}
 use Rattle.laws.specs.{Operands.{operand, segment_meant, Defines, is_usable_in}, OperandWords.{machine_value, space_used}}
 use Rattle.instructions.specs.{declared.operation.Operation.Operation, declared.mode.Addressing.Addressing}
 use Rattle.instructions.specs.{declared.operand.Operand.TheVariants.General, declared.instruction.Instruction.Instruction}
@@ -133,30 +133,3 @@ JumpsArrive = (forced : List (List ℕ)) (before : List Contents) (k : Contents)
     (front : List Contents) (c : Contents) (back : List Contents) → before ++ k ∷ after ≡ front ++ c ∷ back →
     (to : Segment) (n : ℕ) → IsNamedByte k c (kind_meant a r) r (machine_value a (2 * p + 2) u) to n →
     JumpArrives x (before ++ k ∷ after) before k a p front c to n
-
--- word i of a segment of k, which is not relative to the pc, has the address of a byte in the program: a pointer
-pub record Points (x : Outcome) (os before : List Contents) (k : Contents) (from : Segment) (i : ℕ)
-    (front : List Contents) (c : Contents) (to : Segment) (n : ℕ) : Type 0 where
-  pub address : ℕ
-  pub place : IsPlace x.file.header os before k from (2 * i) address
-  pub word : ℕ
-  pub is_there : IsWordAt x.file (space_of from) address word
-  pub points : (space : Space) → IsAddress x.file os front c to n space (operand false address word)
-
--- a word of text or data that refers to a segment of its object points to the same byte of it in the program
-abbrev pub PointersToSegments : Type 0
-PointersToSegments = (forced : List (List ℕ)) (before : List Contents) (k : Contents) (after : List Contents) (o : Choices) (x : Outcome) →
-    AllByRecursion IsObject (before ++ k ∷ after) → link forced (before ++ k ∷ after) o ≡ Ok x →
-    (from : Segment) (i w : ℕ) (r : Reloc) → slice_get (segment_words from k) i ≡ Some w →
-    slice_get (segment_relocs from k) i ≡ Some r → is_pc_relative r ≡ false →
-    (to : Segment) (n : ℕ) → IsOwnByte k (kind_of r) (w % 65536) to n → Points x (before ++ k ∷ after) before k from i before k to n
-
--- one that refers to a name points to the definition, as a table of functions does
-abbrev pub PointersToNames : Type 0
-PointersToNames = (forced : List (List ℕ)) (before : List Contents) (k : Contents) (after : List Contents) (o : Choices) (x : Outcome) →
-    AllByRecursion IsObject (before ++ k ∷ after) → o.keep ≢ Nothing → link forced (before ++ k ∷ after) o ≡ Ok x →
-    x.report.multiples ≡ [] →
-    (from : Segment) (i w : ℕ) (r : Reloc) → slice_get (segment_words from k) i ≡ Some w →
-    slice_get (segment_relocs from k) i ≡ Some r → is_pc_relative r ≡ false →
-    (front : List Contents) (c : Contents) (back : List Contents) → before ++ k ∷ after ≡ front ++ c ∷ back →
-    (to : Segment) (n : ℕ) → IsNamedByte k c (kind_of r) r (w % 65536) to n → Points x (before ++ k ∷ after) before k from i front c to n

@@ -1,23 +1,8 @@
-//! Laws of loaded programs, lists and maps. Each law is the contract of a function with an empty body.
-ghost use Rattle.laws.specs.OperandPlaces.{OperandsAreThere, JumpsArrive, PointersToSegments, PointersToNames};
+//! Laws of loaded programs. Each law is the contract of a function with an empty body.
+ghost use Rattle.laws.specs.OperandPlaces.{OperandsAreThere, JumpsArrive};
 ghost use Rattle.laws.specs.ReachedInstructions.{ReachedInstructionsAreKept, SurePlacesBegin};
 ghost use Rattle.laws.specs.CleanPrograms.{CleanObjectsMakeCleanPrograms};
-ghost use Rattle.laws.specs.Listings.{UndefinedAreListed, UndefinedLines, RowLines, ExternalsAreListed, SizesAreSums};
-ghost use Rattle.laws.specs.Maps.{AddressesAreOfTheFile, NoWordIsMissing, WordsLeadToTheirName};
-ghost use Rattle.laws.specs.{CoreLaws.{WordsAreLoaded, BssIsZero, CommonsAreZero}, Instructions.InstructionsAreThere};
-
-/// Which byte is at which address when a linked file is loaded: `core` of specs/Core, for the space of instructions and that of
-/// data, which are one unless spaces are split. (exec(2), a.out(5))
-///
-/// - `words`: in a link that keeps symbols, each word of each object is loaded, the low byte first, after those of the objects before
-///   it, and is relocated by the linked file's own table. Its address is the value that a symbol at its place would have.
-/// - `bss`: each byte of each object's bss is a zero, at the address that a symbol at its place would have.
-/// - `commons`: in a link that keeps symbols and lays out commons, each byte of a common is a zero, from the value of its symbol on.
-pub fn core_law()
-    ensures words { WordsAreLoaded }
-    ensures bss { BssIsZero }
-    ensures commons { CommonsAreZero }
-{}
+ghost use Rattle.laws.specs.{Instructions.InstructionsAreThere};
 
 /// Linking preserves instructions: wherever an instruction begins in the text of an object, it is in the linked text too, if its first
 /// word is not relocated and the object's text does not end within it. The law requires nothing of any other word, so arguments of
@@ -65,50 +50,4 @@ pub fn reached_instruction_law()
 /// link is not the pc, since nobody knows whether control comes back to the next word; its target is followed.
 pub fn clean_law()
     ensures { CleanObjectsMakeCleanPrograms }
-{}
-
-/// A word of text or data that is not relative to the pc is a pointer: in the program it has the address of the byte to which it refers
-/// in its object. (ld(1))
-///
-/// - `segments`: in any link, a word that refers to a segment of its object has the address of the same byte of that segment.
-/// - `names`: in a link that keeps symbols, and if no name is multiply defined, a word that refers to a name has the address of the byte
-///   that is as far beyond the name's definition, as in a table of functions.
-pub fn pointer_law()
-    ensures segments { PointersToSegments }
-    ensures names { PointersToNames }
-{}
-
-/// What nm and size show of a linked file agrees with the report of its link, and with its objects. All clauses but `sizes` are about
-/// links that keep symbols. The first two are about links without `-r`, since with `-r` no name is reported undefined. (nm(1),
-/// size(1), ld(1))
-///
-/// - `undefined`: with `-g`, or if no local of type 0 and value 0 is kept, `nm -u` lists exactly the names that are reported undefined,
-///   each once.
-/// - `undefined_lines`: the bytes that `nm -u` writes for the file, those locals included.
-/// - `rows`: the bytes that nm writes without `-u`: a line for each local that is kept, if not with `-g`, and for each external the
-///   line of its row in the relation of linking.
-/// - `externals`: nm without `-u` lists each external of the objects, and each forced name, once. In a link without `-r` its letter is
-///   that of the segment of its definition, B for a common, T, D or B for a reserved name that the linker defines, and else U. A common
-///   that is laid out has the address after data and the commons of the names that are mentioned before its own.
-/// - `sizes`: size writes the sums of the objects' texts, of their data, and of their bss with the commons that are laid out.
-pub fn listing_law()
-    ensures undefined { UndefinedAreListed }
-    ensures undefined_lines { UndefinedLines }
-    ensures rows { RowLines }
-    ensures externals { ExternalsAreListed }
-    ensures sizes { SizesAreSums }
-{}
-
-/// The map of a link is a map of the linked file. (ld(1); maps: own choice)
-///
-/// - `addresses`: if a session takes the objects and there is a link, the map has each byte of text, data and bss of each object at the
-///   address of its place in the file, where `words` and `bss` of `core_law` have it.
-/// - `words`: each word of the map is a word of the object that the map names, and leads to the symbol under which it is. That symbol is
-///   external. A word leads to a symbol by the number in its relocation word, or by an address: its relocation word has the segment of the
-///   symbol, or no link changes the word, which is a branch or counts from the pc.
-/// - `missing`: each word of an object that leads to an external symbol of it is in the map, under this symbol.
-pub fn map_law()
-    ensures addresses { AddressesAreOfTheFile }
-    ensures words { WordsLeadToTheirName }
-    ensures missing { NoWordIsMissing }
 {}

@@ -1,15 +1,14 @@
 -- What follows from the laws of linking alone: no link is computed here.
-use Rattle.std.proofs.Common.{◌≡◌, ℕ, zero, suc, true, false, List, [], ◌∷◌, Some, None, refl, sym, ◌∙◌, ap, subst, arith, inl, inr}
+use Rattle.std.proofs.Common.{◌≡◌, ℕ, zero, suc, true, false, List, [], ◌∷◌, Some, None, refl, sym, ◌∙◌, subst, arith, inl, inr}
 use Rattle.std.proofs.lemmas.Slice.Eq.{bytes_eq-Decides}
 use Rattle.std.specs.Prelude.{Ok, slice_get, bytes_eq}
 use Rattle.aout_core.specs.{declared.symbol.Symbol.Symbol, declared.symbol.Segment.Segment, declared.symbol.Segment.TheVariants.TextSeg}
 use Rattle.aout_core.specs.{declared.symbol.Segment.TheVariants.DataSeg, declared.reloc.Reloc.Reloc, Contents.Contents}
-use Rattle.link_session.specs.{declared.state.State.State, declared.state.State.TheVariants.{Defined, Wanted}, Mentions.Mention}
-use Rattle.tool_options.specs.NameLists.{is_among}
+use Rattle.link_session.specs.{declared.state.State.TheVariants.{Defined, Wanted}, Mentions.Mention}
 use Rattle.link_out.specs.{ReservedNames.{etext, edata, end_name}, Results.Outcome, function.Link.link}
 use Rattle.laws.specs.{relation.NameStates.{IsFirst, IsWanted}, relation.Relocated.IsRelocated, relation.LinkedWords.AreRelocated}
-use Rattle.laws.specs.{relation.Reported.IsReported, relation.LinkedFrom.{IsLinkedFrom, LinkedExactly}, WordsAndNames.MultiplesDiffer}
-use Rattle.laws.proofs.examples.Samples.{sym as entry_of, header, _f, L1, c_o, d_o, d2_o, plain}
+use Rattle.laws.specs.{relation.Reported.IsReported, relation.LinkedFrom.{IsLinkedFrom, LinkedExactly}}
+use Rattle.laws.proofs.examples.Samples.{sym as entry_of, header, _f, L1, c_o, d_o, plain}
 use Rattle.laws.proofs.examples.ClauseLemmas.{one_of_two, only_word, no_word, as_object, at_most_so}
 
 two_words : (P : ℕ → ℕ → Reloc → Type 0) (v w : ℕ) (q r : Reloc) → P 0 v q → P 1 w r → (i u : ℕ) (s : Reloc) →
@@ -136,43 +135,3 @@ linking_says exactly = (exactly [] os plain forward (
   as_object c_o refl refl refl refl refl refl refl refl,
   (as_object d_o refl refl refl refl refl refl refl refl, tt),
 )).1 forward_linked
-
--- a name that two objects define at different offsets
-
-meaning_says : MultiplesDiffer → (x : Outcome) → link [] (d_o ∷ d2_o ∷ []) plain ≡ Ok x →
-    is_among x.report.multiples _f ≡ true
-meaning_says law x linked = (law [] (d_o ∷ d2_o ∷ []) plain x linked _f).1 (record {
-  one = TextSeg;
-  two = TextSeg;
-  at_one = 2;
-  at_two = 4;
-  first = record {
-    before = [];
-    k = d_o;
-    after = d2_o ∷ [];
-    all = refl;
-    number = 0;
-    symbol = entry_of _f 0o42 2;
-    is_there = refl;
-    outer = refl;
-    names = refl;
-    is = refl;
-  };
-  second = record {
-    before = d_o ∷ [];
-    k = d2_o;
-    after = [];
-    all = refl;
-    number = 0;
-    symbol = entry_of _f 0o42 0;
-    is_there = refl;
-    outer = refl;
-    names = refl;
-    is = refl;
-  };
-  differ = λ e. let same : 2 ≡ 4 = ap (λ (s : State). offset_of s) e in absurd (omega arith);
-})
-  where
-    offset_of : State → ℕ
-    offset_of (Defined segment offset) = offset
-    offset_of (Wanted size) = size

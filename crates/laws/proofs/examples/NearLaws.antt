@@ -1,98 +1,18 @@
 -- Statements near the laws of linking that do not hold: each has a link that shows it.
-use Rattle.std.proofs.Common.{◌≡◌, ◌≢◌, ◌↔◌, ℕ, ◌+◌, ◌%◌, ◌<◌, ◌≤◌, true, false, List, [], ◌∷◌, Some, refl, sym, ◌∙◌, ap, arith, inl, inr}
+use Rattle.std.proofs.Common.{◌≡◌, ◌↔◌, ℕ, ◌+◌, ◌%◌, ◌<◌, ◌≤◌, true, false, List, [], ◌∷◌, Some, refl, sym, ◌∙◌, ap, arith, inl, inr}
 use Rattle.std.proofs.Common.{eq-eqb}
 use Rattle.std.specs.{Prelude.eqb, Prelude.Ok, Prelude.Err, Prelude.replicate, Prelude.slice_get, List.AllByRecursion}
 use Rattle.aout_core.specs.{declared.symbol.Symbol.Symbol, declared.symbol.Segment.Segment, declared.symbol.Segment.TheVariants.TextSeg}
 use Rattle.aout_core.specs.{declared.reloc.Reloc.Reloc, Contents.Contents, WellFormed.symbol_number}
-use Rattle.link_session.specs.{Cells.{segment_words, segment_relocs}, declared.state.State.State}
+use Rattle.link_session.specs.{Cells.{segment_words, segment_relocs}}
 use Rattle.link_session.specs.{declared.state.State.TheVariants.{Defined, Wanted}, Sessions.IsObject, Mentions.place_of}
-use Rattle.tool_options.specs.{NameLists.is_among, Choices.Choices}
+use Rattle.tool_options.specs.{Choices.Choices}
 use Rattle.link_out.specs.declared.linked.LinkFault.TheVariants.{DoesNotFit, TooManySymbols, SymbolNumber, Memory}
-use Rattle.link_out.specs.{declared.linked.LinkFault.LinkFault, Results.Outcome, function.Link.link}
-use Rattle.laws.specs.WordsAndNames.{IsSaid, HasTwoDefinitions, MultiplesDiffer}
+use Rattle.link_out.specs.{declared.linked.LinkFault.LinkFault, function.Link.link}
 use Rattle.laws.specs.{relation.Refusals.{CommonsTake, EndsAt, entry_count, HasNumberTooLarge, RefusedExactly}, relation.NameStates.IsFirst}
-use Rattle.laws.proofs.examples.Samples.{sym as entry_of, object, _f, _x, L1, c_o, d_o, plain, relocatable}
+use Rattle.laws.proofs.examples.Samples.{sym as entry_of, object, _f, _x, L1, plain, relocatable}
 use Rattle.laws.proofs.examples.LawExamples.{outcome_of}
 use Rattle.laws.proofs.examples.ClauseLemmas.{only_object, only_word, no_word, as_object, at_most_so, less_so, only_wanted}
-
--- a name is reported as multiply defined exactly where the objects are so
-abbrev ReportedWhere : (List Contents → List ℕ → Type 0) → Type 0
-ReportedWhere AreSo = (forced : List (List ℕ)) (os : List Contents) (o : Choices) (x : Outcome) → link forced os o ≡ Ok x →
-    (name : List ℕ) → (is_among x.report.multiples name ≡ true) ↔ AreSo os name
-
-law_of_multiples : MultiplesDiffer → ReportedWhere HasTwoDefinitions
-law_of_multiples law = law
-
--- two definitions, which may be equal
-record HasDefinitions (os : List Contents) (name : List ℕ) : Type 0 where
-  one : Segment
-  two : Segment
-  at_one : ℕ
-  at_two : ℕ
-  first : IsSaid os name (Defined one at_one)
-  second : IsSaid os name (Defined two at_two)
-
--- two entries that differ, of which one may define nothing
-record HasTwoStatements (os : List Contents) (name : List ℕ) : Type 0 where
-  one : State
-  two : State
-  first : IsSaid os name one
-  second : IsSaid os name two
-  differ : one ≢ two
-
-defined_once : IsSaid (d_o ∷ []) _f (Defined TextSeg 2)
-defined_once = record {
-  before = [];
-  k = d_o;
-  after = [];
-  all = refl;
-  number = 0;
-  symbol = entry_of _f 34 2;
-  is_there = refl;
-  outer = refl;
-  names = refl;
-  is = refl;
-}
-
-equal_definitions_unreported : ReportedWhere HasDefinitions → ⊥
-equal_definitions_unreported law =
-    let bad : false ≡ true = (law [] (d_o ∷ []) plain (outcome_of (link [] (d_o ∷ []) plain)) refl _f).1
-    (record { one = TextSeg; two = TextSeg; at_one = 2; at_two = 2; first = defined_once; second = defined_once }) in
-    absurd (cc)
-
-mention_beside_definition_unreported : ReportedWhere HasTwoStatements → ⊥
-mention_beside_definition_unreported law =
-    let bad : false ≡ true = (law [] (c_o ∷ d_o ∷ []) plain (outcome_of (link [] (c_o ∷ d_o ∷ []) plain)) refl _f).1
-    (record {
-      one = Wanted 0;
-      two = Defined TextSeg 6;
-      first = record {
-        before = [];
-        k = c_o;
-        after = d_o ∷ [];
-        all = refl;
-        number = 0;
-        symbol = entry_of _f 32 0;
-        is_there = refl;
-        outer = refl;
-        names = refl;
-        is = refl;
-      };
-      second = record {
-        before = c_o ∷ [];
-        k = d_o;
-        after = [];
-        all = refl;
-        number = 0;
-        symbol = entry_of _f 34 2;
-        is_there = refl;
-        outer = refl;
-        names = refl;
-        is = refl;
-      };
-      differ = λ e. let clash : Wanted 0 ≡ Defined TextSeg 6 = e in cc;
-    }) in
-    absurd (cc)
 
 pub different : (a b : ℕ) → eqb a b ≡ false → a ≡ b → ⊥
 different a b t e = let bad : true ≡ false = sym (eq-eqb a b e) ∙ t in cc
