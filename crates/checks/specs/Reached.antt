@@ -30,7 +30,7 @@ use Rattle.instructions.specs.{declared.call.SystemCall.SystemCall, declared.uni
 use Rattle.instructions.specs.{Modes.{is_pc, addressing, counts_from_pc}, declared.mode.Register.TheVariants.Sp}
 use Rattle.instructions.specs.{declared.instruction.Instruction.Instruction, declared.line.Line.TheVariants.{Plain, Decoded}}
 use Rattle.instructions.specs.{declared.unix.UnixLine.TheVariants.{Machine, Call}, Instructions.{jumps, word_count_of}}
-use Rattle.instructions.specs.{Relocated.is_relocated, Syntax.{number, branch_target, branch_back_target}, UnixLines.unix_length}
+use Rattle.instructions.specs.{Relocated.is_relocated, Targets.{number, branch_target, branch_back_target}, UnixLines.unix_length}
 use Rattle.instructions.specs.declared.operation.Operation.TheVariants as operations
 use Rattle.instructions.specs.declared.mode.Addressing.TheVariants as ways
 use Rattle.instructions.specs.declared.call.SystemCall.TheVariants as calls

@@ -19,7 +19,7 @@ use Rattle.instructions.specs.{declared.mode.Addressing.Addressing}
 use Rattle.instructions.specs.{declared.operand.Operand.Operand, declared.operand.Operand.TheVariants.General}
 use Rattle.instructions.specs.{declared.line.Line.TheVariants.Decoded, declared.unix.UnixLine.UnixLine}
 use Rattle.instructions.specs.{declared.unix.UnixLine.TheVariants.Machine, Modes.addressing, Modes.counts_from_pc}
-use Rattle.instructions.specs.{Instructions.jumps, Instructions.word_count_of, Relocated.is_relocated, Syntax.number}
+use Rattle.instructions.specs.{Instructions.jumps, Instructions.word_count_of, Relocated.is_relocated, Targets.number}
 use Rattle.instructions.specs.declared.mode.Addressing.TheVariants as ways
 use Rattle.checks.specs.declared.referent.Referent.TheVariants.{Nothing, Number, Near, Fixed, InText, InData, External}
 use Rattle.checks.specs.declared.referent.Access.TheVariants.{Goes, Touches, Neither}

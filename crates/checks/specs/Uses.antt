@@ -10,7 +10,7 @@ use Rattle.instructions.specs.{declared.mode.Addressing.Addressing, declared.mod
 use Rattle.instructions.specs.{declared.operand.Operand.TheVariants.General, declared.line.Line.TheVariants.Decoded}
 use Rattle.instructions.specs.{declared.unix.UnixLine.UnixLine, declared.unix.UnixLine.TheVariants.Machine, Modes.addressing}
 use Rattle.instructions.specs.{declared.mode.Register.TheVariants.{R5, Sp}, declared.operand.Operand.Operand}
-use Rattle.instructions.specs.{Instructions.{jumps, word_count_of}, Syntax.number, UnixLines.unix_length}
+use Rattle.instructions.specs.{Instructions.{jumps, word_count_of}, Targets.number, UnixLines.unix_length}
 use Rattle.instructions.specs.declared.mode.Addressing.TheVariants as ways
 use Rattle.checks.specs.{declared.trust.Trust.Trust, Branches.word_place, Reached.flows}
 use Rattle.checks.specs.{declared.finding.FindingKind.TheVariants.{UnsuitableJump, OddOperand, NoEnd}, Found.{Found, found_as}}

@@ -1,30 +1,21 @@
--- What holds of each row of the table of calls: by its name it is found again.
-use Rattle.std.proofs.Common.{◌≡◌, ℕ, ◌≤◌, ◌<◌, ◌/◌, Bool, true, false, ◌&&◌, eqb, nat_lt, Option, Some, None, List, [], ◌∷◌, ◌++◌}
-use Rattle.std.proofs.{Common.{slice_index, refl, subst, cond, arith}, lemmas.Bool.Decides.{Decides-eqb, nat_tests}, lemmas.Bool.and_parts}
+-- What holds of each row of the table of calls.
+use Rattle.std.proofs.Common.{◌≡◌, ℕ, ◌≤◌, ◌<◌, ◌/◌, Bool, true, false, ◌&&◌, eqb, nat_lt, Option, Some, None, List, [], ◌∷◌}
+use Rattle.std.proofs.{Common.{refl, subst, cond, arith}, lemmas.Bool.Decides.{Decides-eqb, nat_tests}, lemmas.Bool.and_parts}
 use Rattle.std.specs.{Prelude.IfSome, List.find}
 use Rattle.instructions.specs.{declared.call_table.CallRow.CallRow, declared.unix.Decoder.Decoder, declared.call_table.TheConstants.CALLS}
-use Rattle.instructions.specs.{CallNames.call_name, Calls.system_calls, Rows.begins, Rows.row_of, UnixLines.call_word, UnixLines.call_of}
+use Rattle.instructions.specs.{Calls.system_calls, Rows.begins, Rows.row_of, UnixLines.call_word, UnixLines.call_of}
 use Rattle.instructions.specs.{UnixLines.call_by, UnixLaws.AreMadeBySys, internal.CallSearch.call_in}
 use Rattle.instructions.specs.declared.unix.Decoder.TheVariants as decoders
-use Rattle.instructions.proofs.{SplitLemmas.free, TableLemmas.same_text}
 
--- the call of a name
-unfoldable pub call_named : List ℕ → Option CallRow
-call_named name = find (λ c. same_text (call_name c.call) name) system_calls
-
-pub record SoundCall (c : CallRow) : Type 0 where
-  pub small : c.words ≤ 4
-  pub letter : (rest : List ℕ) → nat_lt (slice_index (call_name c.call ++ rest) 0) 58 ≡ false
-  pub name : free 59 (call_name c.call) ≡ true
-  pub again : call_named (call_name c.call) ≡ Some c
+abbrev pub SoundCall : CallRow → Type 0
+SoundCall c = c.words ≤ 4
 
 abbrev Each : List CallRow → Type 0
 Each [] = Unit {0}
 Each (c ∷ calls) = SoundCall c × Each calls
 
 each_sound : Each system_calls
-unfolding call_named
-each_sound = (record { small = omega arith; letter = λ rest. refl; name = refl; again = refl }, (record { small = omega arith; letter = λ rest. refl; name = refl; again = refl }, (record { small = omega arith; letter = λ rest. refl; name = refl; again = refl }, (record { small = omega arith; letter = λ rest. refl; name = refl; again = refl }, (record { small = omega arith; letter = λ rest. refl; name = refl; again = refl }, (record { small = omega arith; letter = λ rest. refl; name = refl; again = refl }, (record { small = omega arith; letter = λ rest. refl; name = refl; again = refl }, (record { small = omega arith; letter = λ rest. refl; name = refl; again = refl }, (record { small = omega arith; letter = λ rest. refl; name = refl; again = refl }, (record { small = omega arith; letter = λ rest. refl; name = refl; again = refl }, (record { small = omega arith; letter = λ rest. refl; name = refl; again = refl }, (record { small = omega arith; letter = λ rest. refl; name = refl; again = refl }, (record { small = omega arith; letter = λ rest. refl; name = refl; again = refl }, (record { small = omega arith; letter = λ rest. refl; name = refl; again = refl }, (record { small = omega arith; letter = λ rest. refl; name = refl; again = refl }, (record { small = omega arith; letter = λ rest. refl; name = refl; again = refl }, (record { small = omega arith; letter = λ rest. refl; name = refl; again = refl }, (record { small = omega arith; letter = λ rest. refl; name = refl; again = refl }, (record { small = omega arith; letter = λ rest. refl; name = refl; again = refl }, (record { small = omega arith; letter = λ rest. refl; name = refl; again = refl }, (record { small = omega arith; letter = λ rest. refl; name = refl; again = refl }, (record { small = omega arith; letter = λ rest. refl; name = refl; again = refl }, (record { small = omega arith; letter = λ rest. refl; name = refl; again = refl }, (record { small = omega arith; letter = λ rest. refl; name = refl; again = refl }, (record { small = omega arith; letter = λ rest. refl; name = refl; again = refl }, (record { small = omega arith; letter = λ rest. refl; name = refl; again = refl }, (record { small = omega arith; letter = λ rest. refl; name = refl; again = refl }, (record { small = omega arith; letter = λ rest. refl; name = refl; again = refl }, (record { small = omega arith; letter = λ rest. refl; name = refl; again = refl }, (record { small = omega arith; letter = λ rest. refl; name = refl; again = refl }, (record { small = omega arith; letter = λ rest. refl; name = refl; again = refl }, (record { small = omega arith; letter = λ rest. refl; name = refl; again = refl }, (record { small = omega arith; letter = λ rest. refl; name = refl; again = refl }, (record { small = omega arith; letter = λ rest. refl; name = refl; again = refl }, (record { small = omega arith; letter = λ rest. refl; name = refl; again = refl }, (record { small = omega arith; letter = λ rest. refl; name = refl; again = refl }, (record { small = omega arith; letter = λ rest. refl; name = refl; again = refl }, (record { small = omega arith; letter = λ rest. refl; name = refl; again = refl }, (record { small = omega arith; letter = λ rest. refl; name = refl; again = refl }, (record { small = omega arith; letter = λ rest. refl; name = refl; again = refl }, (record { small = omega arith; letter = λ rest. refl; name = refl; again = refl }, (record { small = omega arith; letter = λ rest. refl; name = refl; again = refl }, (record { small = omega arith; letter = λ rest. refl; name = refl; again = refl }, (record { small = omega arith; letter = λ rest. refl; name = refl; again = refl }, (record { small = omega arith; letter = λ rest. refl; name = refl; again = refl }, (record { small = omega arith; letter = λ rest. refl; name = refl; again = refl }, (record { small = omega arith; letter = λ rest. refl; name = refl; again = refl }, (record { small = omega arith; letter = λ rest. refl; name = refl; again = refl }, (record { small = omega arith; letter = λ rest. refl; name = refl; again = refl }, (record { small = omega arith; letter = λ rest. refl; name = refl; again = refl }, (record { small = omega arith; letter = λ rest. refl; name = refl; again = refl }, (record { small = omega arith; letter = λ rest. refl; name = refl; again = refl }, (record { small = omega arith; letter = λ rest. refl; name = refl; again = refl }, tt)))))))))))))))))))))))))))))))))))))))))))))))))))))
+each_sound = (omega arith, (omega arith, (omega arith, (omega arith, (omega arith, (omega arith, (omega arith, (omega arith, (omega arith, (omega arith, (omega arith, (omega arith, (omega arith, (omega arith, (omega arith, (omega arith, (omega arith, (omega arith, (omega arith, (omega arith, (omega arith, (omega arith, (omega arith, (omega arith, (omega arith, (omega arith, (omega arith, (omega arith, (omega arith, (omega arith, (omega arith, (omega arith, (omega arith, (omega arith, (omega arith, (omega arith, (omega arith, (omega arith, (omega arith, (omega arith, (omega arith, (omega arith, (omega arith, (omega arith, (omega arith, (omega arith, (omega arith, (omega arith, (omega arith, (omega arith, (omega arith, (omega arith, (omega arith, tt)))))))))))))))))))))))))))))))))))))))))))))))))))))
 
 sound_at : (c d : CallRow) (b : Bool) (rest : Option CallRow) → SoundCall c → (rest ≡ Some d → SoundCall d) →
     cond b (Some c) rest ≡ Some d → SoundCall d
@@ -58,7 +49,7 @@ call_has_word decoders.Unix w c e = word_found w system_calls c e
 
 small_by : (w : ℕ) (o : Option CallRow) → call_of w ≡ o → IfSome o (λ c. c.words ≤ 4)
 small_by w None e = tt
-small_by w (Some c) e = (call_sound decoders.Unix w c e).small
+small_by w (Some c) e = call_sound decoders.Unix w c e
 
 pub call_small : (w : ℕ) → IfSome (call_of w) (λ c. c.words ≤ 4)
 call_small w = small_by w (call_of w) refl

@@ -1,15 +1,7 @@
 pub mod FieldLemmas
 pub mod OrderLemmas
 pub mod LineLemmas
-pub mod SplitLemmas
-pub mod PlainTexts
-pub mod ReadLemmas
-pub mod FieldReadLemmas
-pub mod TableLemmas
-pub mod ReadLineLemmas
 pub mod FoundLemmas
 pub mod AlikeLemmas
-pub mod WholeTextLemmas
 pub mod CallLemmas
 pub mod UnixLemmas
-pub mod UnixReadLemmas

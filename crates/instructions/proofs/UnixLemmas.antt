@@ -46,9 +46,9 @@ pub unix_first_word : UnixFirstWordLaw
 unix_first_word = record {
   call =
       λ d w c following e h. ap (λ (o : Option CallRow). unix_line o (w ∷ following) 0) e
-      ∙ whole_call c w following h (call_sound d w c e).small;
+      ∙ whole_call c w following h (call_sound d w c e);
   machine = λ d w following e. ap (λ (o : Option CallRow). unix_line o (w ∷ following) 0) e;
-  length = λ d w following other h k. length_by (call_by d w) w following other h k (λ c e. (call_sound d w c e).small);
+  length = λ d w following other h k. length_by (call_by d w) w following other h k (λ c e. call_sound d w c e);
 }
 
 cut_length : (cut : Bool) (c : CallRow) (w : ℕ) → c.words ≤ 4 → (1 ≤ unix_length (cut_line cut c w)) × (unix_length (cut_line cut c w) ≤ 5)
@@ -64,7 +64,7 @@ short_by (Some c) words place small =
 pub unix_short : (d : Decoder) (words : List ℕ) (place : ℕ) →
     (1 ≤ unix_length (unix_line_at d words place)) × (unix_length (unix_line_at d words place) ≤ 5)
 unix_short d words place =
-    short_by (call_by d (slice_index words place)) words place (λ c e. (call_sound d (slice_index words place) c e).small)
+    short_by (call_by d (slice_index words place)) words place (λ c e. call_sound d (slice_index words place) c e)
 
 unix_back : (d : Decoder) (n : ℕ) (words : List ℕ) → length words ≤ n →
     flat_map (λ l. unix_words l.0 l.1) (unix_lines_within d n words) ≡ words

@@ -1,13 +1,13 @@
 -- What holds of all lists of words and their lines. (as(1), the handbook of the PDP-11/70)
 --
 -- Nothing is lost or normalized: encoding what was decoded gives the same words. The first word alone decides the instruction and
--- the length, if enough words follow it. At one address different words have different texts.
-use Rattle.std.specs.Prelude.{◌≡◌, ℕ, ◌+◌, ◌*◌, ◌<◌, ◌≤◌, nat_lt, if◌then◌else◌, Option, Some, None, List, [], ◌∷◌, ◌++◌, length, filter}
+-- the length, if enough words follow it.
+use Rattle.std.specs.Prelude.{◌≡◌, ℕ, ◌<◌, ◌≤◌, nat_lt, if◌then◌else◌, Option, Some, None, List, [], ◌∷◌, length, filter}
 use Rattle.std.specs.{Prelude.{take, drop}, List.flat_map}
 use Rattle.instructions.specs.Lines.{line_at, line_of, line_length, words_of, lines}
 use Rattle.instructions.specs.{declared.table.Row.Row, declared.table.TheConstants.ROWS, Table.table, Rows.begins, Rows.row_of}
 use Rattle.instructions.specs.{declared.instruction.Instruction.Instruction, declared.line.Line.Line, declared.line.Line.TheVariants.Plain}
-use Rattle.instructions.specs.{declared.line.Line.TheVariants.Decoded, Instructions.instruction_of, Syntax.line_text}
+use Rattle.instructions.specs.{declared.line.Line.TheVariants.Decoded, Instructions.instruction_of}
 
 -- the words of a line are those that it was made of
 abbrev pub IdentityLaw : Type 0
@@ -23,28 +23,6 @@ pub record FirstWordLaw : Type 0 where
   pub instruction : (w : ℕ) (following : List ℕ) → 2 ≤ length following → shape (line_of (instruction_of w) w following) ≡ instruction_of w
   pub length : (w : ℕ) (following other : List ℕ) → 2 ≤ length following → 2 ≤ length other →
       line_length (line_of (instruction_of w) w following) ≡ line_length (line_of (instruction_of w) w other)
-
--- numbers of 16 bits
-abbrev pub AreWords : List ℕ → Type 0
-AreWords [] = Unit {0}
-AreWords (w ∷ words) = (w < 0o200000) × AreWords words
-
--- lines with the same text at the same address have the same words
-abbrev pub UnambiguousLaw : Type 0
-UnambiguousLaw = (address : ℕ) (words other : List ℕ) (place there : ℕ) → AreWords words → AreWords other →
-    place < length words → there < length other →
-    line_text address (line_at words place) ≡ line_text address (line_at other there) →
-    words_of (line_at words place) ≡ words_of (line_at other there)
-
--- the texts of these lines from an address on, with a newline after each
-abbrev pub lines_text : ℕ → List Line → List ℕ
-lines_text address [] = []
-lines_text address (line ∷ ls) = line_text address line ++ 10 ∷ lines_text (address + 2 * line_length line) ls
-
--- lists of words with the same text at the same address are the same
-abbrev pub UnambiguousTextLaw : Type 0
-UnambiguousTextLaw = (address : ℕ) (words other : List ℕ) → AreWords words → AreWords other →
-    lines_text address (lines words) ≡ lines_text address (lines other) → words ≡ other
 
 -- every list of words is decoded whole, in lines of one to three words without a gap
 pub record TotalLaw : Type 0 where

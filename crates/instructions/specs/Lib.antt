@@ -1,4 +1,3 @@
-pub mod Names
 pub mod Fields
 pub mod Table
 pub mod Rows
@@ -6,12 +5,10 @@ pub mod Modes
 pub mod Operands
 pub mod Instructions
 pub mod Lines
-pub mod References
-pub mod Syntax
+pub mod Targets
 pub mod Relocated
 pub mod Alike
 pub mod Laws
-pub mod CallNames
 pub mod Calls
 pub mod UnixLines
 pub mod UnixLaws

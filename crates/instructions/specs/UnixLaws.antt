@@ -1,14 +1,13 @@
 -- What holds of all lists of words and their lines with system calls, for either decoder. (section 2 of the Unix Programmer's Manual)
 --
--- Nothing is lost or normalized, the first word alone decides which line it is, if enough words follow it, and at one address different
--- words have different texts.
+-- Nothing is lost or normalized, the first word alone decides which line it is, if enough words follow it.
 use Rattle.std.specs.{Prelude.{◌≡◌, ℕ, ◌+◌, ◌<◌, ◌≤◌, List, ◌∷◌, length, take, drop, map, Some, None}, List.flat_map}
-use Rattle.instructions.specs.UnixLines.{call_word, call_by, unix_line_at, unix_length, unix_words, unix_text, unix_lines}
+use Rattle.instructions.specs.UnixLines.{call_word, call_by, unix_line_at, unix_length, unix_words, unix_lines}
 use Rattle.instructions.specs.{declared.field.Field.TheVariants.Byte, declared.operation.Operation.TheVariants.Sys}
 use Rattle.instructions.specs.{declared.operand.Operand.TheVariants.Number, declared.instruction.Instruction.Instruction}
 use Rattle.instructions.specs.{declared.call_table.TheConstants.CALLS, declared.call_table.CallRow.CallRow, declared.unix.Decoder.Decoder}
 use Rattle.instructions.specs.{declared.unix.UnixLine.TheVariants.Machine, declared.unix.UnixLine.TheVariants.Call, Calls.system_calls}
-use Rattle.instructions.specs.{Lines.line_at, Instructions.instruction_of, Laws.AreWords}
+use Rattle.instructions.specs.{Lines.line_at, Instructions.instruction_of}
 
 -- the words of a line are those that it was made of
 abbrev pub UnixIdentityLaw : Type 0
@@ -35,14 +34,6 @@ sys n = record {
 -- each call is made by `sys` with its number
 abbrev pub AreMadeBySys : List CallRow → Type 0
 AreMadeBySys calls = map (λ c. instruction_of (call_word c)) calls ≡ map (λ c. Some (sys c.number)) calls
-
--- lines with the same text at the same address have the same words
-abbrev pub UnixUnambiguousLaw : Type 0
-UnixUnambiguousLaw = (d : Decoder) (address : ℕ) (words other : List ℕ) (place there : ℕ) → AreWords words → AreWords other →
-    place < length words → there < length other →
-    unix_text address (unix_line_at d words place) (drop (place + 1) words) ≡ unix_text address
-    (unix_line_at d other there) (drop (there + 1) other) →
-    unix_words (unix_line_at d words place) (drop (place + 1) words) ≡ unix_words (unix_line_at d other there) (drop (there + 1) other)
 
 -- every list of words is decoded whole, in lines of one to five words without a gap
 pub record UnixTotalLaw : Type 0 where

@@ -3,13 +3,12 @@
 --
 -- The call of number N is made by the instruction 104400 + N, and its arguments are the words after it. If the words end before them,
 -- the call is cut: its first word is plain, as that of an instruction that is cut.
-use Rattle.std.specs.Prelude.{ℕ, zero, suc, ◌+◌, eqb, nat_lt, if◌then◌else◌, Option, Some, None, List, [], ◌∷◌, ◌++◌, codes, length, take}
-use Rattle.std.specs.{Prelude.{drop, slice_index}, List.{find, flat_map}}
-use Rattle.texts.specs.Numbers.{six_digits}
+use Rattle.std.specs.Prelude.{ℕ, zero, suc, ◌+◌, eqb, nat_lt, if◌then◌else◌, Option, Some, None, List, [], ◌∷◌, length, take}
+use Rattle.std.specs.{Prelude.{drop, slice_index}, List.find}
 use Rattle.instructions.specs.{declared.call_table.CallRow.CallRow, declared.line.Line.TheVariants.Plain, declared.unix.Decoder.Decoder}
 use Rattle.instructions.specs.{declared.unix.UnixLine.UnixLine, declared.unix.UnixLine.TheVariants.Machine}
-use Rattle.instructions.specs.{declared.unix.UnixLine.TheVariants.Call, declared.reference.Reference.Reference, CallNames.call_name}
-use Rattle.instructions.specs.{Calls.system_calls, Lines.line_at, Lines.line_length, Lines.words_of, Syntax.shown, Syntax.line_text}
+use Rattle.instructions.specs.{declared.unix.UnixLine.TheVariants.Call}
+use Rattle.instructions.specs.{Calls.system_calls, Lines.line_at, Lines.line_length, Lines.words_of}
 use Rattle.instructions.specs.declared.unix.Decoder.TheVariants as decoders
 
 -- the word that makes a call
@@ -43,18 +42,6 @@ unix_length (Call c) = 1 + c.words
 abbrev pub unix_words : UnixLine → List ℕ → List ℕ
 unix_words (Machine line) following = words_of line
 unix_words (Call c) following = call_word c ∷ take c.words following
-
--- an argument, or the reference in its place
-abbrev pub argument_text : Option Reference → ℕ → List ℕ
-argument_text x n = codes "; " ++ shown (six_digits n) x
-
-abbrev pub call_text : CallRow → List ℕ
-call_text c = codes "sys " ++ call_name c.call
-
--- the text of a line at an address, without references
-abbrev pub unix_text : ℕ → UnixLine → List ℕ → List ℕ
-unix_text address (Machine line) following = line_text address line
-unix_text address (Call c) following = call_text c ++ flat_map (λ n. argument_text None n) (take c.words following)
 
 -- the lines of the words, one after the other, at most so many, each with the words that follow its first one
 abbrev pub unix_lines_within : Decoder → ℕ → List ℕ → List (UnixLine × List ℕ)

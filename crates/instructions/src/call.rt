@@ -1,6 +1,4 @@
 //! System calls of the Seventh Edition, whose arguments follow `sys`.
-ghost use Rattle.std.specs.Prelude.{◌≡◌};
-ghost use Rattle.instructions.specs.CallNames.{call_name};
 
 /// A system call. (section 2 of the Unix Programmer's Manual, Seventh Edition)
 #[derive(Clone, Copy, Debug, PartialEq, Eq)]
@@ -60,65 +58,23 @@ pub enum SystemCall {
     Chroot,
 }
 
+/// The name of a variant.
+macro_rules! named {
+    ($value:expr; $($variant:ident $name:literal,)*) => { match $value { $(SystemCall::$variant => $name,)* } };
+}
+
 impl SystemCall {
     /// The name of the call. (section 2 of the Unix Programmer's Manual, Seventh Edition)
-    pub fn name(self) -> &'static str
-        ensures { result.now ≡ call_name self }
-    {
-        match self {
-            SystemCall::Indir => "indir",
-            SystemCall::Exit => "exit",
-            SystemCall::Fork => "fork",
-            SystemCall::Read => "read",
-            SystemCall::Write => "write",
-            SystemCall::Open => "open",
-            SystemCall::Close => "close",
-            SystemCall::Wait => "wait",
-            SystemCall::Creat => "creat",
-            SystemCall::Link => "link",
-            SystemCall::Unlink => "unlink",
-            SystemCall::Exec => "exec",
-            SystemCall::Chdir => "chdir",
-            SystemCall::Time => "time",
-            SystemCall::Mknod => "mknod",
-            SystemCall::Chmod => "chmod",
-            SystemCall::Chown => "chown",
-            SystemCall::Break => "break",
-            SystemCall::Stat => "stat",
-            SystemCall::Lseek => "lseek",
-            SystemCall::Getpid => "getpid",
-            SystemCall::Mount => "mount",
-            SystemCall::Umount => "umount",
-            SystemCall::Setuid => "setuid",
-            SystemCall::Getuid => "getuid",
-            SystemCall::Stime => "stime",
-            SystemCall::Ptrace => "ptrace",
-            SystemCall::Alarm => "alarm",
-            SystemCall::Fstat => "fstat",
-            SystemCall::Pause => "pause",
-            SystemCall::Utime => "utime",
-            SystemCall::Stty => "stty",
-            SystemCall::Gtty => "gtty",
-            SystemCall::Access => "access",
-            SystemCall::Nice => "nice",
-            SystemCall::Ftime => "ftime",
-            SystemCall::Sync => "sync",
-            SystemCall::Kill => "kill",
-            SystemCall::Dup => "dup",
-            SystemCall::Pipe => "pipe",
-            SystemCall::Times => "times",
-            SystemCall::Profil => "profil",
-            SystemCall::Setgid => "setgid",
-            SystemCall::Getgid => "getgid",
-            SystemCall::Signal => "signal",
-            SystemCall::Acct => "acct",
-            SystemCall::Phys => "phys",
-            SystemCall::Lock => "lock",
-            SystemCall::Ioctl => "ioctl",
-            SystemCall::Mpx => "mpx",
-            SystemCall::Exece => "exece",
-            SystemCall::Umask => "umask",
-            SystemCall::Chroot => "chroot",
-        }
+    pub fn name(self) -> &'static str {
+        named!(
+            self;
+            Indir "indir", Exit "exit", Fork "fork", Read "read", Write "write", Open "open", Close "close", Wait "wait",
+            Creat "creat", Link "link", Unlink "unlink", Exec "exec", Chdir "chdir", Time "time", Mknod "mknod", Chmod "chmod",
+            Chown "chown", Break "break", Stat "stat", Lseek "lseek", Getpid "getpid", Mount "mount", Umount "umount", Setuid "setuid",
+            Getuid "getuid", Stime "stime", Ptrace "ptrace", Alarm "alarm", Fstat "fstat", Pause "pause", Utime "utime", Stty "stty",
+            Gtty "gtty", Access "access", Nice "nice", Ftime "ftime", Sync "sync", Kill "kill", Dup "dup", Pipe "pipe", Times "times",
+            Profil "profil", Setgid "setgid", Getgid "getgid", Signal "signal", Acct "acct", Phys "phys", Lock "lock", Ioctl "ioctl",
+            Mpx "mpx", Exece "exece", Umask "umask", Chroot "chroot",
+        )
     }
 }

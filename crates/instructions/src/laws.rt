@@ -1,8 +1,8 @@
 //! Laws of lines: each is the contract of a function with an empty body, but for `words_again`.
 ghost use Rattle.std.specs.Prelude.{◌≡◌, ◌<◌, length, take, drop};
 ghost use Rattle.instructions.specs.Lines.{line_at, line_length, listed};
-ghost use Rattle.instructions.specs.Laws.{IdentityLaw, FirstWordLaw, SameTable, OneRow, RowsAreFound, TotalLaw, UnambiguousLaw, UnambiguousTextLaw};
-ghost use Rattle.instructions.specs.UnixLaws.{UnixIdentityLaw, UnixFirstWordLaw, UnixTotalLaw, UnixUnambiguousLaw, SameCalls, AreMadeBySys};
+ghost use Rattle.instructions.specs.Laws.{IdentityLaw, FirstWordLaw, SameTable, OneRow, RowsAreFound, TotalLaw};
+ghost use Rattle.instructions.specs.UnixLaws.{UnixIdentityLaw, UnixFirstWordLaw, UnixTotalLaw, SameCalls, AreMadeBySys};
 ghost use Rattle.instructions.specs.Calls.{system_calls};
 
 use crate::line::{Words, decode, encode};
@@ -32,16 +32,6 @@ pub fn total_law()
     ensures { TotalLaw }
 {}
 
-/// Without references, different words have different texts at one address: a reader of the text alone gets the words back. (own
-/// choice)
-///
-/// - `lines`: lines with the same text have the same words.
-/// - `texts`: lists of words are the same if the texts of their lines, with a newline after each, are.
-pub fn unambiguous_law()
-    ensures lines { UnambiguousLaw }
-    ensures texts { UnambiguousTextLaw }
-{}
-
 /// The table of the code is that of the manual. (as(1), the handbook of the PDP-11/70)
 ///
 /// - `same`: its rows are those of `table` in specs/Table, in the order of their bases.
@@ -67,11 +57,6 @@ pub fn unix_first_word_law()
 /// With either decoder every list of words is decoded whole, in lines of one to five words without a gap. (own choice)
 pub fn unix_total_law()
     ensures { UnixTotalLaw }
-{}
-
-/// With either decoder, and without references, lines with the same text at one address have the same words. (own choice)
-pub fn unix_unambiguous_law()
-    ensures { UnixUnambiguousLaw }
 {}
 
 /// The table of calls of the code is that of the manual. (section 2 of the Unix Programmer's Manual, Seventh Edition)

@@ -1,7 +1,6 @@
 //! Lines of text of Unix: the arguments of a system call follow it.
 ghost use Rattle.std.specs.Prelude.{◌≡◌, ◌≤◌, ◌<◌, ◌+◌, length, IfSome};
-ghost use Rattle.texts.specs.Texts.{Puts};
-ghost use Rattle.instructions.specs.UnixLines.{call_of, call_by, unix_line_at, unix_length, call_text, argument_text};
+ghost use Rattle.instructions.specs.UnixLines.{call_of, call_by, unix_line_at, unix_length};
 ghost use Rattle.instructions.specs.internal.CallSearch.{call_in};
 
 use crate::call_table::{CALLS, CallRow};
@@ -93,9 +92,7 @@ impl UnixLine {
 
 impl CallRow {
     /// Appends `sys` and the name of the call, without arguments. (as(1))
-    pub fn put_text(&self, text: &mut Text)
-        ensures { Puts text.old text.new (call_text self.now) }
-    {
+    pub fn put_text(&self, text: &mut Text) {
         text.put("sys ");
         text.put(self.call.name());
     }
@@ -103,9 +100,7 @@ impl CallRow {
 
 /// Appends an argument of a system call with what precedes it: six digits, or the reference in their place. (as(1); six
 /// digits: own choice)
-pub fn put_argument(text: &mut Text, argument: u16, reference: Option<Reference>)
-    ensures { Puts text.old text.new (argument_text reference argument) }
-{
+pub fn put_argument(text: &mut Text, argument: u16, reference: Option<Reference>) {
     text.put("; ");
     match reference {
         Some(reference) => reference.put_text(text),

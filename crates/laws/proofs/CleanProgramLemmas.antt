@@ -24,7 +24,7 @@ use Rattle.laws.proofs.{LoadedLemmas.word_there, LoadedLemmas.found_in, OperandP
 use Rattle.laws.proofs.ReachedInstructionLemmas.{decoded, value_small, reached_instructions_kept, sure_places_begin}
 use Rattle.laws.proofs.FlowLemmas.{Lines, Calls, Instructs, Ends, whole_at, lines_at}
 use Rattle.laws.proofs.LeadLemmas.{or_none, none_shown, placed, place_is, Within, call_leads, JumpBy, instruction_leads}
-use Rattle.instructions.specs.{declared.mode.Addressing.Addressing, Syntax.number, declared.operand.Operand.Operand}
+use Rattle.instructions.specs.{declared.mode.Addressing.Addressing, Targets.number, declared.operand.Operand.Operand}
 use Rattle.instructions.specs.{declared.instruction.Instruction.Instruction, declared.unix.Decoder.TheVariants.Unix}
 use Rattle.instructions.specs.{Alike.is_cut, Lines.word_for}
 use Rattle.instructions.specs.declared.mode.Addressing.TheVariants.{Immediate, Absolute, Relative, RelativeDeferred, Indexed}

@@ -7,7 +7,7 @@ use Rattle.aout_core.specs.{Contents.Contents, Strip.stripped}
 use Rattle.instructions.specs.{declared.instruction.Instruction.Instruction, declared.call_table.CallRow.CallRow, declared.line.Line.Line}
 use Rattle.instructions.specs.{declared.line.Line.TheVariants.Plain, declared.unix.Decoder.TheVariants.Unix}
 use Rattle.instructions.specs.{Instructions.{instruction_of, instruction, following_words}, Alike.is_cut, Lines.{line_of, line_at}}
-use Rattle.instructions.specs.{Rows.{begins as in_row, row_of}, Syntax.number, UnixLines.{call_by, unix_line}}
+use Rattle.instructions.specs.{Rows.{begins as in_row, row_of}, UnixLines.{call_by, unix_line}}
 use Rattle.instructions.specs.{declared.unix.UnixLine.TheVariants.{Machine, Call}, Relocated.is_relocated, UnixLaws.sys}
 use Rattle.disassemblies.specs.Lines.{unix_line_in}
 use Rattle.checks.specs.{Suspicions.is_foreign, SureLaw.is_whole}

@@ -5,7 +5,7 @@ use Rattle.std.proofs.{Math.Bool.and-false, lemmas.Bool.{and_parts, and_from, or
 use Rattle.std.specs.{Prelude.{slice_get, IfSome}, List.list_any}
 use Rattle.aout_core.specs.{Contents.Contents, Strip.stripped}
 use Rattle.instructions.specs.Instructions.{instruction_of, instruction_in, word_count_of, following_words, jumps}
-use Rattle.instructions.specs.{Lines.word_for, Syntax.number, Rows.row_of, declared.table.Row.Row, declared.mode.Addressing.Addressing}
+use Rattle.instructions.specs.{Lines.word_for, Targets.number, Rows.row_of, declared.table.Row.Row, declared.mode.Addressing.Addressing}
 use Rattle.instructions.specs.{declared.operation.Operation.Operation, declared.operand.Operand.Operand}
 use Rattle.instructions.specs.{declared.instruction.Instruction.Instruction, declared.call.SystemCall.SystemCall}
 use Rattle.instructions.specs.{declared.call_table.CallRow.CallRow, declared.unix.UnixLine.TheVariants.Machine}

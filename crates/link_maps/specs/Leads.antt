@@ -13,7 +13,7 @@ use Rattle.aout_core.specs.declared.reloc.Kind.TheVariants as kinds
 use Rattle.instructions.specs.{declared.mode.Addressing.Addressing, declared.operand.Operand.Operand}
 use Rattle.instructions.specs.declared.operand.Operand.TheVariants.{General, Forward, Backward}
 use Rattle.instructions.specs.{declared.instruction.Instruction.Instruction, Instructions.instruction_of, Modes.addressing, Modes.counts_from_pc}
-use Rattle.instructions.specs.{Operands.takes_word, Relocated.is_relocated, Syntax.branch_target, Syntax.branch_back_target}
+use Rattle.instructions.specs.{Operands.takes_word, Relocated.is_relocated, Targets.branch_target, Targets.branch_back_target}
 use Rattle.disassemblies.specs.Naming.{is_at}
 use Rattle.link_maps.specs.{declared.leads.Aim.Aim, declared.leads.Lead.Lead, declared.references.ReferringWord.ReferringWord}
 use Rattle.link_maps.specs.declared.leads.Aim.TheVariants.{Numbered, Addressed}
