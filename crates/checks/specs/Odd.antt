@@ -104,9 +104,11 @@ symbol_at h n = symbols_at h + 12 * n
 abbrev pub refers_to : ℕ → Reloc → Bool
 refers_to n r = eqb (r.0 / 2 % 8) 4 && eqb (symbol_number r) n
 
+abbrev pub is_used : Contents → ℕ → Bool
+is_used c n = list_any (refers_to n) c.text_reloc || list_any (refers_to n) c.data_reloc
+
 abbrev pub is_unused : Contents → ℕ → Symbol → Bool
-is_unused c n s =
-    eqb c.header.flag 0 && (is_undefined s && (eqb s.value 0 && not (list_any (refers_to n) c.text_reloc || list_any (refers_to n) c.data_reloc)))
+is_unused c n s = eqb c.header.flag 0 && (is_undefined s && (eqb s.value 0 && not (is_used c n)))
 
 -- symbol number n, which follows these in the table
 abbrev pub odd_symbol : Bool → Contents → List ℕ → Option ℕ → ℕ → Symbol → List Found

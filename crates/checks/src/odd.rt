@@ -1,11 +1,11 @@
 //! What is odd of a file, and not refused. Only tested: the texts of the findings.
-ghost use Rattle.std.specs.Prelude.{◌≡◌, ◌^◌, ◌<◌, ◌&&◌, not, None, Some, length, slice_get, take, if◌then◌else◌, bytes_eq, is_some, IfOk};
+ghost use Rattle.std.specs.Prelude.{◌≡◌, ◌^◌, ◌<◌, ◌&&◌, ◌||◌, not, false, None, Some, length, get_or, slice_get, take, if◌then◌else◌, bytes_eq, is_some, IfOk};
 ghost use Rattle.std.specs.Ordering.{nat_cmp};
 ghost use Rattle.std.specs.{Prelude.{OnOk, List, ℕ}, List.{flat_map, list_any}, BTreeMap.get, Cmp.Lexicographic.slice_cmp};
 ghost use Rattle.aout_core.specs.{WellFormed.is_external, Placed.{placed_word, placed_words, relocs_of, words_of}};
 ghost use Rattle.checks.specs.Odd.{after_name, first_alike, has_name, has_type, ignores_number, is_hidden, odd, odd_fields, odd_header};
-ghost use Rattle.checks.specs.Odd.{odd_rest, odd_name, refers_to, is_unused, odd_reloc, odd_symbol, odd_symbols, odd_word};
-ghost use Rattle.checks.specs.{Found.{each_found, Finds}, Segments.segment_meant, Outside.is_byte};
+ghost use Rattle.checks.specs.Odd.{odd_rest, odd_name, refers_to, is_used, is_unused, odd_reloc, odd_symbol, odd_symbols, odd_word};
+ghost use Rattle.checks.specs.{Found.{each_found, Finds}, Segments.segment_meant, Outside.is_byte, internal.Marks.AreUsed};
 
 use crate::finding::{Finding, FindingKind, Findings};
 use crate::outside::{has_byte, is_sure_value, is_sure_word};
@@ -174,32 +174,60 @@ fn find_fields(
     );
 }
 
-/// Whether some relocation word refers to the symbol of a number.
-fn has_reference(relocs: &[Reloc], number: usize) -> bool
-    ensures { result ≡ list_any (refers_to number) relocs.now }
+/// Marks the symbol to which a relocation word refers.
+fn mark_referent(used: &mut [bool], reloc: Reloc)
+    ensures same { length used.new ≡ length used.old }
+    ensures each { (i : ℕ) → i < length used.old → get_or used.new i false
+        ≡ (get_or used.old i false || refers_to i reloc) }
 {
-    relocs.iter().any(|reloc| reloc.0 / 2 % 8 == 4 && usize::from(reloc.number()) == number)
+    let number = usize::from(reloc.number());
+    if reloc.0 / 2 % 8 == 4 && number < used.len() {
+        used[number] = true;
+    }
+}
+
+/// Marks the symbols to which relocation words refer.
+fn mark_referents(used: &mut [bool], relocs: &[Reloc])
+    ensures same { length used.new ≡ length used.old }
+    ensures each { (i : ℕ) → i < length used.old → get_or used.new i false
+        ≡ (get_or used.old i false || list_any (refers_to i) relocs.now) }
+{
+    for reloc in relocs {
+        mark_referent(used, *reloc);
+    }
+}
+
+/// For each symbol of a file, whether a relocation word refers to it. An error: out of memory.
+fn used_in(alloc: Global, file: &File) -> Result<Vec<bool>, AllocError>
+    ensures { IfOk result (λ used. AreUsed file.now used.items) }
+{
+    let mut used = vec![in alloc; false; file.symbols().len()]?;
+    mark_referents(&mut used, file.text_reloc());
+    mark_referents(&mut used, file.data_reloc());
+    Ok(used)
 }
 
 /// Whether a symbol of an object is undefined, and no word refers to it.
-fn is_unused(file: &File, number: usize, symbol: &Symbol) -> bool
+fn is_unused(file: &File, used: &[bool], number: usize, symbol: &Symbol) -> bool
+    requires there { number < length used.now }
+    requires used { get_or used.now number false ≡ is_used file.now number }
     ensures { result ≡ is_unused file.now number symbol.now }
 {
-    file.header().flag == 0
-        && symbol.is_undefined()
-        && symbol.value == 0
-        && !(has_reference(file.text_reloc(), number) || has_reference(file.data_reloc(), number))
+    file.header().flag == 0 && symbol.is_undefined() && symbol.value == 0 && !used[number]
 }
 
 /// Adds what is odd of a symbol, whose name an earlier one has first, if one has it.
 fn find_symbol(
     findings: &mut Findings,
     source: &Source<'_>,
+    used: &[bool],
     number: usize,
     first: Option<usize>,
     symbol: &Symbol,
 )
     requires few { number < 65536 }
+    requires there { number < length used.now }
+    requires used { get_or used.now number false ≡ is_used source.now.sweep.now number }
     requires first { first ≡ first_alike symbol.now (take number source.now.sweep.now.symbols) }
     ensures { Finds findings.old findings.new (odd_symbol source.now.commons source.now.sweep.now source.now.bytes.now
         (first_alike symbol.now (take number source.now.sweep.now.symbols)) number symbol.now) }
@@ -212,7 +240,7 @@ fn find_symbol(
     let title = Title { number, symbol };
     findings.find_if_as(
         false,
-        is_unused(file, number, symbol),
+        is_unused(file, used, number, symbol),
         place,
         FindingKind::UnusedName,
         format_args!("{title} is undefined, and no word refers to it"),
@@ -262,10 +290,14 @@ fn find_symbols(findings: &mut Findings, source: &Source<'_>)
         source.now.sweep.now.symbols) }
 {
     let mut seen = BTreeMap::new(findings.allocator());
+    let used = match used_in(findings.allocator(), source.sweep.file()) {
+        Ok(used) => used,
+        Err(error) => return findings.cut(error),
+    };
     let symbols = source.sweep.file().symbols();
     for (number, symbol) in symbols.iter().enumerate() {
         match first_alike(&mut seen, symbol, number) {
-            Ok(first) => find_symbol(findings, source, number, first, symbol),
+            Ok(first) => find_symbol(findings, source, &used, number, first, symbol),
             Err(error) => return findings.cut(error),
         }
     }

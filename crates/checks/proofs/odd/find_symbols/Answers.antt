@@ -15,5 +15,5 @@ loop-number-preserved c =
       λ other. noted_more symbols c.loop-number.number symbol other (get (slice_cmp nat_cmp) c.loop-number.seen symbol.name)
           (get (slice_cmp nat_cmp) c.loop-number.seen other) (get (slice_cmp nat_cmp) c.first_alike.new.seen other)
           c.loop-number-test.true c.index-symbols-number.is
-          (c.in-Ok.ensures.noted other) (c.loop-number.invariant.1 symbol.name) (c.loop-number.invariant.1 other),
+          (c.in-Ok-first_alike.ensures.noted other) (c.loop-number.invariant.1 symbol.name) (c.loop-number.invariant.1 other),
     )
