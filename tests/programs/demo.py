@@ -4,7 +4,6 @@ tier: check, 2 seconds; programs: v7; for: examples
 
 The session is examples/session.txt, whose answers have to be those of examples/README.md; the program has to be examples/ab.out.
 """
-import os
 import subprocess
 import sys
 import textwrap
@@ -19,7 +18,7 @@ def session():
     lines, answers = read("session.txt").splitlines(keepends=True), ""
     for count, line in enumerate(lines, 1):
         said = ran(program("v7"), "session", given="".join(lines[:count]).encode()).said()
-        print(f"> {line}{said[len(answers):]}", end="", flush=True)
+        print(f"v7> {line}{said[len(answers):]}", end="", flush=True)
         answers = said
     print()
     return answers
@@ -33,7 +32,7 @@ def shell(*words):
 
 def main():
     with new_folder("examples"):
-        os.mkdir("../build")
+
         if textwrap.indent(session(), "    ") not in read("README.md"):
             sys.exit("the answers are not those of examples/README.md")
         status = shell("ld", "-s", "-o", "program", "a.o", "b.o") or shell("size", "program")

@@ -1,9 +1,10 @@
 #!/bin/sh
 # Runs the examples of the manual pages and of the documents, and compares what is shown with what comes. The examples of a
 # page are its displays, and those of a document its blocks that are indented by four blanks or more; of both, only those
-# whose first line begins with "$ ". There a line after "$ " is typed to the shell, a line after "> " to the program, and all
-# others are what is shown, standard error too. Each file has a new copy of the folder examples, and its commands run in one
-# shell, so that each sees what those before it left. Commands that need a program which is not installed are counted.
+# whose first line begins with "$ ". There a line after "$ " is typed to the shell, a line after "v7> " to the program, and all
+# others are what is shown, standard error too, but for what comes only at a terminal. Each file has a new copy of the folder
+# examples, and its commands run in one shell, so that each sees what those before it left. Commands that need a program which is
+# not installed are counted.
 #
 # usage: tests/programs/manual.sh [FILE...]       the programs are in build/, or in the folder V7_BUILD
 #
@@ -50,8 +51,8 @@ commands() {
         function name(kind) { return sprintf("%s/%03d.%s", work, n, kind) }
         /^\$ / { if (n) close(name("shown")); n++; print substr($0, 3) >name("typed"); close(name("typed"))
                  printf "" >name("input"); printf "" >name("shown"); next }
-        n == 0 || /^$/ { next }
-        /^> / { print substr($0, 3) >name("input"); next }
+        n == 0 || /^$|^v7> quit$|^add PATH, |^list shows |^end of the session: | says what this file is$/ { next }
+        /^v7> / { print substr($0, 5) >name("input"); next }
         { print >name("shown") }'
 }
 

@@ -5,10 +5,10 @@ the imports. Each file that they lead to has to be in specs/ of its crate, not i
 specs/ of a crate may import the internals of another.
 
 The theorem is the first claim of PROOFS, which is followed definition by definition, with what a session does and the relation of linking.
-The function `link` is left out of claims, since `linking_law` ties it to the relation. The theorem is about sessions and links that were
-run; by which arguments, `call_law` says, and the claim of `Performs` counts that. Lines are those of definitions, without imports,
-comments and empty lines; the number of a claim may be wrong by a twentieth. Each function and type that a table of PROOFS names has to be
-in the code.
+A claim that begins with this relation leaves out the function `link`, since `linking_law` ties the two. The theorem is about sessions and
+links that were run; by which arguments, `call_law` says, and the claim of `Performs` counts that. A claim that begins with a crate leads to
+what the public contracts of the crate cite. Lines are those of definitions, without imports, comments and empty lines; the number of a
+claim may be wrong by a twentieth. Each function and type that a table of PROOFS names has to be in the code.
 
 usage: python3 -m tests.texts.trusted        compares
        python3 -m tests.texts.trusted -w     writes the numbers of PROOFS and TRUST
@@ -27,9 +27,9 @@ from tests.lib.rattle import crates_in, definitions, functions, items
 PROOFS, TRUST = "docs/PROOFS.md", "docs/TRUST.md"
 # the laws that are the theorem: the first claim begins with what they cite
 THEOREM = ("crates/laws/src/commands.rt", ["session_law", "undo_law"])
-# what it is followed from besides: what a session does, and what a link is; and what is left out
+# what it is followed from besides: what a session does, and what a link is; and what a claim leaves out that begins with the relation
 BESIDES = {"IsSessionRun", "IsLinkedFrom", "IsRefused"}
-LEFT_OUT = {("link_out", "function.Link", "link")}
+RELATION, LEFT_OUT = "IsLinkedFrom", {("link_out", "function.Link", "link")}
 # the definitions by which arguments are read, with the kit's `clap`, and the claim that leads to them
 READS_WORDS = "`Performs`"
 WORDS = ("crates/command_words/specs/", ["Calls", "LinkWords", "Tools"]), ("crates/tool_options/specs/", ["Flags", "ForcedNames"])
@@ -148,10 +148,11 @@ def other_internals():
 def led_to(starts):
     """How many lines of definitions some names lead to, by file."""
     reached, waiting = {}, list(starts)
+    left_out = LEFT_OUT if RELATION in {name for *_, name in starts} else set()
     while waiting:
         crate, module, name = waiting.pop()
         path = path_of(crate, module)
-        if not os.path.exists(path) or (crate, module, name) in LEFT_OUT:
+        if not os.path.exists(path) or (crate, module, name) in left_out:
             continue
         known, scope = in_file(path)
         places = {own: place for place, it in enumerate(known) for own in it.names}
@@ -191,12 +192,21 @@ def claims(text):
         claim, _, names = row.strip("| ").split(" | ")[:3]
         starts = []
         for name in re.findall(r"`([\w.]+)`", names):
+            if name in LIBRARIES:
+                starts += cited_in(name)
+                continue
             crate, name = name.split(".") if "." in name else (None, name)
             found = [place for place in where.get(name, []) if crate in (None, place[0])]
             if len(found) != 1:
                 faults.append(f"{PROOFS}: {claim}: {len(found)} definitions are called {name}")
             starts += found
         yield led_to(starts), row
+
+
+def cited_in(crate):
+    """Where the definitions are that the public contracts of a crate cite."""
+    places = {place for _, _, is_public, cited in contracts(crate) if is_public for place in cited.values()}
+    return [(crate, module, name) for crate, folder, module, name in sorted(places) if folder == "specs" and "declared" not in module]
 
 
 def cited_by_theorem():

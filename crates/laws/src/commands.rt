@@ -1,4 +1,5 @@
-//! Laws of commands, over the definitions of what they do. Each law is the contract of a function with an empty body.
+//! Laws of commands, over the definitions of what they do. Each law is the contract of a function with an empty body. Files are
+//! known by their paths: two paths are two files.
 ghost use Rattle.laws.specs.SessionsByCommands.{LinkLineLaw, RefusedLineLaw, SameDiskLaw, UndoLaw};
 ghost use Rattle.laws.specs.{Builds.{BuildsLaw, OnceLaw, ElsewhereLaw}, Calls.{LinkCallLaw, SessionCallLaw}};
 
@@ -23,11 +24,11 @@ pub fn call_law<W: Write, E: Write>()
 ///   that are left, on a disk that has the bytes which the session read. It opens these files and stores in Q what the line stored in
 ///   P, the line answered what it writes, and after that `linked P` with its status, and has that status too. Or memory ran out, an
 ///   input could not be read, or the file or the report not written.
-/// - `refused`: take a line `link P` that stored nothing, for another reason than that memory ran out. Then `ld` ends with 2, stores
-///   nothing and writes nothing to standard output, and its line on standard error is `v7: ` and the answer of the session. Or memory
-///   ran out, or an input could not be read.
+/// - `refused`: take a line `link P` that asked for nothing to be stored, for another reason than that memory ran out. Then `ld` ends with
+///   2, stores nothing and writes nothing to standard output, and its line on standard error is `v7: ` and the answer of the session. Or
+///   memory ran out, or an input could not be read. A line that met `cannot create` or `write error` asked for its file.
 /// - `disks`: a disk has the bytes which the session read, if it has those of the session's disk at the paths that are left, and no
-///   line before stored a file there.
+///   line before stored a file at these paths.
 pub fn session_law<W: Write, E: Write>()
     ensures linked { LinkLineLaw W.contents E.contents }
     ensures refused { RefusedLineLaw W.contents E.contents }
@@ -53,8 +54,8 @@ pub fn undo_law<W: Write, E: Write>()
 ///   `-d`, to keep the locals that the last command keeps, and to force no other names than that, and no name of the files may be
 ///   multiply defined.
 /// - `once`: so a build does what one `ld` does with all its files, as they were before the build.
-/// - `elsewhere`: the steps change no file but those at which they store. So if they store over none of the files, that `ld` may run on the
-///   disk that the build leaves.
+/// - `elsewhere`: the steps change nothing at paths other than those at which they store. So if they store at none of the files' paths, that
+///   `ld` may run on the disk that the build leaves.
 pub fn build_law<W: Write, E: Write>()
     ensures builds { BuildsLaw W.contents E.contents }
     ensures once { OnceLaw W.contents E.contents }
