@@ -18,7 +18,8 @@ from tests.lib.compare import notices, same
 from tests.lib.files import TOP, new_folder, read
 from tests.lib.programs import BUILD
 
-PAGES = ["README.md", "docs/TUTORIAL.md", "docs/RESTORING.md", "docs/FAQ.md", "examples/README.md"]
+PAGES = ["README.md", "docs/TUTORIAL.md", "docs/RESTORING.md", "docs/FAQ.md", "examples/README.md", "docs/OBJECTS.md", "docs/TRUST.md",
+         "docs/teaching/BLACKBOARD.md"]
 # what a user types after these; the shell marks its own, since a program could write the same
 PROMPTS = MARKED, SESSION = b"\x1e$ ", b"v7> "
 SECONDS = 60
