@@ -7,7 +7,8 @@ usage: python3 -m tests NAME ..          tests, all of a folder (`oracles`), or 
        python3 -m tests needs TIER       Debian's packages that the tests of this tier and of those before need, and that are missing
        python3 -m tests needs            all that each tier needs besides, missing or not
        python3 -m tests parts COMMAND ..     runs commands up to one that fails, and prints the minutes of each. One that has passed with
-                                         this commit is not run again
+                                         this commit is not run again. A minute before V7_CI_SECONDS are over, 10,800 if they are not
+                                         given, it stops what runs, and names what is left out; 0 is for no limit
 
 Each tier has what those before do not have. The tests of `test` run side by side with programs that are compiled here without any proof,
 and with the tests that are code, of each crate that has a function with `#[test]`. Those of `check` and `all` run with the programs of
@@ -17,20 +18,24 @@ A test says of itself in its head, as `tier: check, 60 seconds; programs: ..; fo
 machine, the programs that it runs, the paths for which it was made, what it needs beside Python and make, and its arguments. This is one
 line, or goes on after a `;` and a blank. Where V7_CI is set, a tool that is missing is a fault.
 """
+import contextlib
 import glob
+import math
 import os
 import re
 import shlex
 import shutil
+import signal
 import subprocess
 import sys
+import tempfile
 import time
 from collections import Counter
 from concurrent.futures import ThreadPoolExecutor, wait
 from typing import NamedTuple
 
 from tests.lib.compare import notices, same
-from tests.lib.files import TOP, read
+from tests.lib.files import TOP, read, read_bytes
 from tests.lib.programs import Ran, program, ran
 from tests.lib.rattle import below, crates_in
 from tests.lib.tally import Failed, Tally
@@ -49,6 +54,9 @@ SECONDS = "1800"
 PROCESSORS = min(4, len(os.sched_getaffinity(0)))
 # what has passed, of `make check` and `make check-all`, and with which commit
 PARTS = "build/parts"
+# after these CI stops a run, and all that it has said may be lost; of them, what is left for the end
+CI_SECONDS = 10800
+LAST_SECONDS = 60
 
 
 class Test(NamedTuple):
@@ -159,10 +167,13 @@ def run_jobs(commands, count=1):
 
 
 def check_itself():
-    """A command that fails is noticed alone, among others, and as a part."""
+    """A command that fails is noticed alone, among others, and as a part. One whose time is over is stopped, with all that it has begun."""
     notices(passes, "false")
     notices(lambda: same("planted", run_jobs({"planted": ["false"]}), 0))
     notices(lambda: same("planted", run_parts("false"), 0))
+    with tempfile.NamedTemporaryFile("r", encoding="utf-8") as file:
+        same("what a stopped command comes to", runs(f"setsid sleep 99 & echo $! >{file.name}; wait", time.time() + 1), None)
+        same("whether what it has begun goes on", is_alive(int(file.read())), False)
 
 
 def commit():
@@ -174,18 +185,64 @@ def commit():
     return "" if changed.status or changed.out else ran("git", "rev-parse", "HEAD").out.decode().strip()
 
 
+def begun_by(command):
+    """The numbers of a process and of all that it has begun, also in sessions of their own."""
+    above, found = {}, [command]
+    for path in glob.glob("/proc/[0-9]*/stat"):
+        with contextlib.suppress(OSError):
+            above[int(path.split("/")[2])] = int(read_bytes(path).rpartition(b")")[2].split()[1])
+    for one in found:
+        found += [it for it, parent in above.items() if parent == one]
+    return found
+
+
+def is_alive(process):
+    """Whether a process goes on. One that has ended, and that nobody has asked about, has no words."""
+    with contextlib.suppress(OSError):
+        return bool(read_bytes(f"/proc/{process}/cmdline"))
+    return False
+
+
+def stop(command):
+    """Ends a command and all that it has begun: by a request, at which tests say what they leave out, and then by force."""
+    begun, last = begun_by(command.pid), time.monotonic() + LAST_SECONDS / 10
+    for number in (signal.SIGTERM, signal.SIGKILL):
+        for it in begun:
+            with contextlib.suppress(ProcessLookupError):
+                os.kill(it, number)
+        while any(map(is_alive, begun)) and time.monotonic() < last:
+            time.sleep(0.1)
+
+
+def runs(command, until):
+    """Runs a command, which sees when it has to end, and stops it then, or when this script is stopped. Its status, or None."""
+    with subprocess.Popen(command, shell=True, start_new_session=True, env={**os.environ, "V7_UNTIL": str(until)}) as running:
+        try:
+            return running.wait(None if until == math.inf else max(0, until - time.time()))
+        except subprocess.TimeoutExpired:
+            stop(running)
+            return None
+        except BaseException:
+            stop(running)
+            raise
+
+
 def run_parts(*commands):
-    """Runs commands, and notes in build/parts those that have passed. They see when the first one began."""
-    os.environ.setdefault("V7_BEGUN", str(time.time()))
+    """Runs commands up to one that fails, or to the limit of time, and notes in build/parts those that have passed."""
+    limit = int(os.environ.get("V7_CI_SECONDS") or CI_SECONDS)
+    until = float(os.environ.get("V7_BEGUN") or time.time()) + limit - LAST_SECONDS if limit else math.inf
     passed, rows, status = {*read(PARTS).split("\n")} if os.path.exists(PARTS) else set(), [], 0
-    for command in commands:
+    for at, command in enumerate(commands):
         state, begun = commit(), time.monotonic()
         if state and f"{state} {command}" in passed:
-            rows.append(f"passed before      {command}")
+            rows.append(f"passed before       {command}")
             continue
-        failed = subprocess.run(command, shell=True, check=False).returncode
-        rows.append(f"{(time.monotonic() - begun) / 60:6.1f} minutes{' FAILED' * bool(failed):7} {command}")
-        if failed:
+        failed = runs(command, until)
+        said = "STOPPED" if failed is None else "FAILED" if failed else ""
+        rows.append(f"{(time.monotonic() - begun) / 60:6.1f} minutes {said:7} {command}")
+        if failed != 0:
+            rows += [f"not run             {other}" for other in commands[at + 1:]]
+            rows += [f"the limit is {limit} seconds: what was stopped or not run is not tested"] * (failed is None)
             status = 1
             break
         if state:
@@ -335,6 +392,8 @@ def main(words):
     if words[:1] == ["needs"] and (len(words) == 1 or words[1] in TIERS):
         return print_needs(tests, *words[1:])
     if words[:1] == ["parts"] and words[1:]:
+        # then what it runs is stopped too
+        signal.signal(signal.SIGTERM, lambda number, _: sys.exit(128 + number))
         return run_parts(*words[1:])
     if words == ["list"]:
         for it in tests:

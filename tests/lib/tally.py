@@ -1,5 +1,7 @@
 """Counts jobs that run side by side: how many are done, what they print, and which have failed."""
+import os
 import re
+import signal
 import time
 from concurrent.futures import FIRST_COMPLETED, wait
 
@@ -34,8 +36,15 @@ class Tally:
             print(f"{self.far()}: FAILED: {self.jobs[job]}\n{str(failed).rstrip()}", flush=True)
 
     def take_all(self):
-        """Takes each result as it comes, and returns the status to end with. What runs is printed if nothing comes for a while."""
+        """Takes each result as it comes, and returns the status to end with. What runs is printed if nothing comes for a while, and what
+        is left out if this is stopped."""
         left = {*self.jobs}
+
+        def stopped(number, _):
+            os.write(1, f"stopped without {', '.join(sorted(self.jobs[job] for job in left))}\n".encode())
+            os._exit(128 + number)
+
+        signal.signal(signal.SIGTERM, stopped)
         while left:
             done, left = wait(left, SECONDS_SILENT, FIRST_COMPLETED)
             for job in done:

@@ -1,10 +1,13 @@
 """Has the prover refuse the wrong bodies of crates, many of them in one copy of the crate.
 
-usage: python3 -m tests.wrong_bodies.wrong_bodies [-j N] [CRATE ..]   tries all edits of these crates, or of all, and notes in
-                                                 tests/wrong_bodies/wrong-bodies.seen each crate whose edits are all refused
-       python3 -m tests.wrong_bodies.wrong_bodies [-j N] CRATE/EDIT ..  tries these edits alone, and notes nothing
-       python3 -m tests.wrong_bodies.wrong_bodies [-j N] -c [-m M]    tries those of the crates that have changed since they were noted, or
-                                                 are not noted; once M minutes are over, those left are named, and not tried
+usage: python3 -m tests.wrong_bodies.wrong_bodies [-j N] [-m M] [CRATE ..]   tries all edits of these crates, or of all
+       python3 -m tests.wrong_bodies.wrong_bodies [-j N] [-m M] CRATE/EDIT ..  tries these edits alone, and notes nothing
+       python3 -m tests.wrong_bodies.wrong_bodies [-j N] [-m M] -c   tries those of the crates that have changed since theirs were refused,
+                                                 first those tried longest ago; of must-fail/ only what the gate has not tried since
+
+tests/wrong_bodies/wrong-bodies.seen has a line for each crate, the one that was tried last at the end: its digest, or `-` until all of its
+edits are refused, and the seconds of its longest copy. No copy begins that would take longer than what is left of M minutes, or of the
+time that `make check` has; what has not ended then is stopped. What is left is named. With -c this is no fault.
 
 A wrong body is an edit in must-fail/ or in the file wrong-bodies of a crate: tests/wrong_bodies/edits.py has its form. A copy has at
 most one edit for each function. It is checked once, by the kit's `rattle`, with the libraries below it as `rt lib` proves them, or as
@@ -19,6 +22,7 @@ its shape. A goal is of the same kind as another one if it is of the same clause
 N copies are checked side by side, two if it is not given. The last line has how many edits are refused, and the minutes.
 """
 import argparse
+import contextlib
 import hashlib
 import math
 import os
@@ -30,6 +34,7 @@ import tempfile
 import threading
 import time
 from concurrent.futures import ThreadPoolExecutor
+from typing import NamedTuple
 
 from tests.lib.compare import same
 from tests.lib.files import TOP, write
@@ -38,8 +43,8 @@ from tests.wrong_bodies import edits
 from tools import prove
 
 SEEN = "tests/wrong_bodies/wrong-bodies.seen"
-# no copy begins later after the begin of `make check`: CI stops it after 10,800 seconds
-MOST_SECONDS = 8400
+# of the time that `make check` has, what is left to say what was tried
+LAST_SECONDS = 10
 BLOCK = re.compile(r"( *)(?:pub(?:\(\w+\))? )?(impl|trait|mod)\b(.*)\{$")
 # what the prover says of a place, and what that says only of the form of a proof or of a name that is gone
 PLACE = re.compile(r"(?:note: )?(?:\./)?((?:src|specs|proofs)/[^:\s]+):(\d+):\d+: (.*)")
@@ -266,10 +271,10 @@ def check_itself():
         same(said, Answer("tried", 1, f"fn tried::half: {said}\nlogic=failed\n").judge(edit)[0], word)
 
 
-def run(words, folder):
-    """Runs a command in a folder, with both outputs as one text, in the order of their lines."""
+def run(words, folder, until):
+    """Runs a command in a folder up to a time, with both outputs as one text, in the order of their lines."""
     how = {"stdin": subprocess.DEVNULL, "stdout": subprocess.PIPE, "stderr": subprocess.STDOUT, "errors": "replace"}
-    return subprocess.run(words, cwd=folder, check=False, **how)
+    return subprocess.run(words, cwd=folder, check=False, timeout=None if until == math.inf else max(0, until - time.monotonic()), **how)
 
 
 class Trial:
@@ -280,8 +285,18 @@ class Trial:
         self.folder = f"crates/{crate.name}"
         found = [Edit(self.folder, body) for body in edits.edits_of(crate.name)]
         self.kept = None
-        self.edits = [it for it in found if not only or {crate.name, f"{crate.name}/{it.name}"} & only]
-        self.results, self.apart, self.left, self.copies = {}, set(), [], 0
+        self.edits = [it for it in found if only is None or {crate.name, f"{crate.name}/{it.name}"} & only]
+        self.results, self.apart, self.copies = {}, set(), 0
+        # of the longest copy: what the last one took, and then what one takes
+        self.expected, self.seconds = noted().get(crate.name, NEVER).seconds or crate.functions() * prove.SECONDS_EACH, 0
+
+    def left(self):
+        """The names of the edits of which nothing is known yet."""
+        return [it.name for it in self.edits if it.name not in self.results]
+
+    def failed(self):
+        """The names of the edits that are not refused."""
+        return [name for name, fault in self.results.items() if fault]
 
     def check(self, texts, without=(), edited=()):
         """Checks a copy of the crate with these texts and without some folders of proofs, over what `rt check` of the crate left, or
@@ -298,8 +313,12 @@ class Trial:
                 shutil.rmtree(f"{copy}/{path}", ignore_errors=True)
             for path, text in texts.items():
                 write(f"{copy}/{path}", text)
-            done = run(self.kit.checking(self.crate, *only * (len(only) == len(edited)), kept=kept, jobs=1), copy)
-        self.copies += 1
+            begun = time.monotonic()
+            try:
+                done = run(self.kit.checking(self.crate, *only * (len(only) == len(edited)), kept=kept, jobs=1), copy, self.until)
+            finally:
+                # one that was stopped takes longer still, so it does not begin again with so little time
+                self.copies, self.seconds = self.copies + 1, max(self.seconds, math.ceil(time.monotonic() - begun))
         return Answer(self.crate.name, done.returncode, done.stdout)
 
     def end(self, edit, fault, line=""):
@@ -325,21 +344,20 @@ class Trial:
         return chosen, texts
 
     def run(self):
-        """Tries all edits, and says whether each is refused."""
+        """Tries all edits, as far as there is time."""
         for edit in self.edits:
             edit.alone = edit.function is None
             if edit.misfit:
                 self.end(edit, "it cannot be made", edit.misfit)
         waiting = sorted((it for it in self.edits if not it.misfit), key=lambda it: it.alone)
-        with tempfile.TemporaryDirectory(prefix="wrong-bodies-") as self.kept:
-            while waiting and time.monotonic() < self.until:
+        late = contextlib.suppress(subprocess.TimeoutExpired)
+        with tempfile.TemporaryDirectory(prefix="wrong-bodies-") as self.kept, late:
+            while waiting and time.monotonic() + (self.seconds or self.expected) < self.until:
                 chosen, texts = self.next_copy(waiting)
                 answer = self.check(texts, edited=chosen)
                 print(f"{self.crate.name}: copy {self.copies}, {len(chosen)} edits", flush=True)
                 again = [it for it in chosen if not self.has_ended(it, chosen, answer)]
                 waiting = sorted(again + [it for it in waiting if it not in chosen], key=lambda it: it.alone)
-        self.left = [it.name for it in waiting]
-        return not self.left and not any(self.results.values())
 
     def has_ended(self, edit, chosen, answer):
         """Notes what a copy says of an edit. Whether it is the last word on it."""
@@ -388,10 +406,11 @@ class Trial:
         else:
             self.end(edit, "refused only for its shape: change a value, and keep the names", line)
 
-def has_libraries(crates, place):
+
+def has_libraries(crates, place, until):
     """Has `rt lib` prove libraries, lowest first, unless they are proved, and links them in a folder. Whether all are proved."""
     for crate in crates:
-        done = run(["rt", "lib"], f"crates/{crate.name}")
+        done = run(["rt", "lib"], f"crates/{crate.name}", until)
         if done.returncode:
             print(done.stdout)
             return False
@@ -416,51 +435,74 @@ def with_edits():
     return [crate for crate in sorted(os.listdir("crates")) if edits.edits_of(crate)]
 
 
+class Noted(NamedTuple):
+    """What is noted of a crate: its digest, once all of its edits were refused, and the seconds of its longest copy."""
+    digest: str
+    seconds: int
+
+
+NEVER = Noted("-", 0)
+
+
 def noted():
-    """The digest of each crate in the file of those that have passed, as far as it is there."""
-    return dict(re.findall(r"^(\w+) ([0-9a-f]{64})$", edits.read(SEEN), re.M)) if os.path.exists(SEEN) else {}
+    """What is noted of crates, first of those that were tried longest ago."""
+    found = re.findall(r"^(\w+) ([0-9a-f]{64}|-)(?: (\d+))?$", edits.read(SEEN), re.M) if os.path.exists(SEEN) else []
+    return {crate: Noted(known, int(seconds or 0)) for crate, known, seconds in found}
 
 
-def note(passed):
-    """Writes the digests of crates whose edits are all refused, by name; those of other crates stay."""
-    found = {**noted(), **passed}
-    write(SEEN, "".join(f"{crate} {found[crate]}\n" for crate in with_edits() if crate in found))
+def note(trials, digests):
+    """Notes what came of crates, after what is noted of others. A digest that no longer holds is dropped."""
+    rows = {crate: was for crate, was in noted().items() if crate in with_edits()}
+    rows = {crate: was if was.digest == digest(crate) else Noted("-", was.seconds) for crate, was in rows.items()}
+    for name, trial in trials.items():
+        if trial.copies or not trial.left():
+            was = rows.pop(name, NEVER)
+            is_refused = not trial.left() and not trial.failed()
+            rows[name] = Noted(digests[name] if is_refused else "-", trial.seconds or was.seconds)
+    write(SEEN, "".join(f"{crate} {row.digest} {row.seconds or ''}".rstrip() + "\n" for crate, row in rows.items()))
 
 
-def try_edits(names, jobs, only, until):
-    """Tries the edits of crates, or only some, once the libraries below are proved. No copy begins after a time. Returns the trials, and
-    whether all edits are refused, by crate."""
+def is_gated(crate):
+    """Whether `make gate` has had the edits of must-fail/ refused since the crate last changed."""
+    parts = [f"crates/{crate}/{part}" for part in ("src", "specs", "proofs", "must-fail")]
+    files = [f"{at}/{file}" for part in parts for at, _, names in os.walk(part) for file in names]
+    return os.path.exists(prove.GATED) and max(map(os.path.getmtime, files)) < os.path.getmtime(prove.GATED)
+
+
+def changed():
+    """The crates that have changed since their edits were refused, first those that were tried longest ago, and their edits to be tried."""
+    was = noted()
+    crates = [crate for crate in [*(it for it in with_edits() if it not in was), *was] if crate in with_edits()]
+    crates = [crate for crate in crates if digest(crate) != was.get(crate, NEVER).digest]
+    bodies = [body for crate in crates for body in (edits.records if is_gated(crate) else edits.edits_of)(crate)]
+    return crates, {f"{body.crate}/{body.name}" for body in bodies}
+
+
+def try_edits(names, jobs, only, until, at_once):
+    """Tries the edits of crates, or only some, once the libraries below are proved, so many crates at once, in order, up to a time."""
     with tempfile.TemporaryDirectory(prefix="wrong-bodies-") as place:
         kit, crates = prove.Kit(place), {it.name: it for it in prove.crates_under(*names)}
         needed = {below for name in names for below in crates[name].below}
         slots = threading.Semaphore(jobs)
         trials = {name: Trial(crates[name], kit, slots, only, until) for name in names}
-        if not has_libraries([it for it in crates.values() if it in needed], place):
-            return trials, dict.fromkeys(names, False)
-        with ThreadPoolExecutor(len(names)) as pool:
-            running = {name: pool.submit(trials[name].run) for name in names}
-        return trials, {name: it.result() for name, it in running.items()}
+        with contextlib.suppress(subprocess.TimeoutExpired):
+            if not has_libraries([it for it in crates.values() if it in needed], place, until):
+                sys.exit("a library is not proved")
+            with ThreadPoolExecutor(at_once) as pool:
+                list(pool.map(Trial.run, trials.values()))
+        return trials
 
 
-def whole(names, jobs, only, most):
-    """Tries the edits of crates, or only some, for some minutes at most, and prints a summary. Returns the digests of the crates whose
-    edits are all refused, and whether each edit that was tried is refused."""
-    was = {name: digest(name) for name in names}
-    begun = time.monotonic()
-    trials, passed = try_edits(names, jobs, only, begun + 60 * most)
-    failed = {name: [edit for edit, fault in trial.results.items() if fault] for name, trial in trials.items()}
-    right = all(passed[name] or trial.left and not failed[name] for name, trial in trials.items())
+def say(trials, begun):
+    """Prints what came of the edits of each crate, and of all."""
     for name, trial in trials.items():
-        said = {"FAILED": failed[name], "not tried": trial.left}
-        if not passed[name] and not any(said.values()):
-            said["FAILED"] = ["a library below it is not proved"]
+        said = {"FAILED": trial.failed(), "not tried": trial.left()}
         fault = "".join(f": {word}: {' '.join(those)}" for word, those in said.items() if those)
-        print(f"{name}: {len(trial.results) - len(failed[name])} of {len(trial.edits)} refused, in {trial.copies} copies{fault}")
-    refused = sum(len(trial.results) - len(failed[name]) for name, trial in trials.items())
+        print(f"{name}: {len(trial.results) - len(trial.failed())} of {len(trial.edits)} refused, in {trial.copies} copies{fault}")
+    refused = sum(len(trial.results) - len(trial.failed()) for trial in trials.values())
     edited, copies = (sum(counts) for counts in zip(*((len(trial.edits), trial.copies) for trial in trials.values())))
     minutes = (time.monotonic() - begun) / 60
-    print(f"{refused} of {edited} wrong bodies refused, in {copies} copies of {len(names)} crates: {minutes:.0f} minutes")
-    return {name: was[name] for name in names if passed[name]}, right
+    print(f"{refused} of {edited} wrong bodies refused, in {copies} copies of {len(trials)} crates: {minutes:.0f} minutes")
 
 
 def main():
@@ -476,22 +518,21 @@ def main():
     strange = {*given.names} - {*known, *known.values()}
     if strange or not shutil.which("rt"):
         parser.error(f"no crate with edits, or no edit: {' '.join(sorted(strange))}" if strange else "rt is not on the PATH")
-    crates, was = sorted({name.split("/")[0] for name in given.names}) or with_edits(), noted()
+    crates, only = sorted({name.split("/")[0] for name in given.names}) or with_edits(), None
     if given.c:
-        crates = [crate for crate in crates if digest(crate) != was.get(crate)]
+        crates, only = changed()
         print(f"changed since their wrong bodies were refused: {' '.join(crates) or 'no crate'}", flush=True)
-    only = {*given.names} if any("/" in name for name in given.names) else set()
-    if given.c:
-        # of `make check`, what is left of the time that it may take
-        begun = float(os.environ.get("V7_BEGUN", time.time()))
-        given.m = min(given.m, (begun + MOST_SECONDS - time.time()) / 60)
-        # the gate tries those of must-fail/
-        only = {f"{crate}/{body.name}" for crate in crates for body in edits.records(crate)}
-        crates = sorted({name.split("/")[0] for name in only})
-    passed, right = whole(crates, given.j, only, given.m) if crates else ({}, True)
-    if not given.c and not only:
-        note(passed)
-    return 0 if right else 1
+    elif any("/" in name for name in given.names):
+        only = {*given.names}
+    if not crates:
+        return 0
+    begun, digests = time.monotonic(), {crate: digest(crate) for crate in crates}
+    left = min(60 * given.m, float(os.environ.get("V7_UNTIL") or math.inf) - LAST_SECONDS - time.time())
+    trials = try_edits(crates, given.j, only, begun + left, given.j if given.c else len(crates))
+    say(trials, begun)
+    if given.c or only is None:
+        note(trials, digests)
+    return 1 if any(trial.failed() or trial.left() and not given.c for trial in trials.values()) else 0
 
 
 if __name__ == "__main__":
