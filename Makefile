@@ -12,7 +12,7 @@
 #: make test                  cases and tests with programs that are not proved                            kit          5 minutes
 #: make gate                  proves everything, and tries the wrong bodies of must-fail/                  kit          50 minutes
 #: make check                 all that CI runs: the gate, and tests of the proved programs                 tools/needs  60 minutes
-#: make check-all             this, all wrong bodies, planted bugs, the page and the release               tools/needs  4.5 hours
+#: make check-all             this, all wrong bodies, recheck, planted bugs, the page and the release      tools/needs  4.5 hours
 #: make check-wrong-bodies    has the prover refuse those of changed crates, or of NAMES=CRATE              kit          to 2 hours
 #: make planted               plants BUGS=NAME, or all, and sees that tests find them                      kit          25 minutes
 #: make demo                  proves v7, and shows a session and a link with it                            kit          10 minutes
@@ -158,9 +158,9 @@ gate:
 	touch build/gated
 
 # the cheapest first, so that a fault shows early. The gate leaves the programs that the tests of `check` run. Beside these, wrong bodies
-# of crates that have changed are tried, for 12 minutes. A minute before V7_CI_SECONDS are over it names what is left out, and fails
+# of crates that have changed are tried, for 15 minutes. A minute before V7_CI_SECONDS are over it names what is left out, and fails
 check:
-	@MINUTES=12 python3 -m tests parts 'make quick' 'make test' 'make gate' 'make all lib build/library_uses' \
+	@MINUTES=15 python3 -m tests parts 'make test' 'make gate' 'make all lib build/library_uses' \
 		'make check-wrong-bodies & python3 -m tests check; status=$$?; wait $$! && exit $$status' $(MORE)
 
 # all wrong bodies, in place of those of crates that have changed, and without a limit of time
