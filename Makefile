@@ -122,7 +122,7 @@ build/quick/libv7_c.a:
 quick: build/quick/libv7.so
 	@V7_BUILD=build/quick python3 -m tests.programs.demo
 	@echo 'build/quick has the programs, libv7.so and libv7.a. Nothing of this is proved: make and make lib prove it.'
-	@echo 'next: PATH=$$PWD/build/quick:$$PATH, docs/TUTORIAL.md'
+	@echo 'next: the lines after it in README.md'
 
 demo: build/v7
 	@python3 -m tests.programs.demo
