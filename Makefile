@@ -5,7 +5,7 @@
 #: make lib wheel             proves and builds libv7, and makes its wheel of Python                       kit          20 minutes
 #: make dist                  makes the packages of a release in dist/                                     kit          25 minutes
 #: make page                  makes the pages of the lesson, as build/lesson.html; `lesson` prints steps   kit          10 minutes
-#: make install               `make install-lib` and `make uninstall` too: what was built; `make clean` removes it
+#: make install               `make install-lib` and `make uninstall` too: what was built, or FROM=build/quick; `make clean` removes it
 #:
 #: make which CHANGED=PATH    which tests and crates a change concerns; or SINCE=COMMIT                    Python       seconds
 #: make check-text            texts, names, limits and quotes, compared with the code                      Python       1 minute
@@ -185,9 +185,10 @@ bench: build/v7 build/v7-explain build/v7-from-gnu build/v7-object
 	python3 -m tests.costs.scaling
 
 # the programs, and what the package v7 has besides; uninstall takes away what install and install-lib have put there
-install: $(PROGRAMS)
+$(PROGRAMS:build/%=build/quick/%): build/quick/libv7_c.a ;
+install: $(PROGRAMS:build/%=$(FROM)/%)
 	rm -rf $(STAGE)
-	python3 packaging/installed.py put build $(STAGE)$(PREFIX)
+	python3 packaging/installed.py put $(FROM) $(STAGE)$(PREFIX)
 	python3 packaging/installed.py copy $(STAGE) '$(DESTDIR)' $(PREFIX)
 	rm -rf $(STAGE)
 

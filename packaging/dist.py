@@ -28,6 +28,8 @@ import backend  # noqa: E402
 import installed  # noqa: E402
 
 KEPT = "build/proved"
+# whoever makes a release for others puts an address here that is read: `invalid` is no host
+MAINTAINER = "v7 developers <v7@developers.invalid>"
 LIBDIR = "usr/lib/x86_64-linux-gnu"
 TRIAL = "This is a trial: nothing was checked when these packages were made. Do not publish them.\n"
 
@@ -51,7 +53,7 @@ class Release:
     def __init__(self, is_checked):
         self.is_checked = is_checked
         self.version = installed.version()
-        self.commit, self.date, self.author = asked("git", "show", "-s", "--format=%H\n%ct\n%an <%ae>", "HEAD").split("\n")
+        self.commit, self.date = asked("git", "show", "-s", "--format=%H\n%ct", "HEAD").split("\n")
         self.date = int(self.date)
         self.is_clean = not asked("git", "status", "--porcelain")
         self.kit_version, self.kit = asked("rt", "version"), os.path.dirname(asked("rt", "doc"))
@@ -230,7 +232,7 @@ def squeeze(path):
 CONTROL = """Package: {name}
 Version: {version}
 Architecture: {architecture}
-Maintainer: {author}
+Maintainer: {maintainer}
 Installed-Size: {size}
 {relations}Section: {section}
 Priority: optional
@@ -240,7 +242,7 @@ CHANGELOG = """v7 ({version}) unstable; urgency=medium
 
   * CHANGES.md has what changed.
 
- -- {author}  {date}
+ -- {maintainer}  {date}
 """
 WHOLE = """ A prover has checked, for every input, that link and undo do what their
  contracts say."""
@@ -310,7 +312,7 @@ def take(package, root, to):
 def add_notices(release, package, root, notice):
     """The history and the terms of a package, and what lintian is to let pass."""
     doc = f"{root}/usr/share/doc/{package.name}"
-    write(f"{doc}/changelog", CHANGELOG.format(version=release.version, author=release.author, date=formatdate(release.date)))
+    write(f"{doc}/changelog", CHANGELOG.format(version=release.version, maintainer=MAINTAINER, date=formatdate(release.date)))
     squeeze(f"{doc}/changelog")
     owner = "v7" if package.name == "v7" else "libv7-0"
     notice = notice.replace(" licences/", f" /usr/share/doc/{owner}/licences/")
@@ -328,7 +330,7 @@ def control(release, package, root, libc):
     """The files by which dpkg installs a package."""
     files = sorted(path for path in glob.glob(f"{root}/**", recursive=True) if os.path.isfile(path) and not os.path.islink(path))
     sums = "".join(f"{hashlib.md5(read_bytes(path)).hexdigest()}  {os.path.relpath(path, root)}\n" for path in files)
-    fields = {"version": release.version, "author": release.author, "libc": libc,
+    fields = {"version": release.version, "maintainer": MAINTAINER, "libc": libc,
               "size": sum((os.path.getsize(path) + 1023) // 1024 for path in files)}
     relations = package.relations.format(**fields)
     write(f"{root}/DEBIAN/control", CONTROL.format(**{**package._asdict(), **fields, "relations": relations}))

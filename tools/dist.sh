@@ -2,7 +2,7 @@
 # Checks the packages of a release.
 #
 # usage: tools/dist.sh all                     builds them twice, compares them, and runs them: `sh tools/dist.sh all`
-#        tools/dist.sh twice FOLDER            builds them twice, and leaves them in FOLDER/one and FOLDER/two
+#        tools/dist.sh -t                      a trial of what `make quick` has compiled: all of this that needs no other system
 #        tools/dist.sh run DIST                runs the packages of the folder DIST
 #        OBJECTS=FOLDER tools/dist.sh ..       a trial: takes the objects of programs and libv7_c.a from this folder, and proves nothing
 #        PROVED=CHECKOUT tools/dist.sh ..      begins with what was proved in this checkout, and proves only what has changed
@@ -95,9 +95,6 @@ twice() {
     else
         fail "two builds differ"
     fi
-    mkdir -p "$1"
-    cp -r "$work/one/dist" "$1/one"
-    cp -r "$work/another/folder/dist" "$1/two"
 }
 
 # --- a folder with Debian
@@ -255,10 +252,11 @@ python() {
     echo "Python: a session with python3-v7, and the examples with the wheel in a fresh environment"
 }
 
-# lintian finds nothing in a package
+# lintian finds nothing in the packages
 clean() {
-    lintian --fail-on error,warning --tag-display-limit 0 "$1" >"$work/lintian.txt" 2>&1 || fail "lintian: $1" "$work/lintian.txt"
-    echo "lintian: nothing in $(basename "$1")"
+    command -v lintian >/dev/null || { echo "skipped: lintian is not there"; return; }
+    lintian --fail-on error,warning --tag-display-limit 0 "$dist"/*.deb >"$work/lintian.txt" 2>&1 &&
+        echo "lintian: nothing in the packages for Debian" || fail "lintian finds something" "$work/lintian.txt"
 }
 
 # all of these with what is installed
@@ -273,15 +271,33 @@ try_all() {
     library
 }
 
-run_packages() {
+# what of the packages of a folder needs no other system
+look() {
     dist=$(cd "$1" && pwd)
-    [ "$(id -u)" -eq 0 ] || stop "root is needed to change the root folder"
     (cd "$dist" && sha256sum -c --quiet SHA256SUMS) || fail "SHA256SUMS is wrong"
-    command -v lintian >/dev/null || fail "lintian is not there"
-    for deb in "$dist"/*.deb; do
-        clean "$deb"
-    done
+    ! dpkg-deb -f "$dist/v7_${version}_amd64.deb" Maintainer | grep -qF "$(git show -s --format='<%ae>')" ||
+        fail "the maintainer is whoever made the last commit"
+    clean
     python
+}
+
+# two builds of what `make quick` has compiled, and the files of the tar
+trial() {
+    OBJECTS=${OBJECTS:-build/quick}
+    twice
+    look "$work/one/dist"
+    mkdir -p "$debian/opt"
+    tar xzf "$dist/$name.tar.gz" -C "$debian/opt"
+    share=/opt/$name/share
+    own_readme; web; processors
+    make -s install FROM="$OBJECTS" STAGE="$work/stage" PREFIX="$work/installed" DESTDIR= >"$work/install.txt" 2>&1 &&
+        cmp "$OBJECTS/v7" "$work/installed/bin/v7" || fail "make install FROM=$OBJECTS does not do" "$work/install.txt"
+}
+
+run_packages() {
+    [ "$(id -u)" -eq 0 ] || stop "root is needed to change the root folder"
+    command -v lintian >/dev/null || fail "lintian is not there"
+    look "$1"
     make_debian
     programs=/usr/local/bin share=/usr/share config= libraries=
     readme
@@ -297,12 +313,12 @@ run_packages() {
 
 case ${1:-} in
 all)
-    twice "$work/dists"
-    [ $failed -eq 0 ] && run_packages "$work/dists/one"
+    twice
+    [ $failed -eq 0 ] && run_packages "$work/one/dist"
     ;;
-twice) twice "$2" ;;
 run) run_packages "$2" ;;
-*) stop "usage: tools/dist.sh all | twice FOLDER | run DIST" ;;
+-t) trial ;;
+*) stop "usage: tools/dist.sh all | -t | run DIST" ;;
 esac
 [ $failed -eq 0 ] && echo "the packages are right"
 exit $failed
