@@ -37,12 +37,13 @@ fn compare_listing(object: &[u8]) {
 fn link(out: &str, paths: &[String]) -> Result<u32, Box<dyn error::Error>> {
     let objects = paths.iter().map(fs::read).collect::<Result<Vec<_>, _>>()?;
     let program = Link::default().of(&objects)?;
-    let mut session = Session::new(&[])?;
+    let other = Link { forced: vec!["_forced".into()], entry: b"_none".to_vec(), ..Link::default() };
+    let mut session = Session::new(&other.forced)?;
     for object in &objects {
         session.add(object)?;
     }
-    let again = session.link(&Link::default())?;
-    assert_eq!((&program.file, &program.findings), (&again.file, &again.findings));
+    let (again, whole) = (session.link(other.options, &other.entry)?, other.of(&objects)?);
+    assert_eq!((again.file, again.findings), (whole.file, whole.findings));
     compare_map(&program, &objects);
     thread::scope(|scope| {
         for object in &objects {

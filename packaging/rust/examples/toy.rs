@@ -1,7 +1,7 @@
 //! A toy assembler: `toy OUT FILE...` assembles each FILE, or takes it as an object if its name ends with .o, and links all. What is wrong
 //! with a name is reported with a place of the source. examples/c/toy.c describes the language.
 use std::{env, error::Error, fs, process};
-use v7::{make, raw, take_apart, Link, Name, Parts, Session, Symbol, Word};
+use v7::{make, raw, take_apart, Name, Parts, Session, Symbol, Word};
 
 /// Each name of a file, whether it is defined there, and at which line, or without a source at which address.
 type Names = Vec<(Name, bool, String)>;
@@ -81,7 +81,7 @@ fn run(out: &str, paths: &[String]) -> Result<u32, Box<dyn Error>> {
         session.add(&object).map_err(|fault| format!("{path}: {fault}"))?;
         names.extend(more);
     }
-    let mut program = session.link(&Link::default())?;
+    let mut program = session.link(0, b"")?;
     program.findings.dedup_by_key(|finding| finding.name);
     for finding in &program.findings {
         let is_defined = finding.kind != raw::V7_UNDEFINED_NAME;

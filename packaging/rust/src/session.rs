@@ -37,8 +37,9 @@ impl Session {
         Ok(())
     }
 
-    /// Links what is there by the options and the entry point of a link. The program has no places.
-    pub fn link(&mut self, link: &Link) -> Result<Program, Fault> {
+    /// Links what is there with these options and this entry point, if it is not empty. The program has no places.
+    pub fn link(&mut self, options: u32, entry: &[u8]) -> Result<Program, Fault> {
+        let link = Link { options, entry: entry.to_vec(), forced: Vec::new() };
         let (wants, size) = (raw::V7_REPORT | raw::V7_FINDINGS, self.sizes.iter().sum());
         let (kept, forced) = (&mut self.kept, self.forced);
         // SAFETY: as in `call`; the request is of `ask`
