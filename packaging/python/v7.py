@@ -137,7 +137,11 @@ _Symbol = _struct((_NAME, "name"), (_U16, "type value"))
 _Counts = _struct((_SIZE, "text data symbols"), (_U32, "bss"))
 _Header = _struct((_U16, "magic text_size data_size bss_size symbol_size entry_point unused flag"))
 # end of what is from include/v7.h
-_RECORDS = {"objects": _MapObject, "names": _MapName, "uses": _MapUse, "limits": _MapLimit}
+# the buffers of a result besides that of the file, and by which bit each is wanted
+_BUFFERS = [
+    (_REPORT, "report", ctypes.c_char), (_FINDINGS, "findings", _Finding), (_PLACES, "places", _FindingPlace),
+    (_MAP, "objects", _MapObject), (_MAP, "names", _MapName), (_MAP, "uses", _MapUse), (_MAP, "limits", _MapLimit),
+]
 
 Word = Tuple[int, int]
 Symbol = Tuple[str, int, int]
@@ -231,7 +235,8 @@ class MapLimit(NamedTuple):
 
 class Map(NamedTuple):
     """The map of a link: 0, or why it is refused, and the number of the object that is; where text ends, and data and bss begin and
-    end; the magic, the entry point, and its name if it is not in text; what `v7-explain -m` shows; and what the link gives, or None."""
+    end; the magic, the entry point, and its name if it is not in text; what `v7-explain -m` shows; and what the link gives, or None, with
+    what is reported of it, as by `link_places`."""
 
     status: int
     fault: int
@@ -245,6 +250,7 @@ class Map(NamedTuple):
     uses: List[MapUse]
     limits: List[MapLimit]
     program: Optional[Program]
+    findings: List[Finding]
 
 
 class Remark(NamedTuple):
@@ -293,28 +299,25 @@ class Fault(Exception):
     11 short header, object 0
     """
 
-    def __init__(self, answer: Any, is_byte: bool = False) -> None:
-        text = FAULTS.get(answer.fault, f"fault {answer.fault}")
-        where = f" at word {answer.word}" if answer.fault in (23, 24) else f" in part {answer.word}" if answer.fault == 6 else ""
-        if is_byte:
-            where = f", byte {answer.place}" if answer.fault != 1 else ""
-        elif 60 < answer.fault < 81:
-            where = f", line {answer.place}, column {answer.word}"
-        elif 10 < answer.fault < 35:
-            where += f", object {answer.place}"
-        super().__init__(text + where)
-        self.fault: int = answer.fault
-        self.place: int = answer.place
-        self.word: int = answer.word
-        self._is_byte = is_byte
+    def __init__(self, text: str, fault: int, place: int, word: int) -> None:
+        super().__init__(text, fault, place, word)
+        self.fault, self.place, self.word = fault, place, word
 
-    def __reduce__(self) -> Any:
-        """So a fault can be copied, and sent to another process."""
-        return _fault, (self.fault, self.place, self.word, self._is_byte)
+    def __str__(self) -> str:
+        return str(self.args[0])
 
 
-def _fault(fault: int, place: int, word: int, is_byte: bool) -> Fault:
-    return Fault(_Answer(fault=fault, place=place, word=word), is_byte)
+def _fault(answer: Any, is_byte: bool = False) -> Fault:
+    """The fault of an answer, whose place may be a byte of a file in GNU's form."""
+    fault, place, word = answer.fault, answer.place, answer.word
+    where = f" at word {word}" if fault in (23, 24) else f" in part {word}" if fault == 6 else ""
+    if is_byte:
+        where = f", byte {place}" if fault != 1 else ""
+    elif 60 < fault < 81:
+        where = f", line {place}, column {word}"
+    elif 10 < fault < 35:
+        where += f", object {place}"
+    return Fault(FAULTS.get(fault, f"fault {fault}") + where, fault, place, word)
 
 
 def refers_to(number: int) -> int:
@@ -401,7 +404,7 @@ def _made(call: Any, answer: Any, rooms: Sequence[Tuple[str, Any]], sized: Any =
         if answer.fault != _NO_ROOM:
             break
     if answer.fault:
-        raise Fault(answer, is_byte)
+        raise _fault(answer, is_byte)
     return status, [_written(kind, buffer, getattr(sized, field)) for buffer, (field, kind) in zip(buffers, rooms)]
 
 
@@ -429,7 +432,7 @@ def check(data: bytes) -> int:
     """
     answer = _Answer()
     if _LIBRARY.v7_check(*_slice(data), ctypes.byref(answer)):
-        raise Fault(answer)
+        raise _fault(answer)
     return int(answer.size)
 
 
@@ -564,20 +567,6 @@ def _asked(parts: List[bytes], options: int, entry: str, forced: Iterable[str], 
     return _Request(ctypes.sizeof(_Request), number, wants, _Slice(named, len(named)), _Slice(names, len(names)), slices, len(parts))
 
 
-def _lent(call: Any, answer: Any, rooms: Dict[str, Any]) -> Tuple[int, List[Any]]:
-    """Makes a call whose answer has these rooms, of bytes or of records."""
-    stems = [name.rstrip("s") for name in rooms]
-
-    def lend(*words: Any) -> int:
-        for name, stem, room, size in zip(rooms, stems, words[::2], words[1::2]):
-            setattr(answer, name, ctypes.addressof(room))
-            setattr(answer, f"{stem}_room", size)
-        return int(call(ctypes.byref(answer)))
-
-    fields = [f"{stem}_{'size' if kind is ctypes.c_char else 'count'}" for stem, kind in zip(stems, rooms.values())]
-    return _made(lend, answer, [*zip(fields, rooms.values())])
-
-
 def _name(data: bytes) -> str:
     return data.rstrip(b"\0").decode("latin-1")
 
@@ -598,52 +587,54 @@ class _Run:
         size = most(ctypes.c_size_t(size), ctypes.c_size_t(request.forced.size))
         # of a file each symbol has twelve bytes, a word with what it refers to four, and a line of the report at most 27
         symbols, few = size // 12, min(size // 12, 2000)
-        lines, findings, places, mapped = (wants // kind % 2 for kind in (_REPORT, _FINDINGS, _PLACES, _MAP))
-        result = _Result(ctypes.sizeof(_Result), file_size=size, report_size=(27 * few + 11) * lines)
-        result.finding_count, result.place_count = few * findings, few * places
-        result.object_count, result.name_count, result.use_count, result.limit_count = (symbols * mapped * times for times in (1, 1, 3, 1))
-        rooms = {"file": ctypes.c_char, "report": ctypes.c_char}
-        if findings or places:
-            rooms.update({"findings": _Finding, "places": _FindingPlace})
-        if mapped:
-            rooms.update(_RECORDS)
-        self.status, given = _lent(lambda to: call(ctypes.byref(request), to), result, rooms)
-        self.file, report, *given = given
-        self.findings, self.places = given[:2] if findings or places else ([], [])
-        self.records = given[2:] if findings or places else given
-        self.report, self.head = report.decode("latin-1"), result.head
+        result = _Result(ctypes.sizeof(_Result), file_size=size, report_size=27 * few + 18, finding_count=few, place_count=few,
+                         object_count=symbols, name_count=symbols, use_count=3 * symbols, limit_count=LIMIT_NAMES)
+        rooms = {"file": ctypes.c_char, **{name: kind for want, name, kind in _BUFFERS if wants & want}}
+        stems = [name.rstrip("s") for name in rooms]
+
+        def lend(*words: Any) -> int:
+            for name, stem, room, size in zip(rooms, stems, words[::2], words[1::2]):
+                setattr(result, name, ctypes.addressof(room))
+                setattr(result, f"{stem}_room", size)
+            return int(call(ctypes.byref(request), ctypes.byref(result)))
+
+        fields = [(f"{stem}_{'size' if kind is ctypes.c_char else 'count'}", kind) for stem, kind in zip(stems, rooms.values())]
+        self.status, given = _made(lend, result, fields)
+        self.given, self.head = dict(zip(rooms, given)), result.head
 
     def program(self) -> Program:
-        return Program(self.status, self.file, self.report)
+        return Program(self.status, self.given["file"], self.given["report"].decode("latin-1"))
 
     def found(self) -> Found:
         kinds = MULTIPLY_DEFINED, RESERVED_NAME, ENTRY_NOT_IN_TEXT, UNDEFINED_NAME
-        multiples, reserved, entries, undefined = ([_name(name) for name, of in self.findings if of == kind] for kind in kinds)
-        return Found(self.status, self.file, Findings(multiples, reserved, entries[0] if entries else None, undefined))
+        rows = self.given["findings"]
+        multiples, reserved, entries, undefined = ([_name(name) for name, of in rows if of == kind] for kind in kinds)
+        return Found(self.status, self.given["file"], Findings(multiples, reserved, entries[0] if entries else None, undefined))
 
     def placed(self) -> List[Finding]:
-        rows = ((*finding, *place) for finding, place in zip(self.findings, self.places))
-        return [Finding(_name(name), kind, _object(first), _object(further)) for name, kind, first, further in rows]
+        rows = zip(self.given["findings"], self.given["places"])
+        return [Finding(_name(name), kind, _object(first), _object(further)) for (name, kind), (first, further) in rows]
 
     def mapped(self) -> Map:
-        objects, limits = [*map(MapObject._make, self.records[0])], [MapLimit(kind, used, most) for used, most, kind in self.records[3]]
+        given = self.given
+        objects, limits = [*map(MapObject._make, given["objects"])], [MapLimit(kind, used, most) for used, most, kind in given["limits"]]
         # each name is decoded once
         known = functools.lru_cache(None)(_name)
         names = [
             MapName(known(name), _object(first), _object(further), _object(user), state, of, value)
-            for name, first, further, user, state, of, value in self.records[1]
+            for name, first, further, user, state, of, value in given["names"]
         ]
         # there may be a use for each word: a tuple is made by its own call, which is faster than that of its class
         new, none = tuple.__new__, _NO_OBJECT
         uses = [
             new(MapUse, (None if of == none else of, name, kind, address, offset, line, known(label) if is_labelled else None, beyond))
-            for address, of, name, label, kind, offset, line, beyond, is_labelled in self.records[2]
+            for address, of, name, label, kind, offset, line, beyond, is_labelled in given["uses"]
         ]
         head, program = self.head, None if self.head.fault else self.program()
         segments = head.text_end, head.data_start, head.data_end, head.bss_start, head.bss_end
         named = _name(bytes(head.entry_name)) if head.state & 2 else None
         records = objects, names, uses, limits
-        return Map(self.status, head.fault, head.place, segments, head.magic, head.entry_point, named, *records, program)
+        return Map(self.status, head.fault, head.place, segments, head.magic, head.entry_point, named, *records, program, self.placed())
 
 
 def link(objects: Iterable[bytes], options: int = 0, entry: str = "", forced: Iterable[str] = ()) -> Program:
@@ -684,7 +675,7 @@ def link_places(objects: Iterable[bytes], options: int = 0, entry: str = "", for
 
 
 def link_map(objects: Iterable[bytes], options: int = 0, entry: str = "", forced: Iterable[str] = ()) -> Map:
-    """The map of the link, with the program. A link that is refused for its sizes or its names has a map too.
+    """The map of the link, with the program and what is reported. A link that is refused for its sizes or its names has a map too.
 
     >>> refers = make(text=[(0, refers_to(0))], symbols=[("_f", UNDEFINED | EXTERNAL, 0)])
     >>> found = link_map([make(bss=2), refers])
@@ -693,7 +684,7 @@ def link_map(objects: Iterable[bytes], options: int = 0, entry: str = "", forced
     >>> [(use.object, use.kind, use.address) for use in found.uses]
     [(1, 3, 0), (1, 5, 0)]
     """
-    return _Run(objects, options, entry, forced, _REPORT | _MAP).mapped()
+    return _Run(objects, options, entry, forced, _REPORT | _FINDINGS | _PLACES | _MAP).mapped()
 
 
 def _rows(what: str, rows: Iterable[Any], size: int) -> List[Any]:
@@ -762,9 +753,9 @@ class Session:
     """Objects that are added and withdrawn, and linked as they are at any time.
 
     The library keeps the session, so an edit costs what its object is, and not what is there. `close`, a `with` statement or the end of
-    the session gives the memory back; it cannot be copied. What is also kept here is the bytes of the objects, for `link_places` and
-    `map`. An object that is not accepted is raised as a `Fault`, whose `place` is the number that it would have had, and the session stays
-    as it was.
+    the session gives the memory back; it cannot be copied, and is for one thread at a time. What is also kept here is the bytes of the
+    objects: `link_places` and `map` link these anew. An object that is not accepted is raised as a `Fault`, whose `place` is the number
+    that it would have had, and the session stays as it was.
 
     >>> with Session([make(text=[(7, NUMBER)])]) as session:
     ...     session.add(make(text=[(8, NUMBER)]))
@@ -786,11 +777,11 @@ class Session:
         self._handle = _Session()
         self.entry, self.forced = entry, tuple(_items("forced", forced))
         self._kept: List[bytes] = []
-        # whether what is kept here is what the library has: not while an edit is made, nor if an exception as KeyboardInterrupt ended it
-        self._is_sure = True
+        # how many objects there are before the last edit and after it, and the answer, which tells whether it was made
+        self._last = 0, 0, _Answer()
         # the size of the last state that was shown
         self._size = 0
-        self._call("v7_session_new", *_slice(_forced(self.forced)))
+        self._edit("v7_session_new", 0, *_slice(_forced(self.forced)))
         for data in _list(objects):
             self.add(data)
 
@@ -806,19 +797,20 @@ class Session:
     def close(self) -> None:
         """Gives the memory back. Only this may be called again."""
         _KEEPING.v7_session_free(ctypes.byref(self._handle))
+        self._kept = []
 
     __del__ = close
 
     def add(self, data: bytes) -> None:
         """Adds an object after those that are there."""
         whole = _bytes("data", data)
-        self._kept_now()
-        self._edit("v7_session_add", functools.partial(self._kept.append, whole), ctypes.c_char_p(whole), _SIZE(len(whole)))
+        # it is kept before the library has it: what is kept beyond the count is not there
+        self._kept[self._count():] = [whole]
+        self._edit("v7_session_add", 1, *_slice(whole))
 
     def withdraw(self) -> None:
         """Withdraws the object that was added last. If there is none, a `Fault` is raised."""
-        self._kept_now()
-        self._edit("v7_session_withdraw", self._kept.pop)
+        self._edit("v7_session_withdraw", -1)
 
     def link(self, options: int = 0) -> Program:
         """The link of what is there."""
@@ -830,11 +822,11 @@ class Session:
 
     def link_places(self, options: int = 0) -> List[Finding]:
         """What is reported of the link, with the numbers of the objects that are there."""
-        return link_places(self._kept_now(), options, self.entry, self.forced)
+        return link_places(self._objects(), options, self.entry, self.forced)
 
     def map(self, options: int = 0) -> Map:
-        """The map of the link of what is there."""
-        return link_map(self._kept_now(), options, self.entry, self.forced)
+        """The map of what is there, with the program and what is reported: all by one link."""
+        return link_map(self._objects(), options, self.entry, self.forced)
 
     def text(self) -> str:
         """What is there, as lines: the words, the names, and what the last addition overwrote."""
@@ -844,42 +836,34 @@ class Session:
         """The same as a dict: of `objects`, `text`, `data`, `bss`, `externals`, `multiples` and `marks`, as v7(3) has them."""
         return dict(json.loads(self._shown(_JSON)))
 
-    def _kept_now(self) -> List[bytes]:
-        """The objects that are there. After an edit that an exception ended the session is made again of these."""
-        if not self._handle.is_open:
-            raise Fault(_Answer(fault=8))
-        if not self._is_sure:
-            _KEEPING.v7_session_free(ctypes.byref(self._handle))
-            self._call("v7_session_new", *_slice(_forced(self.forced)))
-            for data in self._kept:
-                self._call("v7_session_add", ctypes.c_char_p(data), _SIZE(len(data)))
-            self._is_sure = True
-        return self._kept
-
-    def _edit(self, name: str, keep: Any, *words: Any) -> None:
-        """Makes an edit, and keeps its object or not."""
-        self._is_sure = False
-        try:
-            self._call(name, *words)
-        except Fault:
-            self._is_sure = True
-            raise
-        keep()
-        self._is_sure = True
-
-    def _call(self, name: str, *words: Any) -> None:
-        answer = _Answer()
-        if getattr(_KEEPING, name)(ctypes.byref(self._handle), *words, ctypes.byref(answer)):
+    def _edit(self, name: str, more: int, *words: Any) -> None:
+        """Makes a call after which there are so many objects more."""
+        # until the library answers, the edit is not made
+        count, answer = self._count(), _Answer(fault=_NO_ROOM)
+        self._last = count, count + more, answer
+        getattr(_KEEPING, name)(ctypes.byref(self._handle), *words, ctypes.byref(answer))
+        del self._kept[self._count():]
+        if answer.fault:
             # an object has the number that it would have had
-            answer.place += len(self._kept) if 10 < answer.fault < 35 else 0
-            raise Fault(answer)
+            answer.place += count if 10 < answer.fault < 35 else 0
+            raise _fault(answer)
+
+    def _count(self) -> int:
+        """How many objects there are, even if KeyboardInterrupt ended the last edit before the library answered, or after."""
+        before, after, answer = self._last
+        return before if answer.fault else after
+
+    def _objects(self) -> List[bytes]:
+        """The objects that are there."""
+        if not self._handle.is_open:
+            raise _fault(_Answer(fault=8))
+        return self._kept[:self._count()]
 
     def _run(self, options: int, wants: int) -> _Run:
         call = functools.partial(_KEEPING.v7_session_link, ctypes.byref(self._handle))
-        return _Run((), options, self.entry, self.forced, wants, call, sum(map(len, self._kept_now())))
+        return _Run((), options, self.entry, self.forced, wants, call, sum(map(len, self._objects())))
 
     def _shown(self, form: int) -> str:
-        self._kept_now()
         state = _given("v7_session_state", ctypes.byref(self._handle), ctypes.c_uint32(form), guess=self._size, library=_KEEPING)
         self._size = len(state)
         return state.decode("latin-1")

@@ -3,12 +3,16 @@ docstrings, and beside the programs the listings, conversions and remarks of exa
 
 usage: LIBV7=build/libv7.so python3 -m tests.libv7.library
 """
+import copy
 import doctest
 import glob
 import re
+import signal
 import struct
 import typing
 import unittest
+import unittest.mock
+from concurrent.futures import ProcessPoolExecutor
 
 import v7
 from tests.lib.files import TOP, new_folder, read, read_bytes, write
@@ -21,7 +25,7 @@ OBJECT = v7.make([(0o4767, v7.NUMBER), (0o177774, v7.refers_to(0) + v7.FROM_PC),
 GNU = struct.pack("<16H", 0o407, 6, 2, 4, 16, 0, 0, 0, 0o4767, 0o177774, 0o207, 7, 0, 0o11, 0, 0) + struct.pack(
     "<2HBBH2HBBH2H", 0, 7, 0o40, 0, 0, 0, 4, 2, 0, 0, 0, 10) + b"L1\0_f\0"
 # those that the module cannot have: calls.c has them
-IN_C = {4, 7, 8, 9, 10, 36, 50, 60}
+IN_C = {4, 7, 9, 10, 36, 50, 60}
 seen = set()
 
 
@@ -175,6 +179,8 @@ class Faults(unittest.TestCase):
     def test_listings(self):
         for fault, line, column, listing in MISTAKES:
             self.assertEqual(fault_of(v7.from_listing, listing), (fault, column, line))
+            with self.assertRaisesRegex(v7.Fault, f"^{re.escape(fault)}, line {line}, column {column}$"):
+                v7.from_listing(listing)
 
     def test_conversions(self):
         for fault, word, place, options, data in CONVERTED:
@@ -199,17 +205,42 @@ class Faults(unittest.TestCase):
             self.assertEqual(fault_of(lambda: v7.Session(objects).link(options)), (fault, 0, place))
 
     def test_sessions(self):
-        """A refused edit changes nothing, and nothing of what was withdrawn is kept."""
+        """A refused edit changes nothing, nothing of what was withdrawn is kept, and a session that is closed does nothing."""
         session = v7.Session([OBJECT])
         self.assertEqual(fault_of(session.add, OBJECT[:-1]), ("truncated", 0, 1))
         self.assertEqual(fault_of(session.add, v7.strip(OBJECT)), ("no relocation", 0, 1))
         self.assertEqual(session.link(), v7.link([OBJECT]))
+        found = session.map()
+        self.assertEqual((found.program, found.findings), (session.link(), session.link_places()))
         for _ in range(100):
             session.add(OBJECT)
             session.withdraw()
         session.withdraw()
         self.assertEqual(fault_of(session.withdraw), ("nothing to withdraw", 0, 0))
         self.assertEqual((session.link(), session._kept, session.state()["objects"]), (v7.link([]), [], 0))
+        session.close()
+        for call in session.withdraw, session.link, session.link_places, session.map, session.text, lambda: session.add(OBJECT):
+            self.assertEqual(fault_of(call), ("no session", 0, 0))
+
+    def test_interrupts(self):
+        """Edits that Ctrl-C ends before the library makes them, or after that: the module knows which."""
+        for is_made in (False, True):
+            session = v7.Session([OBJECT])
+            for name, *words in ("add", OBJECT), ("add", v7.make([WORD])), ("withdraw",):
+                call = getattr(v7._KEEPING, f"v7_session_{name}")
+                cut = lambda *given: (is_made and call(*given), signal.raise_signal(signal.SIGINT))
+                with unittest.mock.patch.object(v7._KEEPING, call.__name__, cut), self.assertRaises(KeyboardInterrupt):
+                    getattr(session, name)(*words)
+            self.assertEqual((session.map().program, len(session.map().objects)), (session.link(), 1 + is_made))
+
+    def test_copies(self):
+        """A fault that comes from another process, or is copied, is the same."""
+        with ProcessPoolExecutor(1) as pool:
+            for text, call, data in (("short header, object 0", v7.check, b""), ("short header, byte 5", v7.from_gnu, b"short"),
+                                     ("unknown word, line 1, column 1", v7.from_listing, "x")):
+                fault = pool.submit(call, data).exception()
+                for again in fault, copy.copy(fault), copy.deepcopy(fault):
+                    self.assertEqual((str(again), vars(again)), (text, vars(fault)))
 
     @classmethod
     def tearDownClass(cls):

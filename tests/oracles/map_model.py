@@ -5,7 +5,7 @@ import itertools
 import re
 
 from tests.lib.programs import v7
-from tests.oracles import disassembly, model
+from tests.oracles import agree, disassembly, model
 
 
 @functools.cache
@@ -193,12 +193,13 @@ class Mapped:
         link = laid and laid.link
         if not link:
             segments = laid.segments(self.merged.sizes) if laid else (0,) * 5
-            self.found = v7.Map(1, laid.fault if laid else fault, refused_at, segments, 0, 0, None, *known, None)
+            self.found = v7.Map(1, laid.fault if laid else fault, refused_at, segments, 0, 0, None, *known, None, [])
             return
         entry = text(link.entry) if link.entry is not None and not link.has_entry else None
         status, report = 1 if link.report else 0, "".join(line.decode("latin-1") + "\n" for line in link.report)
         program = v7.Program(status, model.write_file(link.file), report)
-        self.found = v7.Map(status, 0, 0, laid.segments(self.merged.sizes), link.magic, link.file.entry, entry, *known, program)
+        self.found = v7.Map(status, 0, 0, laid.segments(self.merged.sizes), link.magic, link.file.entry, entry, *known, program,
+                            agree.placed(self.merged, link))
 
     # the text
 
