@@ -6,8 +6,9 @@ usage: python3 -m tests.wrong_bodies.wrong_bodies [-j N] [-m M] [CRATE ..]   tri
                                                  first those tried longest ago; of must-fail/ only what the gate has not tried since
 
 tests/wrong_bodies/wrong-bodies.seen has a line for each crate, the one that was tried last at the end: its digest, or `-` until all of its
-edits are refused, and the seconds of its longest copy. No copy begins that would take longer than what is left of M minutes, or of the
-time that `make check` has; what has not ended then is stopped. What is left is named. With -c this is no fault.
+edits are refused, and the seconds of its longest copy where `rt check` had left nothing. No copy begins that would by these take longer
+than what is left of M minutes, or of the time that `make check` has; what has not ended then is stopped. What is left is named. With -c
+this is no fault.
 
 A wrong body is an edit in must-fail/ or in the file wrong-bodies of a crate: tests/wrong_bodies/edits.py has its form. A copy has at
 most one edit for each function. It is checked once, by the kit's `rattle`, with the libraries below it as `rt lib` proves them, or as
@@ -287,7 +288,7 @@ class Trial:
         self.kept = None
         self.edits = [it for it in found if only is None or {crate.name, f"{crate.name}/{it.name}"} & only]
         self.results, self.apart, self.copies = {}, set(), 0
-        # of the longest copy: what the last one took, and then what one takes
+        # what the next copy may take, and what the longest one took
         self.expected, self.seconds = noted().get(crate.name, NEVER).seconds or crate.functions() * prove.SECONDS_EACH, 0
 
     def left(self):
@@ -314,11 +315,14 @@ class Trial:
             for path, text in texts.items():
                 write(f"{copy}/{path}", text)
             begun = time.monotonic()
+            if begun + self.expected > self.until:
+                raise subprocess.TimeoutExpired("a copy", 0)
             try:
                 done = run(self.kit.checking(self.crate, *only * (len(only) == len(edited)), kept=kept, jobs=1), copy, self.until)
             finally:
                 # one that was stopped takes longer still, so it does not begin again with so little time
-                self.copies, self.seconds = self.copies + 1, max(self.seconds, math.ceil(time.monotonic() - begun))
+                self.copies, self.expected = self.copies + 1, math.ceil(time.monotonic() - begun)
+                self.seconds = max(self.seconds, self.expected if kept is self.kept else 0)
         return Answer(self.crate.name, done.returncode, done.stdout)
 
     def end(self, edit, fault, line=""):
@@ -352,7 +356,7 @@ class Trial:
         waiting = sorted((it for it in self.edits if not it.misfit), key=lambda it: it.alone)
         late = contextlib.suppress(subprocess.TimeoutExpired)
         with tempfile.TemporaryDirectory(prefix="wrong-bodies-") as self.kept, late:
-            while waiting and time.monotonic() + (self.seconds or self.expected) < self.until:
+            while waiting:
                 chosen, texts = self.next_copy(waiting)
                 answer = self.check(texts, edited=chosen)
                 print(f"{self.crate.name}: copy {self.copies}, {len(chosen)} edits", flush=True)
