@@ -14,6 +14,7 @@ by which the prover ends, and NAME.o what a program is linked from: a release is
 While it works it prints a line for each crate, and at least one every ten seconds.
 """
 import hashlib
+import math
 import os
 import re
 import shutil
@@ -21,6 +22,7 @@ import subprocess
 import sys
 import tarfile
 import tempfile
+import time
 from concurrent.futures import ThreadPoolExecutor, wait
 
 from tests.lib.files import TOP, read, write
@@ -116,11 +118,16 @@ class Kit:
         return [[self.rattle, "build", *words], *[linking] * crate.is_program]
 
 
-class Proving:
-    """What is proved of crates, lowest first. The last one is built into a file, if a file is given."""
+def left(until):
+    """The seconds up to a time of `time.monotonic`, as a limit."""
+    return None if until == math.inf else max(0, until - time.monotonic())
 
-    def __init__(self, crates, kit, file=None):
-        self.crates, self.kit, self.file = crates, kit, file
+
+class Proving:
+    """What is proved of crates, lowest first, up to a time. The last one is built into a file, if a file is given."""
+
+    def __init__(self, crates, kit, file=None, until=math.inf):
+        self.crates, self.kit, self.file, self.until = crates, kit, file, until
         self.top = crates[-1] if file else None
         self.lanes, self.busy = {}, []
 
@@ -146,7 +153,7 @@ class Proving:
         """Runs commands in the folder of a crate, and returns the line of the verdict."""
         said = ""
         for words in commands:
-            done = ran(*words, cwd=f"crates/{crate.name}")
+            done = ran(*words, cwd=f"crates/{crate.name}", seconds=left(self.until))
             said += done.said()
             if done.status:
                 raise Failed(said)

@@ -11,9 +11,9 @@ than what is left of M minutes, or of the time that `make check` has; what has n
 this is no fault.
 
 A wrong body is an edit in must-fail/ or in the file wrong-bodies of a crate: tests/wrong_bodies/edits.py has its form. A copy has at
-most one edit for each function. It is checked once, by the kit's `rattle`, with the libraries below it as `rt lib` proves them, or as
-the gate left them, and over what `rt check` of the crate left, or else its earlier copies. For each edit, the script then reads whether
-the prover refuses the function itself. If it only says that the function calls another one that is not proved, the edit goes into a
+most one edit for each function. It is checked once, by the kit's `rattle`, with the libraries below it as `make` or the gate left them, or
+else as they are proved first, and over what `rt check` of the crate left, or else its earlier copies. For each edit, the script then reads
+whether the prover refuses the function itself. If it only says that the function calls another one that is not proved, the edit goes into a
 later copy without the edits of that one. An edit outside of functions, as of a constant or a definition, has a copy for itself.
 
 It is an error if an edit does not fit its crate, if the prover cannot read the text that it makes, if its function is proved, or if the
@@ -275,7 +275,7 @@ def check_itself():
 def run(words, folder, until):
     """Runs a command in a folder up to a time, with both outputs as one text, in the order of their lines."""
     how = {"stdin": subprocess.DEVNULL, "stdout": subprocess.PIPE, "stderr": subprocess.STDOUT, "errors": "replace"}
-    return subprocess.run(words, cwd=folder, check=False, timeout=None if until == math.inf else max(0, until - time.monotonic()), **how)
+    return subprocess.run(words, cwd=folder, check=False, timeout=prove.left(until), **how)
 
 
 class Trial:
@@ -411,17 +411,6 @@ class Trial:
             self.end(edit, "refused only for its shape: change a value, and keep the names", line)
 
 
-def has_libraries(crates, place, until):
-    """Has `rt lib` prove libraries, lowest first, unless they are proved, and links them in a folder. Whether all are proved."""
-    for crate in crates:
-        done = run(["rt", "lib"], f"crates/{crate.name}", until)
-        if done.returncode:
-            print(done.stdout)
-            return False
-        os.symlink(os.path.abspath(f"crates/{crate.name}/out/rlib/{crate.name}.rlib"), f"{place}/{crate.name}.rlib")
-    return True
-
-
 def digest(crate):
     """The digest of the code and the definitions of a crate, without comments, and of its edits."""
     whole = hashlib.sha256()
@@ -490,7 +479,7 @@ def try_edits(names, jobs, only, until, at_once):
         slots = threading.Semaphore(jobs)
         trials = {name: Trial(crates[name], kit, slots, only, until) for name in names}
         with contextlib.suppress(subprocess.TimeoutExpired):
-            if not has_libraries([it for it in crates.values() if it in needed], place, until):
+            if prove.Proving([it for it in crates.values() if it in needed], kit, until=until).whole():
                 sys.exit("a library is not proved")
             with ThreadPoolExecutor(at_once) as pool:
                 list(pool.map(Trial.run, trials.values()))
