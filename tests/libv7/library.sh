@@ -120,8 +120,15 @@ compile() {
     $CC -std=c99 -O2 -Wall -Wextra -Werror -o "$made" $compiles "$@" || exit 1
 }
 
-compile calls "$top/tests/libv7/c/calls.c" -Wl,--wrap=malloc -Wl,--wrap=realloc -Wl,--wrap=free "$archive"
+wrapped='-Wl,--wrap=malloc -Wl,--wrap=realloc -Wl,--wrap=free'
+compile calls "$top/tests/libv7/c/calls.c" $wrapped "$archive"
 checks C "each call" ./calls
+# a compiler may leave out a read that the source has, so the calls are made of what is compiled at -O0 too, without proof
+if has rt; then
+    (cd "$top" && python3 -c 'import sys, tools.sketch; tools.sketch.make(*sys.argv[1:])' "$top" v7_c "$work/plain.a" -O0) || exit 1
+    compile calls "$top/tests/libv7/c/calls.c" $wrapped -Wl,--whole-archive plain.a -Wl,--no-whole-archive "$(dirname "$(rt doc)")/c/liblibc_c.a"
+    checks "C at -O0" "each call" ./calls
+fi
 compile stack "$top/tests/libv7/c/stack.c" -pthread "$archive"
 ./stack >stack.txt && echo "32,768 bytes of stack: $(cat stack.txt)" || fail "a call needs more than that of stack: $(cat stack.txt)"
 # the program of v7(3) lists what v7 nm lists, and refuses what is not a file
