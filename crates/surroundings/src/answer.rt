@@ -7,7 +7,7 @@ ghost use Rattle.surroundings.specs.{Programs.AnswersStored, Sources.is_kept};
 
 use crate::office::{Stored, stored_text};
 use crate::outputs::Outputs;
-use crate::reasons::Reason;
+use crate::paths::Path;
 use aout_core::{DeviceFault, Refused, Wire};
 use std::alloc::{AllocError, AllocFailed, Global};
 use std::fmt::Display;
@@ -75,7 +75,7 @@ pub fn fault_at<D: Display + Drop>(alloc: Global, program: &str, path: &str, tex
     ensures { Stops true 2 result }
 {
     let mut line = Text::new(alloc);
-    line.say(format_args!("{program}: {path}: {text}\n"));
+    line.say(format_args!("{program}: {}: {text}\n", Path(path)));
     match error_answer(alloc, line, 2) {
         Ok(answer) => Fault::Answered(answer),
         Err(error) => Fault::from(error),
@@ -83,11 +83,11 @@ pub fn fault_at<D: Display + Drop>(alloc: Global, program: &str, path: &str, tex
 }
 
 /// The answer to arguments that are refused: how the program is called, and why they are refused. (own choice)
-pub fn refused_answer(
+pub fn refused_answer<D: Display + Drop>(
     alloc: Global,
     program: &str,
     usage: &str,
-    reason: Reason,
+    reason: D,
 ) -> Result<Answer, AllocError>
     ensures { IfOk result (λ a. Ends 2 a) }
 {

@@ -1,11 +1,10 @@
 //! The arguments of the program.
-ghost use Rattle.std.specs.{Prelude.{◌≡◌, IsUtf8, drop, string_bytes, IfOk}, Option.option_map, Vec.Iter.into_iter_items};
+ghost use Rattle.std.specs.{Prelude.{◌≡◌, drop, IfOk}, Option.option_map, Vec.Iter.into_iter_items};
 ghost use Rattle.surroundings.specs.Arguments.{letters_of};
 
 use std::alloc::{AllocError, Global};
 use std::env::{Args, Env, FillError};
-use std::io;
-use texts::Text;
+use texts::Printable;
 
 /// All that an iterator still gives, in order.
 fn gathered(alloc: Global, rest: Args) -> Result<Vec<String>, AllocError>
@@ -48,38 +47,27 @@ fn argument<R: Env>(alloc: Global, rt: &R, number: usize) -> Result<Option<Vec<u
     }
 }
 
-/// Bytes as a text: as they are if they are UTF-8, and else each that does not print as a backslash and three octal digits. (own choice)
+/// The arguments of a program after its name, in order. One that is not UTF-8 cannot be opened as a path, and shown in another way it
+/// would name another file, so the first such one is the reason why all are refused. No contract can say what a system gives, so these
+/// lines are to be read. (own choice)
 ///
 /// Errors: `AllocError` if memory runs out.
-pub fn readable(alloc: Global, bytes: Vec<u8>) -> Result<String, AllocError>
-    ensures { IsUtf8 bytes.items → IfOk result (λ text. string_bytes text ≡ bytes.items) }
-{
-    match String::from_utf8(bytes) {
-        Ok(text) => Ok(text),
-        Err(error) => {
-            let mut shown = Text::new(alloc);
-            shown.put_printable_bytes(&error.into_bytes());
-            String::from_utf8_lossy(alloc, &shown.finish()?)
-        }
-    }
-}
-
-/// The arguments of a program after its name, in order. One that is not UTF-8 cannot be opened as a path, and shown in another way it
-/// would name another file, so it is refused. No contract can say what a system gives, so these lines are to be read. (own choice)
-///
-/// Errors: `InvalidData` for such an argument, and that of a refused request if memory runs out.
-pub fn readable_words<R: Env>(alloc: Global, rt: &R) -> io::Result<Vec<String>> {
+pub fn readable_words<R: Env>(
+    alloc: Global,
+    rt: &R,
+) -> Result<Result<Vec<String>, String>, AllocError> {
     let mut words = Vec::new(alloc);
     for number in 1..usize::MAX {
-        match argument(alloc, rt, number)? {
-            Some(bytes) => match String::from_utf8(bytes) {
-                Ok(text) => words.push(text)?,
-                Err(_) => return Err(io::Error::from(io::ErrorKind::InvalidData)),
-            },
+        match argument(alloc, rt, number)?.map(String::from_utf8) {
+            Some(Ok(text)) => words.push(text)?,
+            Some(Err(error)) => {
+                let bytes = error.into_bytes();
+                return Ok(Err(format!(in alloc; "{}: not UTF-8", Printable(&bytes))?));
+            }
             None => break,
         }
     }
-    Ok(words)
+    Ok(Ok(words))
 }
 
 /// The letters of an option, which is an argument that begins with a hyphen. (own choice)

@@ -18,16 +18,14 @@ pub fn hold_streams(rt: &HostRuntime) -> io::Result<Vec<File>> {
     Ok(held)
 }
 
-/// The status of a program that ended, or that could not begin: then a line says why on standard error. Arguments that are not UTF-8
-/// are refused with how the program is called. (own choice)
-pub fn end(rt: &HostRuntime, program: &str, usage: &str, ended: io::Result<u8>) -> u8 {
+/// The status of a program that ended, or that could not begin: then a line says why on standard error. (own choice)
+pub fn end(rt: &HostRuntime, program: &str, ended: io::Result<u8>) -> u8 {
     let error = match ended {
         Ok(status) => return status,
         Err(error) => error,
     };
     let _ = match Refused::reported_by(&error) {
         Some(refused) => eprintln!(rt; "{program}: {refused}"),
-        None if error.kind() == io::ErrorKind::InvalidData => rt.eprint(usage),
         None => eprintln!(rt; "{program}: /: {}", FileFault::NotOpened),
     };
     2

@@ -7,13 +7,13 @@
 //! - `Outputs`, `StandardError`: where a program writes
 //! - `Answer`, `Fault`: what a program writes at its end with its status, and why it does not go on
 //! - `Given`, `Reason`: what the arguments give, and why they are refused
+//! - `Path`: a path as it is shown
 //! - `Shown`, `VERSION`: what a program shows of itself, and the version of v7
-//! - `Node`, `Nodes`: a file of the system; those to which the paths of an input and of its output lead
+//! - `Node`, `Found`, `Nodes`: a file of the system; what a path leads to, and what those of an input and of its output lead to
 //!
 //! Functions:
 //!
-//! - `words`, `readable_words`: the arguments of a program, which are UTF-8, or may be any bytes
-//! - `readable`: bytes as a text that can be shown
+//! - `words`, `readable_words`: the arguments of a program; with one that is not UTF-8 the second gives the reason to refuse it
 //! - `special_at`: whether a path is that of a device, a FIFO or a socket
 //! - `given_in`: the letters of options in the arguments, their values, and paths; or why the arguments are refused
 //! - `hold_streams`: keeps files from the descriptors of closed standard streams
@@ -39,6 +39,7 @@ mod held;
 mod nodes;
 mod office;
 mod outputs;
+mod paths;
 mod pieces;
 mod reasons;
 mod shown;
@@ -46,7 +47,7 @@ mod sources;
 mod standard_error;
 
 pub use answer::{Answer, Fault, answer_stored, error_answer, fault_at, give, refused_answer};
-pub use arguments::{readable, readable_words, words};
+pub use arguments::{readable_words, words};
 pub use disk::{Disk, special_at, store_on, store_text_on};
 pub use given::{Given, given_in};
 pub use held::{end, hold_streams};

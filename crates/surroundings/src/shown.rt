@@ -4,10 +4,10 @@ ghost use Rattle.surroundings.specs.Answers.{shown_by, shown_in};
 
 use crate::answer::{Answer, Fault, give, refused_answer};
 use crate::outputs::Outputs;
-use crate::reasons::Reason;
 use crate::standard_error::StandardError;
 use aout_core::Wire;
 use std::alloc::{AllocError, AllocGlobal, Global};
+use std::fmt::Display;
 use std::io::{self, Printer};
 use std::rt::Runtime;
 use texts::Text;
@@ -88,7 +88,12 @@ pub fn show<H: Runtime + AllocGlobal>(rt: &H, program: &str, help: &str, shown: 
 }
 
 /// Says on standard error how a program is called, and why its arguments are refused, and returns its status: 2. (own choice)
-pub fn refuse<H: Runtime + AllocGlobal>(rt: &H, program: &str, usage: &str, reason: Reason) -> u8
+pub fn refuse<H: Runtime + AllocGlobal, D: Display + Drop>(
+    rt: &H,
+    program: &str,
+    usage: &str,
+    reason: D,
+) -> u8
     ensures { result ≡ 2 }
 {
     let answer = refused_answer(rt.alloc(), program, usage, reason).map_err(Fault::from);

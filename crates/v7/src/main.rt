@@ -13,7 +13,18 @@ use v7tools::{command, words};
 /// The status of the command. The streams are held until it has ended. More is written only if standard error is a terminal.
 fn run(rt: &HostRuntime) -> io::Result<u8> {
     let _held = hold_streams(rt)?;
-    let words = words(rt.alloc(), env::args(rt)?)?;
+    let arguments = match env::args(rt) {
+        Err(error) if error.kind() == io::ErrorKind::InvalidData => {
+            let _ = rt.eprint(if rt.stderr().is_terminal() {
+                USAGE_AT_TERMINAL
+            } else {
+                USAGE
+            });
+            return Ok(2);
+        }
+        arguments => arguments?,
+    };
+    let words = words(rt.alloc(), arguments)?;
     if rt.stderr().is_terminal() {
         return Ok(command_at_terminal(rt, rt.stdin().is_terminal(), words));
     }
@@ -27,10 +38,5 @@ const USAGE_AT_TERMINAL: &str =
     "v7: usage\nan argument is not UTF-8\nv7 --help lists the commands\n";
 
 fn main(rt: HostRuntime) -> ExitCode {
-    let usage = if rt.stderr().is_terminal() {
-        USAGE_AT_TERMINAL
-    } else {
-        USAGE
-    };
-    ExitCode::from(end(&rt, "v7", usage, run(&rt)))
+    ExitCode::from(end(&rt, "v7", run(&rt)))
 }

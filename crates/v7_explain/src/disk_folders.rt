@@ -8,7 +8,8 @@ use std::fs;
 use std::io::{self, BufRead, BufReader};
 use std::os::unix::fs::FileTypeExt;
 use std::rt::{Files, Runtime};
-use surroundings::{readable, special_at};
+use surroundings::special_at;
+use texts::Printable;
 
 /// The folders of a runtime.
 #[derive(Drop)]
@@ -36,12 +37,14 @@ fn take<H: Files>(
     if name.as_slice() == b".".as_slice() || name.as_slice() == b"..".as_slice() {
         return Ok(());
     }
-    let is_named = str::from_utf8(&name).is_ok();
-    let name = readable(alloc, name)?;
-    if !is_named {
-        folder.unnamed.push(name)?;
-        return Ok(());
-    }
+    let name = match String::from_utf8(name) {
+        Ok(name) => name,
+        Err(error) => {
+            let shown = format!(in alloc; "{}", Printable(&error.into_bytes()))?;
+            folder.unnamed.push(shown)?;
+            return Ok(());
+        }
+    };
     match fs::symlink_metadata(rt, path_in(alloc, path, name.as_str())?.as_str()) {
         Ok(about) if about.is_symlink() => {}
         _ => folder.names.push(name)?,

@@ -7,7 +7,7 @@ use aout_core::{File, FileFault, ReadFault, object_fault};
 use checks::{wrong_bytes, wrong_in};
 use explanations::{FileKind, InventoryRow, file_row, plain_row, put_inventory_row, refused_row};
 use std::alloc::{AllocError, Global};
-use surroundings::Answer;
+use surroundings::{Answer, Path};
 use texts::Text;
 
 /// The line for a path. Its status is 0, whatever the file is.
@@ -19,7 +19,8 @@ pub(crate) fn row_answer(
     ensures { IfOk result (λ answer. IsShown 0 answer) }
 {
     let mut text = Text::new(alloc);
-    put_inventory_row(&mut text, row, path);
+    let path = format!(in alloc; "{}", Path(path))?;
+    put_inventory_row(&mut text, row, path.as_str());
     Ok(Answer {
         output: text.finish()?,
         errors: Vec::new(alloc),

@@ -5,6 +5,7 @@ use aout_core::Header;
 use link_maps::{LimitRecord, LinkMap, Listed, Places, limits_of};
 use link_out::Options;
 use std::alloc::AllocError;
+use surroundings::Path;
 use texts::{Printable, Text};
 
 /// How many of the largest objects are shown.
@@ -25,7 +26,7 @@ pub(crate) fn put_head(text: &mut Text, mapped: &Mapped<'_>) {
             .first()
             .map_or("", |first| first.label.as_str());
         let why = refused.cause.text();
-        text.say(format_args!("refused, {why} at\n  {path}\n"));
+        text.say(format_args!("refused, {why} at\n  {}\n", Path(path)));
         text.put("  (addresses below count from 0 in each segment)\n");
     } else if let Some(Err(fault)) = mapped.map.outcome.as_ref().map(|outcome| &outcome.linked) {
         text.say(format_args!("refused, {}\n", fault.text()));
@@ -92,7 +93,7 @@ fn put_largest(text: &mut Text, all: &[Listed<'_>]) -> Result<(), AllocError> {
         let (header, count) = (object.file.header(), object.file.symbols().len());
         let (words, data, bss) = (header.text_size, header.data_size, header.bss_size);
         text.say(format_args!("  {words:>7}{data:>8}{bss:>8}"));
-        text.say(format_args!("{:>8}{count:>9}  {}\n", *bytes, object.label));
+        text.say(format_args!("{:>8}{count:>9}  {}\n", *bytes, Path(object.label)));
     }
     Ok(())
 }
@@ -126,7 +127,7 @@ fn put_member(text: &mut Text, object: &Listed<'_>, at: &Places) {
     } else {
         "  "
     });
-    text.say(format_args!("{}\n", object.label));
+    text.say(format_args!("{}\n", Path(object.label)));
 }
 
 /// Adds the objects.

@@ -9,6 +9,7 @@ use disassemblies::NamedFile;
 use link_maps::{LinkMap, Listed, Objects, Use};
 use link_out::Options;
 use std::alloc::{AllocError, Global};
+use surroundings::Path;
 use texts::Text;
 
 /// A map, its objects, and what is asked of it; nothing for the whole map.
@@ -53,10 +54,10 @@ impl<'a> Mapped<'a> {
     }
 
     /// The path of an object; empty for a forced name.
-    pub(crate) fn path(&self, object: Option<usize>) -> &'a str {
+    pub(crate) fn path(&self, object: Option<usize>) -> Path<'a> {
         match self.all.get(object.unwrap_or(usize::MAX)) {
-            Some(listed) => listed.label,
-            None => "",
+            Some(listed) => Path(listed.label),
+            None => Path(""),
         }
     }
 

@@ -13,7 +13,7 @@ use disassemblies::Sweep;
 use explanations::{put_lines, write_remains};
 use std::alloc::{AllocError, Global};
 use std::fmt::Display;
-use surroundings::Answer;
+use surroundings::{Answer, Path};
 use texts::Text;
 
 /// That a file is in the form of GNU's assembler.
@@ -50,11 +50,11 @@ pub(crate) fn likeness_of(bytes: &[u8], fault: ReadFault) -> Option<&'static str
 
 /// Puts the program and a path.
 pub(crate) fn put_front(lines: &mut Text, path: &str) {
-    lines.say(format_args!("{NAME}: {path}: "));
+    lines.say(format_args!("{NAME}: {}: ", Path(path)));
 }
 
 pub(crate) fn put_text_line<D: Display + Drop>(lines: &mut Text, path: &str, text: D) {
-    lines.say(format_args!("{NAME}: {path}: {text}\n"));
+    lines.say(format_args!("{NAME}: {}: {text}\n", Path(path)));
 }
 
 /// Puts findings as lines for standard error.
@@ -162,7 +162,7 @@ pub(crate) fn put_odd(notes: &mut Notes, odd: &[Finding]) {
 
 /// A note with the path and the size.
 fn title(alloc: Global, source: Source<'_>) -> Notes {
-    let (path, size) = (source.path, source.bytes.len());
+    let (path, size) = (Path(source.path), source.bytes.len());
     let mut notes = Notes::new(alloc);
     notes.say(format_args!("{path}: 0{size:o} ({size}) bytes"));
     notes

@@ -11,7 +11,7 @@ use crate::program::NAME;
 use gnu_objects::clash_among;
 use std::alloc::{AllocError, Global};
 use surroundings::{
-    Fault, Nodes, Office, error_answer, fault_at, is_input, nodes_at, output_is_input,
+    Fault, Nodes, Office, Path, error_answer, fault_at, is_input, nodes_at, output_is_input,
 };
 use texts::{Printable, Text};
 
@@ -100,10 +100,10 @@ fn bytes_of(alloc: Global, targets: &[Target]) -> Result<Vec<&[u8]>, AllocError>
     Ok(all)
 }
 
-fn path_of(targets: &[Target], number: usize) -> &str {
+fn path_of(targets: &[Target], number: usize) -> Path<'_> {
     targets
         .get(number)
-        .map_or("", |target| target.source.from.as_str())
+        .map_or(Path(""), |target| Path(target.source.from.as_str()))
 }
 
 /// Checks the names of files that are converted together: no two externals would become one.

@@ -4,6 +4,7 @@ use crate::program::NAME;
 use crate::reading::Source;
 use gnu_objects::{Locals, Refusal, Remark, place_of, remarks, whole_name};
 use std::alloc::{AllocError, Global};
+use surroundings::Path;
 use texts::{Printable, Text};
 
 /// The whole name of a symbol of a file.
@@ -13,7 +14,7 @@ fn name_in(file: &Source, n: u16) -> Printable<'_> {
 
 /// Puts the line of a file that is refused, and the whole names of the symbols that it is refused for.
 pub(crate) fn put_refusal(line: &mut Text, file: &Source, refusal: Refusal) {
-    let path = file.from.as_str();
+    let path = Path(file.from.as_str());
     let place = place_of(&file.bytes, refusal);
     line.say(format_args!("{NAME}: {path}: byte 0{place:o} ({place}): {refusal}"));
     match refusal {
@@ -30,7 +31,7 @@ pub(crate) fn put_refusal(line: &mut Text, file: &Source, refusal: Refusal) {
 }
 
 /// Puts the lines of names that are cut, and of locals that are dropped for their names.
-fn put_remarks(text: &mut Text, path: &str, remarks: &[Remark<'_>]) {
+fn put_remarks(text: &mut Text, path: Path<'_>, remarks: &[Remark<'_>]) {
     for remark in remarks {
         match *remark {
             Remark::Cut(name) => {
@@ -58,7 +59,7 @@ pub(crate) fn all_remarks(
         for target in targets {
             let source = &target.source;
             match remarks(alloc, &source.bytes, locals) {
-                Ok(remarks) => put_remarks(&mut text, source.from.as_str(), &remarks),
+                Ok(remarks) => put_remarks(&mut text, Path(source.from.as_str()), &remarks),
                 Err(Refusal::Memory(refused)) => return Err(AllocError::from(refused)),
                 Err(_) => {}
             }

@@ -8,7 +8,7 @@ use crate::lines::all_remarks;
 use crate::program::NAME;
 use gnu_objects::Locals;
 use std::alloc::{AllocError, Global};
-use surroundings::{Answer, Fault, Office, error_answer, stored_text};
+use surroundings::{Answer, Fault, Office, Path, error_answer, stored_text};
 use texts::Text;
 
 /// The answer with what is reported of names.
@@ -26,7 +26,7 @@ fn not_stored(alloc: Global, remarks: &[u8], path: &str, why: &str) -> Result<An
 {
     let mut text = Text::new(alloc);
     text.put_bytes(remarks);
-    text.say(format_args!("{NAME}: {path}: {why}\n"));
+    text.say(format_args!("{NAME}: {}: {why}\n", Path(path)));
     Ok(error_answer(alloc, text, 2)?)
 }
 

@@ -27,13 +27,16 @@ use help::{HELP, USAGE};
 use page::write_page;
 use std::process::ExitCode;
 use steps::play;
-use surroundings::{given_in, readable_words, refuse, show, shown_in};
+use surroundings::{Path, given_in, readable_words, refuse, show, shown_in};
 
 const NAME: &str = "v7-lesson";
 
 /// Does what the arguments ask for, and returns the status.
 fn run(rt: &HostRuntime) -> Result<u8> {
-    let words = readable_words(rt.alloc(), rt)?;
+    let words = match readable_words(rt.alloc(), rt)? {
+        Ok(words) => words,
+        Err(reason) => return Ok(refuse(rt, NAME, USAGE, reason)),
+    };
     if let Some(shown) = shown_in(&words) {
         return Ok(show(rt, NAME, HELP, shown));
     }
@@ -56,14 +59,14 @@ fn run(rt: &HostRuntime) -> Result<u8> {
     Ok(0)
 }
 
-/// The end of the line of a refused request for memory. `anyhow` keeps no more of an error than its text.
-const REFUSED: &str = "memory allocation failed\n";
+/// The end of the text of a refused request for memory. `anyhow` keeps no more of an error than its text.
+const REFUSED: &str = "memory allocation failed";
 
-/// Reports an error, and returns the status for it.
+/// Reports an error, which may have a path, and returns the status for it.
 fn fail(rt: &HostRuntime, error: &Error) -> u8 {
-    match format!(in rt.alloc(); "{NAME}: {error}\n") {
+    match format!(in rt.alloc(); "{error}") {
         Ok(text) if !text.as_str().ends_with(REFUSED) => {
-            let _ = rt.eprint(text.as_str());
+            let _ = eprintln!(rt; "{NAME}: {}", Path(text.as_str()));
         }
         _ => {
             let _ = eprintln!(rt; "{NAME}: no memory");

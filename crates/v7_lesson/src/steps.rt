@@ -3,6 +3,7 @@ use crate::files::{bytes_at, put_out};
 use crate::stage::{ROW_KINDS, Row, Stage, put_marks};
 use anyhow::{Result, ensure};
 use std::alloc::{AllocError, Global};
+use surroundings::Path;
 use texts::Text;
 
 /// Which steps are shown: all, or the one of this number, from 1; and whether of a step only its changes are.
@@ -83,7 +84,7 @@ impl Steps {
             return Ok(());
         }
         let mut text = Text::new(rt.alloc());
-        text.say(format_args!("{edit} {path}\n"));
+        text.say(format_args!("{edit} {}\n", Path(path)));
         if self.shown.only_changes {
             self.put_changes(&mut text)?;
         } else {

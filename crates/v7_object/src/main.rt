@@ -9,15 +9,17 @@ use help::USAGE;
 use program::{NAME, perform};
 use std::io;
 use std::process::ExitCode;
-use surroundings::{Disk, end, hold_streams, outputs_of, readable_words};
+use surroundings::{Disk, end, hold_streams, outputs_of, readable_words, refuse};
 
 /// The status of the program. The streams are held until it has ended.
 fn run(rt: &HostRuntime) -> io::Result<u8> {
     let _held = hold_streams(rt)?;
-    let words = readable_words(rt.alloc(), rt)?;
-    Ok(perform(rt.alloc(), &mut Disk::new(rt), &mut outputs_of(rt), &words))
+    Ok(match readable_words(rt.alloc(), rt)? {
+        Ok(words) => perform(rt.alloc(), &mut Disk::new(rt), &mut outputs_of(rt), &words),
+        Err(reason) => refuse(rt, NAME, USAGE, reason),
+    })
 }
 
 fn main(rt: HostRuntime) -> ExitCode {
-    ExitCode::from(end(&rt, NAME, USAGE, run(&rt)))
+    ExitCode::from(end(&rt, NAME, run(&rt)))
 }

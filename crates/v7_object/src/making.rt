@@ -7,7 +7,9 @@ use crate::program::NAME;
 use aout_core::File;
 use listings::{Addresses, ListingFault, Mistakes, Reason, read_listing, says_something};
 use std::alloc::{AllocError, Global};
-use surroundings::{Answer, Fault, Office, answer_stored, check_output, error_answer, read_whole};
+use surroundings::{
+    Answer, Fault, Office, Path, answer_stored, check_output, error_answer, read_whole,
+};
 use texts::Text;
 
 /// The most bytes of a listing that is read: 250 for each word of the largest file. (own choice)
@@ -19,6 +21,7 @@ fn put_mistake(lines: &mut Text, path: &str, mistake: listings::Fault) {
         column,
         reason,
     } = mistake;
+    let path = Path(path);
     lines.say(format_args!("{NAME}: {path}: line {line}, column {column}: {reason}\n"));
 }
 
@@ -27,7 +30,7 @@ fn silent_listing(alloc: Global, path: &str) -> Result<Answer, AllocError>
     ensures { IfOk result (Ends 1) }
 {
     let mut line = Text::new(alloc);
-    line.say(format_args!("{NAME}: {path}: no line but remarks\n"));
+    line.say(format_args!("{NAME}: {}: no line but remarks\n", Path(path)));
     error_answer(alloc, line, 1)
 }
 
