@@ -146,7 +146,7 @@ def request(word):
 
 
 KINDS = {"FILE": path, "FROM": path, "N": number, "N..": number_on, "BYTE": number, "HH": some_bytes, "REQUEST": request,
-         **dict.fromkeys(("NAME", "PREFIX", "EDIT"), bytes)}
+         **dict.fromkeys(("NAME", "PATH", "PREFIX", "EDIT"), bytes)}
 FORMS = {
     "use": ["FILE .."],
     "object": ["FILE"],
@@ -160,7 +160,7 @@ FORMS = {
     "same": ["FILE FROM"],
     "unchanged": ["FILE .."],
     "absent": ["FILE .."],
-    "refuse": ["REQUEST FILE", "write more FILE", "memory N", "memory N.."],
+    "refuse": ["REQUEST PATH", "write more FILE", "memory N", "memory N.."],
     "fail": ["read FILE after N", "write FILE after N"],
     "state": ["", "EDIT .."],
     "status": ["N"],

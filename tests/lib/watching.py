@@ -10,8 +10,6 @@ from tests.lib.files import TOP, read_bytes
 from tests.lib.programs import ran
 
 SOURCE = f"{TOP}/tests/lib/watch.c"
-# the runtime of a program opens this folder when it starts
-FIRST = b"open /"
 
 
 class NotWatched(Exception):
@@ -73,7 +71,7 @@ class Watch:
         self.granted = [line for line in lines if line.startswith(b"granted ")]
         lines = [line for line in lines if line not in self.refused + self.granted]
         found = []
-        for line in lines[1:] if lines[:1] == [FIRST] else lines:
+        for line in lines:
             is_again = found[-1:] == [line] and line.startswith((b"read ", b"write "))
             if line != b"read stdin" and not is_again:
                 found.append(line)

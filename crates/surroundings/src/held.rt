@@ -1,13 +1,21 @@
 //! Standard streams that are closed.
 use aout_core::{FileFault, Refused};
 use std::fs::File;
-use std::os::fd::AsRawFd;
+use std::os::fd::{AsFd, AsRawFd, BorrowedFd};
 use std::{fs, io};
+
+/// Whether a stream is open: then it can be copied.
+fn is_open(stream: BorrowedFd<'_>) -> bool {
+    stream.try_clone_to_owned().is_ok()
+}
 
 /// Opens a folder at each descriptor below 3 that is closed, since a file that a program opens would else take the place
 /// of a standard stream. A folder is neither read nor written: what goes there is a read or a write error. (own choice)
 pub fn hold_streams(rt: &HostRuntime) -> io::Result<Vec<File>> {
     let mut held = Vec::new(rt.alloc());
+    if is_open(rt.stdin().as_fd()) && is_open(rt.stdout().as_fd()) && is_open(rt.stderr().as_fd()) {
+        return Ok(held);
+    }
     for _ in 0..3 {
         let folder = fs::open(rt, "/")?;
         if folder.as_raw_fd() > 2 {
