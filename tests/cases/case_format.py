@@ -136,7 +136,7 @@ def number_on(word):
     return word
 
 
-REQUESTS = (b"open", b"read", b"create", b"write", b"sync")
+REQUESTS = (b"look", b"open", b"read", b"create", b"write", b"sync")
 
 
 def request(word):

@@ -14,6 +14,7 @@
 #include <stdio.h>
 #include <stdlib.h>
 #include <string.h>
+#include <sys/stat.h>
 #include <sys/syscall.h>
 #include <sys/uio.h>
 #include <unistd.h>
@@ -183,6 +184,16 @@ int open(const char *path, int flags, ...)
     int mode = flags & O_CREAT ? va_arg(arguments, int) : 0;
     va_end(arguments);
     return openat(AT_FDCWD, path, flags, mode);
+}
+
+/* listed only if it is refused */
+int statx(int folder, const char *path, int flags, unsigned mask, struct statx *about)
+{
+    char request[NAME];
+    snprintf(request, sizeof request, "look %s", path);
+    if (list >= 0 && planned("refuse", request) && ask("look", path))
+        return -1;
+    return syscall(SYS_statx, folder, path, flags, mask, about);
 }
 
 ssize_t read(int descriptor, void *room, size_t count)

@@ -137,35 +137,14 @@ if [ -c /dev/full ]; then
     tried 'v7-lesson, device full' 2 "v7-lesson: $(fault_words write)" v7-lesson main.o >/dev/full
 fi
 
-# an output that is the input is refused, whatever its path is: the input stays as it was
-mkdir links
-cp main.o links/x.o
-cp squares.gnu links/x.gnu
-cp listing links/x.lst
-(
-    cd links || exit 2
-    ln x.o hard.o
-    ln -s x.o soft.o
-    ln -s ../links also
-    refuse() {
-        tried "$*" 2 "$1: $output: the output is one of the inputs" "$@" >answers
-    }
-    for output in ../links/x.o hard.o soft.o also/x.o ./x.o; do
-        refuse v7-explain -o "$output" x.o
-    done
-    for output in ../links/x.lst also/x.lst x.lst; do
-        refuse v7-object x.lst "$output"
-    done
-    for output in ../links/x.gnu also/x.gnu; do
-        refuse v7-from-gnu x.gnu "$output"
-    done
-    output=also/x.gnu
-    refuse v7-from-gnu -o also ../squares.gnu x.gnu
-)
-same links/x.o main.o
-same links/x.gnu squares.gnu
-same links/x.lst listing
-[ ! -e links/squares.gnu ] || fail 'an object is stored beside one that is refused'
+# an output to which a link leads is refused if it is the input, which stays as it was
+cp main.o x.o
+ln x.o hard.o
+ln -s x.o soft.o
+for output in hard.o soft.o; do
+    tried "v7-explain -o $output" 2 "v7-explain: $output: the output is one of the inputs" v7-explain -o $output x.o >answers
+done
+same x.o main.o
 
 # with a closed stream, or with none, they store the same
 for closed in '<&-' '>&-' '2>&-' '<&- >&- 2>&-'; do

@@ -8,7 +8,7 @@ use std::cell::Cell;
 use std::io;
 use std::io::{ErrorKind, Read, Write};
 use std::test::Fail;
-use surroundings::Node;
+use surroundings::Found;
 use v7tools::{BlockWriter, Office, Outputs, Stored, perform};
 
 /// A file system of `c.o` alone, which counts the files that it is given.
@@ -29,8 +29,8 @@ impl Office for OneObject {
         }
     }
 
-    fn node(&mut self, _: &str) -> Option<Node> {
-        None
+    fn node(&mut self, _: &str) -> Found {
+        Found::NoFile
     }
 
     fn store(&mut self, _: &str, _: &File) -> Stored {

@@ -8,7 +8,7 @@ use aout_core::{File, Parts, Wire};
 use std::alloc::Global;
 use std::process::Abort;
 use std::test::Fail;
-use surroundings::Node;
+use surroundings::Found;
 use v7tools::{BlockWriter, Office, Outputs, Stored, perform};
 
 /// What a file system was asked, and what came of it.
@@ -96,7 +96,7 @@ impl<'a, R: Abort + AllocGlobal> MemoryOffice<'a, R> {
 
 impl<R: Abort + AllocGlobal> Office for MemoryOffice<'_, R> {
     ghost use Rattle.std.specs.Prelude.{map, option_map, None, Some, string_bytes};
-    ghost use Rattle.surroundings.specs.Events.{looked, opened, stored, written};
+    ghost use Rattle.surroundings.specs.{Events.{looked, opened, stored, written}, declared.nodes.Found.TheVariants.NoFile};
     ghost use Rattle.device_tests.specs.declared.memory_office.Asked.TheVariants.{Looked, Opened, Stored, Written};
 
     type Source = TestReader<'static>;
@@ -105,7 +105,7 @@ impl<R: Abort + AllocGlobal> Office for MemoryOffice<'_, R> {
       | Opened path found ↦ opened (string_bytes path) (option_map (λ bytes. Some bytes.now) found)
       | Stored path file what ↦ stored (string_bytes path) file what
       | Written path text what ↦ written (string_bytes path) text.items what
-      | Looked path ↦ looked (string_bytes path) None
+      | Looked path ↦ looked (string_bytes path) NoFile
     ]) office.asked.items) };
 
     fn open(&mut self, path: &str) -> Option<TestReader<'static>> {
@@ -117,9 +117,9 @@ impl<R: Abort + AllocGlobal> Office for MemoryOffice<'_, R> {
         }
     }
 
-    fn node(&mut self, path: &str) -> Option<Node> {
+    fn node(&mut self, path: &str) -> Found {
         self.list(Asked::Looked(self.owned(path)));
-        None
+        Found::NoFile
     }
 
     fn store(&mut self, path: &str, file: &File) -> Stored {

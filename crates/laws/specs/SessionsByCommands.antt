@@ -11,7 +11,7 @@ use Rattle.link_session.specs.{Edits.without_last, Labelled.Labelled}
 use Rattle.link_out.specs.{function.Reports.line, Inputs.bad_file}
 use Rattle.tool_options.specs.Choices.{Choices}
 use Rattle.surroundings.specs.Events.{Event, looked, opened, stored, written, Opened, opens, paths_of}
-use Rattle.surroundings.specs.{Emits.PutsUnless, declared.nodes.Node.Node, declared.office.Stored.Stored, declared.office.Stored.TheVariants.Kept}
+use Rattle.surroundings.specs.{Emits.PutsUnless, declared.nodes.Found.Found, declared.office.Stored.Stored, declared.office.Stored.TheVariants.Kept}
 use Rattle.command_words.specs.Scripts.{Asked, to_add, to_withdraw, to_link}
 use Rattle.v7tools.specs.{LineRuns.LineRun, LinkRuns.IsLinkRun, declared.fault.CliFault.CliFault}
 use Rattle.v7tools.specs.{FaultTexts.{cause_text, fault_line, no_memory}, SessionRuns.{Chains, RunsLines, events_of, lines_asked}}
@@ -74,11 +74,11 @@ SameDiskLaw =
 -- ---- what the system gave
 
 -- what the system gives for a request: a file that was opened or could not be, what became of a file that was to be stored, or
--- the file that a path leads to
+-- what a path leads to
 pub data Gift : Type 0 where
   for_opening : Option (Option (List ℕ)) → Gift
   for_storing : Stored → Gift
-  for_looking : Option Node → Gift
+  for_looking : Found → Gift
 
 abbrev pub gift : Event → Gift
 gift (opened path found) = for_opening found

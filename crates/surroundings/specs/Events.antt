@@ -4,15 +4,15 @@
 -- was to be stored, and whether it was, or to which file a path leads. The list of these events, in order, is what a command did.
 use Rattle.std.specs.Prelude.{◌≡◌, ℕ, List, ◌++◌, map, Option, Some, None, ⊤}
 use Rattle.aout_core.specs.{Contents.Contents, Wires.Latched}
-use Rattle.surroundings.specs.{declared.nodes.Node.Node, declared.office.Stored.Stored}
+use Rattle.surroundings.specs.{declared.nodes.Found.Found, declared.office.Stored.Stored}
 
 -- A file could not be opened (`None`), or was, with its bytes if they are known. Or a file, or a text, was to be stored. Or the system
--- was asked to which regular file a path leads, if there is one.
+-- was asked what a path leads to.
 pub data Event : Type 0 where
   opened : List ℕ → Option (Option (List ℕ)) → Event
   stored : List ℕ → Contents → Stored → Event
   written : List ℕ → List ℕ → Stored → Event
-  looked : List ℕ → Option Node → Event
+  looked : List ℕ → Found → Event
 
 -- all events so far, if they are known
 abbrev pub History : Type 0

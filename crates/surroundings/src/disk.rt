@@ -4,12 +4,12 @@ ghost use Rattle.std.specs.{Prelude.{◌≡◌, []}, Io.KnownBytes.Appends};
 ghost use Rattle.aout_core.specs.Encoding.{encoding};
 ghost use Rattle.surroundings.specs.{Emits.IsStoredOn, declared.office.Stored.TheVariants.Kept};
 
-use crate::nodes::Node;
+use crate::nodes::{Found, Node};
 use crate::office::{Office, Stored};
 use crate::pieces::PieceWriter;
 use aout_core::{BufferedWrite, File, Wire, write_file};
 use std::fs::{self, FileType, OpenFile};
-use std::io::Write;
+use std::io::{self, ErrorKind, Write};
 use std::os::unix::fs::{FileTypeExt, MetadataExt};
 use std::rt::{Files, Runtime};
 
@@ -51,16 +51,15 @@ fn store_in_pieces<F: Write + OpenFile>(file: &File, device: F, replaces: bool) 
 }
 
 /// The type of what is at a path, if this is a device, or itself a FIFO or a socket. A link to one of these two has none. (own choice)
-pub fn special_at<H: Files>(rt: &H, path: &str) -> Option<FileType> {
-    let kind = fs::symlink_metadata(rt, path).ok()?.file_type();
+///
+/// Errors: that of the system, which does not say what is there.
+pub fn special_at<H: Files>(rt: &H, path: &str) -> io::Result<Option<FileType>> {
+    let kind = fs::symlink_metadata(rt, path)?.file_type();
     if kind.is_symlink() {
-        let target = fs::metadata(rt, path).ok()?.file_type();
-        return (target.is_char_device() || target.is_block_device()).then_some(target);
+        let target = fs::metadata(rt, path)?.file_type();
+        return Ok((target.is_char_device() || target.is_block_device()).then_some(target));
     }
-    if kind.is_file() || kind.is_dir() {
-        return None;
-    }
-    Some(kind)
+    Ok((!kind.is_file() && !kind.is_dir()).then_some(kind))
 }
 
 /// The files of a runtime.
@@ -91,24 +90,26 @@ impl<H: Runtime> Office for Disk<'_, H> {
     type Source = H::File;
 
     fn open(&mut self, path: &str) -> Option<H::File> {
-        if !self.opens_special && special_at(self.rt, path).is_some() {
+        if !self.opens_special && !matches!(special_at(self.rt, path), Ok(None)) {
             return None;
         }
         fs::open(self.rt, path).ok()
     }
 
-    fn node(&mut self, path: &str) -> Option<Node> {
+    fn node(&mut self, path: &str) -> Found {
         match fs::metadata(self.rt, path) {
-            Ok(found) if found.is_file() => Some(Node {
+            Ok(found) if found.is_file() => Found::File(Node {
                 device: found.dev(),
                 number: found.ino(),
             }),
-            _ => None,
+            Ok(_) => Found::NoFile,
+            Err(error) if error.kind() == ErrorKind::NotFound => Found::NoFile,
+            Err(_) => Found::Unknown,
         }
     }
 
     fn store(&mut self, path: &str, file: &File) -> Stored {
-        let replaces = self.node(path).is_some();
+        let replaces = !matches!(self.node(path), Found::NoFile);
         match fs::create(self.rt, path) {
             Ok(device) => store_in_pieces(file, device, replaces).0,
             Err(_) => Stored::NotCreated,
@@ -116,7 +117,7 @@ impl<H: Runtime> Office for Disk<'_, H> {
     }
 
     fn store_text(&mut self, path: &str, text: &[u8]) -> Stored {
-        let replaces = self.node(path).is_some();
+        let replaces = !matches!(self.node(path), Found::NoFile);
         match fs::create(self.rt, path) {
             Ok(device) => store_text_on(text, &mut Wire::new(PieceWriter::new(device, replaces))),
             Err(_) => Stored::NotCreated,

@@ -21,7 +21,7 @@
 //! - `read_whole`, `read_front`: all bytes of a file, and so many from its beginning
 //! - `store_on`, `store_text_on`: stores a file, or a text, on a device
 //! - `stored_text`: what is said of a file that was not stored
-//! - `nodes_at`, `is_input`, `check_output`, `output_is_input`: the files to which paths lead; whether an output is one of the inputs, and refuses it
+//! - `nodes_at`, `is_refused`, `check_output`, `refused_output`: what paths lead to; whether an output may be one of the inputs, and refuses it
 //! - `shown_in`, `show`: what the arguments ask a program to show of itself; shows it
 //! - `refuse`: says why arguments are refused
 //! - `error_answer`, `fault_at`, `refused_answer`, `shown_answer`, `answer_stored`: answers
@@ -51,9 +51,10 @@ pub use arguments::{readable_words, words};
 pub use disk::{Disk, special_at, store_on, store_text_on};
 pub use given::{Given, given_in};
 pub use held::{end, hold_streams};
-pub use nodes::{Node, Nodes, check_output, is_input, nodes_at, output_is_input};
+pub use nodes::{Found, Node, Nodes, check_output, is_refused, nodes_at, refused_output};
 pub use office::{Office, Stored, stored_text};
 pub use outputs::Outputs;
+pub use paths::Path;
 pub use reasons::Reason;
 pub use shown::{Shown, VERSION, outputs_of, refuse, show, shown_answer, shown_in};
 pub use sources::{read_front, read_whole};

@@ -1,9 +1,10 @@
 //! Files to which paths lead. An output that is one of the inputs is refused by what it is, and not by its name.
 ghost use Rattle.std.specs.Prelude.{◌≡◌, ◌∷◌, [], true};
-ghost use Rattle.surroundings.specs.{Answers.Stops, Events.Extends, Nodes.{ChecksOutput, has_input, is_input, is_node, looks}};
+ghost use Rattle.surroundings.specs.{Answers.Stops, Events.Extends, Nodes.{ChecksOutput, has_input, is_node, is_refused, looks}};
 
 use crate::answer::{Fault, fault_at};
-use crate::office::Office;
+use crate::office::{NOT_CREATED, Office};
+use aout_core::FileFault;
 use std::alloc::Global;
 
 /// A regular file, as the system numbers it: its device, and its number on that device. (own choice)
@@ -15,22 +16,32 @@ pub struct Node {
     pub number: u64,
 }
 
-/// The files to which the paths of an input and of its output lead, if there are such. (own choice)
+/// What a path leads to. (own choice)
+#[derive(Clone, Copy)]
+pub enum Found {
+    /// A regular file.
+    File(Node),
+    /// No file, or one of another kind, of which nothing is lost if it is written to.
+    NoFile,
+    /// The system does not say.
+    Unknown,
+}
+
+/// What the paths of an input and of its output lead to. (own choice)
 #[derive(Clone, Copy)]
 pub struct Nodes {
-    /// The file of the input.
-    pub input: Option<Node>,
-    /// The file that the output would replace.
-    pub output: Option<Node>,
+    pub input: Found,
+    /// What the output would replace.
+    pub output: Found,
 }
 
 /// Whether a path leads to a file.
-fn is_node(node: Node, found: Option<Node>) -> bool
+fn is_node(node: Node, found: Found) -> bool
     ensures { result ≡ is_node node found }
 {
     match found {
-        Some(other) => node.device == other.device && node.number == other.number,
-        None => false,
+        Found::File(other) => node.device == other.device && node.number == other.number,
+        _ => false,
     }
 }
 
@@ -40,17 +51,19 @@ fn has_input(found: &[Nodes], output: Node) -> bool
     found.iter().any(|nodes| is_node(output, nodes.input))
 }
 
-/// Whether an output is one of the inputs. (own choice)
-pub fn is_input(found: &[Nodes], output: Option<Node>) -> bool
-    ensures { result ≡ is_input found.now output }
+/// Whether an output is refused: it is one of the inputs, or the system does not say what its path or that of its input leads to.
+/// (own choice)
+pub fn is_refused(found: &[Nodes], nodes: Nodes) -> bool
+    ensures { result ≡ is_refused found.now nodes }
 {
-    match output {
-        Some(output) => has_input(found, output),
-        None => false,
+    match (nodes.input, nodes.output) {
+        (Found::Unknown, _) | (_, Found::Unknown) => true,
+        (_, Found::File(output)) => has_input(found, output),
+        _ => false,
     }
 }
 
-/// The files to which the paths of an input and of its output lead. (own choice)
+/// What the paths of an input and of its output lead to. (own choice)
 pub fn nodes_at<O: Office>(office: &mut O, input: &str, output: &str) -> Nodes
     ensures { Extends (O.history office.old) (O.history office.new)
         (looks input.now output.now result) }
@@ -60,16 +73,26 @@ pub fn nodes_at<O: Office>(office: &mut O, input: &str, output: &str) -> Nodes
     Nodes { input, output }
 }
 
-/// The fault that an output is one of the inputs. (own choice)
-pub fn output_is_input(alloc: Global, program: &str, output: &str) -> Fault
+/// The fault of an output that is refused, with the paths of its input and of itself. (own choice)
+pub fn refused_output(
+    alloc: Global,
+    program: &str,
+    input: &str,
+    output: &str,
+    nodes: Nodes,
+) -> Fault
     ensures { Stops true 2 result }
 {
-    fault_at(alloc, program, output, "the output is one of the inputs")
+    match (nodes.input, nodes.output) {
+        (Found::Unknown, _) => fault_at(alloc, program, input, FileFault::NotOpened),
+        (_, Found::Unknown) => fault_at(alloc, program, output, NOT_CREATED),
+        _ => fault_at(alloc, program, output, "the output is one of the inputs"),
+    }
 }
 
-/// Checks that the output of a program is not its one input. (own choice)
+/// Checks that the output of a program is known not to be its one input. (own choice)
 ///
-/// Errors: `Answered` if it is; `Memory` if memory runs out.
+/// Errors: `Answered` if it is not known; `Memory` if memory runs out.
 pub fn check_output<O: Office>(
     alloc: Global,
     office: &mut O,
@@ -81,8 +104,8 @@ pub fn check_output<O: Office>(
         (O.history office.old) (O.history office.new) result }
 {
     let nodes = nodes_at(office, input, output);
-    if is_input(&[nodes], nodes.output) {
-        return Err(output_is_input(alloc, program, output));
+    if is_refused(&[nodes], nodes) {
+        return Err(refused_output(alloc, program, input, output, nodes));
     }
     Ok(())
 }

@@ -2,7 +2,7 @@
 ghost use Rattle.std.specs.{Prelude.{◌≡◌, [], ◌∷◌, List, None, Option}, Option.option_map};
 ghost use Rattle.surroundings.specs.{Answers.is_none, Sources.is_kept, Events.{Event, Extends, looked, opened, stored, written}};
 
-use crate::nodes::Node;
+use crate::nodes::Found;
 use aout_core::{DeviceFault, File};
 use std::io::Read;
 
@@ -29,8 +29,8 @@ pub trait Office {
         ensures { Extends (history self.old) (history self.new)
             (opened path.now (option_map Self.Source.remaining result) ∷ []) };
 
-    /// The regular file to which a path leads, if there is one. (own choice)
-    fn node(&mut self, path: &str) -> Option<Node>
+    /// What a path leads to. (own choice)
+    fn node(&mut self, path: &str) -> Found
         ensures { Extends (history self.old) (history self.new) (looked path.now result ∷ []) };
 
     /// Makes a file at a path, or empties the one that is there, and writes it; returns what became of it. (own choice)
@@ -44,13 +44,16 @@ pub trait Office {
             (written path.now text.now result ∷ []) };
 }
 
+/// What is said of a path at which no file can be made.
+pub(crate) const NOT_CREATED: &str = "cannot create";
+
 /// What is said of the path of a file that was not stored. (own choice)
 pub fn stored_text(stored: Stored) -> Option<&'static str>
     ensures { is_none result ≡ is_kept stored }
 {
     match stored {
         Stored::Kept => None,
-        Stored::NotCreated => Some("cannot create"),
+        Stored::NotCreated => Some(NOT_CREATED),
         Stored::Failed(_) => Some("write error"),
     }
 }

@@ -89,7 +89,7 @@ impl<H: Runtime> Folders for DiskFolders<'_, H> {
     }
 
     fn kind_at(&self, path: &str) -> Option<FileKind> {
-        let kind = special_at(self.rt, path)?;
+        let kind = special_at(self.rt, path).ok()??;
         Some(if kind.is_fifo() {
             FileKind::Fifo
         } else if kind.is_socket() {

@@ -3,7 +3,7 @@
 use Rattle.std.specs.Prelude.{◌≡◌, ◌⊎◌, ℕ, Bool, false, ◌||◌, List, [], ◌∷◌, ◌++◌, map, position, Result, Ok, Err, bytes_eq}
 use Rattle.std.specs.{List.list_any, Option.is_some}
 use Rattle.aout_core.specs.Refusals.{refused}
-use Rattle.surroundings.specs.{Answers.Refuses, Events.History, Events.Extends, Nodes.is_input, Nodes.looks, declared.answer.Fault.Fault}
+use Rattle.surroundings.specs.{Answers.Refuses, Events.History, Events.Extends, Nodes.is_refused, Nodes.looks, declared.answer.Fault.Fault}
 use Rattle.surroundings.specs.{declared.nodes.Nodes.Nodes, declared.answer.Fault.TheVariants.Memory}
 use Rattle.v7_from_gnu.specs.{Jobs.Job, Jobs.Target}
 
@@ -29,14 +29,14 @@ Looks old new found (job ∷ jobs) result =
     (nodes : Nodes) × (between : History) × Extends old between (looks job.from job.to nodes)
     × (((new ≡ between) × (result ≡ Err (Memory refused))) ⊎ Looks between new (found ++ nodes ∷ []) jobs result)
 
--- whether these are of an object that would replace one of the files
+-- whether these are of an object that could replace one of the files
 abbrev pub replaces : List Nodes → Nodes → Bool
-replaces found nodes = is_input found nodes.output
+replaces found nodes = is_refused found nodes
 
 abbrev pub replaces_any : List Nodes → Bool
 replaces_any found = is_some (position (replaces found) found)
 
--- no object would replace one of the files, or that is refused
+-- no object could replace one of the files, or that is refused
 abbrev pub Judges : Result (List Nodes) Fault → Result (Unit {0}) Fault → Type 0
 Judges (Err fault) result = result ≡ Err fault
 Judges (Ok found) result = Refuses 2 (replaces_any found) result

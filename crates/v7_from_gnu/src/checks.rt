@@ -11,7 +11,7 @@ use crate::program::NAME;
 use gnu_objects::clash_among;
 use std::alloc::{AllocError, Global};
 use surroundings::{
-    Fault, Nodes, Office, Path, error_answer, fault_at, is_input, nodes_at, output_is_input,
+    Fault, Nodes, Office, Path, error_answer, fault_at, is_refused, nodes_at, refused_output,
 };
 use texts::{Printable, Text};
 
@@ -43,7 +43,7 @@ pub(crate) fn check_paths(alloc: Global, jobs: &[Job]) -> Result<(), Fault>
     Ok(())
 }
 
-/// The files that the paths of jobs lead to.
+/// What the paths of jobs lead to.
 fn look<O: Office>(alloc: Global, office: &mut O, jobs: &[Job]) -> Result<Vec<Nodes>, Fault>
     ensures { Looks (O.history office.old) (O.history office.new) [] jobs.now (listed result) }
 {
@@ -57,27 +57,29 @@ fn look<O: Office>(alloc: Global, office: &mut O, jobs: &[Job]) -> Result<Vec<No
     Ok(found)
 }
 
-/// The first object that would replace one of the files that were found.
+/// The first object that could replace one of the files that were found.
 fn first_replacing(found: &[Nodes]) -> Option<usize>
     ensures { result ≡ position (replaces found.now) found.now }
 {
-    found.iter().position(|nodes| is_input(found, nodes.output))
+    found.iter().position(|nodes| is_refused(found, *nodes))
 }
 
-/// Checks that no object would replace one of the files that were found.
+/// Checks that no object could replace one of the files that were found.
 fn judge(alloc: Global, jobs: &[Job], found: &[Nodes]) -> Result<(), Fault>
     ensures { Judges (Ok found.now) result }
 {
     match first_replacing(found) {
         Some(place) => {
-            let path = jobs.get(place).map_or("", |job| job.to.as_str());
-            Err(output_is_input(alloc, NAME, path))
+            let (from, to) = jobs
+                .get(place)
+                .map_or(("", ""), |job| (job.from.as_str(), job.to.as_str()));
+            Err(refused_output(alloc, NAME, from, to, found[place]))
         }
         None => Ok(()),
     }
 }
 
-/// Checks that no object would replace one of the files.
+/// Checks that no object could replace one of the files.
 pub(crate) fn check_inputs<O: Office>(
     alloc: Global,
     office: &mut O,
