@@ -1,4 +1,5 @@
-"""Counts by valgrind how the instructions of the programs grow with what they are given, and prints an exponent for each.
+"""Counts by valgrind how the instructions of the programs grow with what they are given, and prints an exponent for each. One that is
+larger by more than 0.02 than docs/internals/COSTS.md states is a fault.
 
 A kind of work is done at four sizes, the largest at least 16 times the smallest. What the same command takes without that
 work, its start and the files before it, is subtracted. The exponent is the slope, by least squares, of the logarithm of the
@@ -7,16 +8,20 @@ instructions over that of the size: 1.00 if twice as much takes twice as long, 2
 tests/costs/counting.py says how instructions are counted.
 
 usage: python3 -m tests.costs.scaling [KIND ..]
+
+tier: all, 120 seconds; programs: v7 v7-explain v7-lesson; for: docs/internals/COSTS.md; needs: valgrind
 """
 import functools
 import math
 import os
+import re
 import sys
 import tempfile
 from concurrent.futures import ThreadPoolExecutor
 
 from tests.costs.counting import counted, is_installed
-from tests.lib.files import write
+from tests.lib.compare import notices
+from tests.lib.files import TOP, read, write
 from tests.lib.objects import pack
 from tests.lib.programs import program
 
@@ -178,21 +183,35 @@ def slope(points):
 
 
 def line(programs, kind):
-    """A kind of work: its exponent, and its instructions at each size."""
+    """A kind of work: its exponent, and the line with its instructions at each size."""
     start, *totals = (count(programs, kind, size) for size in (0, *KINDS[kind]))
     costs = [(size, total - start) for size, total in zip(KINDS[kind], totals)]
     exponent = slope([(math.log(size), math.log(cost)) for size, cost in costs])
-    return f"{kind:10} {exponent:5.2f}   " + ", ".join(f"{size:,}: {cost:,}" for size, cost in costs)
+    return exponent, f"{kind:10} {exponent:5.2f}   " + ", ".join(f"{size:,}: {cost:,}" for size, cost in costs)
+
+
+def check(stated, kind, exponent):
+    """Ends with a fault if an exponent is larger than is stated."""
+    if exponent > stated[kind] + 0.02:
+        sys.exit(f"{kind}: the exponent is {exponent:.2f}, and docs/internals/COSTS.md states {stated[kind]:.2f}")
 
 
 def main(*kinds):
     if not is_installed():
         return
     programs = [program(name) for name in ("v7", "v7-explain", "v7-lesson")]
+    text = read(f"{TOP}/docs/internals/COSTS.md")
+    stated = dict.fromkeys(KINDS, float(re.search(r"exponents of [\d.]+ to ([\d.]+),", text)[1]))
+    stated |= {kind: float(most) for kind, most in re.findall(r"`([a-z]+)`[^`.]*?\shas (\d\.\d\d)", text)}
+    notices(check, stated, "nm", stated["nm"] + 0.03)
     print("how instructions grow: the exponent, and the instructions at four sizes")
+    kinds, found = kinds or [*KINDS], []
     with ThreadPoolExecutor(os.cpu_count()) as pool:
-        for row in pool.map(lambda kind: line(programs, kind), kinds or KINDS):
+        for exponent, row in pool.map(lambda kind: line(programs, kind), kinds):
             print(row, flush=True)
+            found.append(exponent)
+    for kind, exponent in zip(kinds, found):
+        check(stated, kind, exponent)
 
 
 if __name__ == "__main__":
