@@ -118,7 +118,7 @@ class Kit:
         return [[self.rattle, "build", *words], *[linking] * crate.is_program]
 
 
-def left(until):
+def seconds_to(until):
     """The seconds up to a time of `time.monotonic`, as a limit."""
     return None if until == math.inf else max(0, until - time.monotonic())
 
@@ -153,7 +153,7 @@ class Proving:
         """Runs commands in the folder of a crate, and returns the line of the verdict."""
         said = ""
         for words in commands:
-            done = ran(*words, cwd=f"crates/{crate.name}", seconds=left(self.until))
+            done = ran(*words, cwd=f"crates/{crate.name}", seconds=seconds_to(self.until))
             said += done.said()
             if done.status:
                 raise Failed(said)
@@ -227,6 +227,7 @@ class Proving:
 
     def whole(self):
         """Proves all, lowest first. The status to end with."""
+        os.makedirs(KEPT, exist_ok=True)
         count = sum(crate.functions() for crate in self.crates)
         minutes = count * SECONDS_EACH / min(os.cpu_count(), MOST_JOBS) / 60
         print(f"{len(self.crates)} crates with {count} functions: at most about {minutes:.0f} minutes on an idle machine", flush=True)
@@ -255,7 +256,6 @@ def main(name, file, *flags):
         sys.exit("rt, the command of the Rattle kit, is not on the PATH")
     made = os.path.abspath(file)
     os.chdir(TOP)
-    os.makedirs(KEPT, exist_ok=True)
     if name == "--only":
         return check_only(file, *flags)
     os.makedirs(os.path.dirname(made), exist_ok=True)

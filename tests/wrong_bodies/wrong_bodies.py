@@ -275,7 +275,7 @@ def check_itself():
 def run(words, folder, until):
     """Runs a command in a folder up to a time, with both outputs as one text, in the order of their lines."""
     how = {"stdin": subprocess.DEVNULL, "stdout": subprocess.PIPE, "stderr": subprocess.STDOUT, "errors": "replace"}
-    return subprocess.run(words, cwd=folder, check=False, timeout=prove.left(until), **how)
+    return subprocess.run(words, cwd=folder, check=False, timeout=prove.seconds_to(until), **how)
 
 
 class Trial:
