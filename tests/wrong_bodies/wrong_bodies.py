@@ -35,7 +35,6 @@ import tempfile
 import threading
 import time
 from concurrent.futures import ThreadPoolExecutor
-from typing import NamedTuple
 
 from tests.lib.compare import same
 from tests.lib.files import TOP, write
@@ -44,6 +43,8 @@ from tests.wrong_bodies import edits
 from tools import prove
 
 SEEN = "tests/wrong_bodies/wrong-bodies.seen"
+# what is noted of a crate that was never tried
+NEVER = "-", 0
 # of the time that `make check` has, what is left to say what was tried
 LAST_SECONDS = 10
 BLOCK = re.compile(r"( *)(?:pub(?:\(\w+\))? )?(impl|trait|mod)\b(.*)\{$")
@@ -289,7 +290,7 @@ class Trial:
         self.edits = [it for it in found if only is None or {crate.name, f"{crate.name}/{it.name}"} & only]
         self.results, self.apart, self.copies = {}, set(), 0
         # what the next copy may take, and what the longest one took
-        self.expected, self.seconds = noted().get(crate.name, NEVER).seconds or crate.functions() * prove.SECONDS_EACH, 0
+        self.expected, self.seconds = noted().get(crate.name, NEVER)[1] or crate.functions() * prove.SECONDS_EACH, 0
 
     def left(self):
         """The names of the edits of which nothing is known yet."""
@@ -428,31 +429,22 @@ def with_edits():
     return [crate for crate in sorted(os.listdir("crates")) if edits.edits_of(crate)]
 
 
-class Noted(NamedTuple):
-    """What is noted of a crate: its digest, once all of its edits were refused, and the seconds of its longest copy."""
-    digest: str
-    seconds: int
-
-
-NEVER = Noted("-", 0)
-
-
 def noted():
-    """What is noted of crates, first of those that were tried longest ago."""
+    """The digests and the seconds that are noted of crates, first of those that were tried longest ago."""
     found = re.findall(r"^(\w+) ([0-9a-f]{64}|-)(?: (\d+))?$", edits.read(SEEN), re.M) if os.path.exists(SEEN) else []
-    return {crate: Noted(known, int(seconds or 0)) for crate, known, seconds in found}
+    here = with_edits()
+    return {crate: (known, int(seconds or 0)) for crate, known, seconds in found if crate in here}
 
 
 def note(trials, digests):
     """Notes what came of crates, after what is noted of others. A digest that no longer holds is dropped."""
-    rows = {crate: was for crate, was in noted().items() if crate in with_edits()}
-    rows = {crate: was if was.digest == digest(crate) else Noted("-", was.seconds) for crate, was in rows.items()}
+    rows = {crate: (known if known == digest(crate) else "-", seconds) for crate, (known, seconds) in noted().items()}
     for name, trial in trials.items():
         if trial.copies or not trial.left():
-            was = rows.pop(name, NEVER)
+            _, seconds = rows.pop(name, NEVER)
             is_refused = not trial.left() and not trial.failed()
-            rows[name] = Noted(digests[name] if is_refused else "-", trial.seconds or was.seconds)
-    write(SEEN, "".join(f"{crate} {row.digest} {row.seconds or ''}".rstrip() + "\n" for crate, row in rows.items()))
+            rows[name] = digests[name] if is_refused else "-", trial.seconds or seconds
+    write(SEEN, "".join(f"{crate} {known} {seconds or ''}".rstrip() + "\n" for crate, (known, seconds) in rows.items()))
 
 
 def is_gated(crate):
@@ -465,8 +457,7 @@ def is_gated(crate):
 def changed():
     """The crates that have changed since their edits were refused, first those that were tried longest ago, and their edits to be tried."""
     was = noted()
-    crates = [crate for crate in [*(it for it in with_edits() if it not in was), *was] if crate in with_edits()]
-    crates = [crate for crate in crates if digest(crate) != was.get(crate, NEVER).digest]
+    crates = [*(it for it in with_edits() if it not in was), *(it for it, (known, _) in was.items() if known != digest(it))]
     bodies = [body for crate in crates for body in (edits.records if is_gated(crate) else edits.edits_of)(crate)]
     return crates, {f"{body.crate}/{body.name}" for body in bodies}
 
