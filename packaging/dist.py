@@ -62,7 +62,7 @@ class Release:
     def prove(self):
         """Proves what is not proved yet."""
         for crate, out in (*((crate, crate) for crate in PROGRAMS.values()), ("v7_c", "libv7_c.a")):
-            run(sys.executable, "-m", "tools.prove", crate, f"crates/{crate}/out/{out}")
+            run(sys.executable, "-m", "tools.prove", "--anew", crate, f"crates/{crate}/out/{out}")
 
     def crates(self):
         """The crates of the repository that the programs and libv7 are made of, and the kit's libraries that they use."""

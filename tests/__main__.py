@@ -327,8 +327,9 @@ def print_crate(name):
     tops = [it.name for it in above if not any(it in other.below for other in above)] or [name]
     count = sum(it.functions() for it in [crates[name], *above])
     print(f"in crates/{name}, which has {crates[name].functions()} functions: rt try --test, rt check --only MODULE::NAME, and rt check")
-    print(f"crates above it: {' '.join(it.name for it in above) or 'none'}; with it they have {count} functions, and are proved in about "
-          f"{count * SECONDS_EACH / 60:.0f} minutes of a processor:\n  rt ci {' '.join(tops)}")
+    print(f"crates above it: {' '.join(it.name for it in above) or 'none'}\n"
+          "after an edit of a body, make takes seconds for each of these, from the second time on; from nothing, with it, they have "
+          f"{count}\nfunctions, and are proved in about {count * SECONDS_EACH / 60:.0f} minutes of a processor:\n  rt ci {' '.join(tops)}")
     print(f"its wrong bodies:\n  make check-wrong-bodies NAMES={name}")
 
 
