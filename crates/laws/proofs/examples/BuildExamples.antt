@@ -1,14 +1,14 @@
 -- The law of builds at a sample, and without one of its premises: `ld -r -o m a b` and `ld -o q m`, against `ld -o q a b`.
-use Rattle.std.specs.{Prelude.{String, Vec, bytes_eq, codes, cond}, declared.alloc.Global.Global, List.AllByRecursion}
-use Rattle.std.proofs.Common.{◌≡◌, ◌≤◌, ℕ, List, [], ◌∷◌, map, Some, None, Ok, refl, arith, inl, inr, subst}
+use Rattle.std.specs.{Prelude.{String, Vec, bytes_eq, codes, cond}, declared.alloc.Global.Global, List.{AllByRecursion, flat_map}}
+use Rattle.std.proofs.Common.{◌≡◌, ◌≤◌, ℕ, List, [], ◌∷◌, map, get_or, Some, None, Ok, refl, sym, ap, ◌∙◌, arith, inl, inr, subst}
 use Rattle.clap.proofs.OnLiterals.{clap_on_literals}
 use Rattle.aout_core.specs.{Contents.Contents, Words.AreBytes, Encoding.encoding}
 use Rattle.command_words.specs.declared.words.Call.TheVariants.{Ld}
 use Rattle.link_session.specs.{Labelled.Labelled, Labelled.objects, Mentions.mentions, States.multiple_names}
 use Rattle.link_out.specs.{declared.linked.Linked.Linked, function.Link.link, Inputs.with_inputs, Outcomes.outcome_of as result_of}
 use Rattle.v7tools.specs.CommandRuns.{AsksFor}
-use Rattle.laws.specs.Builds.{AreLdRuns, Command, EndAlike, Holds, IsLdRun, MayReplace, NoneIsMultiple, OnceLaw, StoreAlike, at_once, disk_left}
-use Rattle.laws.specs.{Builds.leaves_of, Disks.Disk, Disks.Run, Disks.disk_after}
+use Rattle.laws.specs.Builds.{AreLdRuns, BuildsLaw, Command, ElsewhereLaw, EndAlike, Holds, IsLdRun, MayReplace, NoneIsMultiple, OnceLaw}
+use Rattle.laws.specs.{Builds.{StoreAlike, at_once, disk_left, itself, leaves_of}, Disks.Disk, Disks.Run, Disks.disk_after}
 use Rattle.laws.proofs.examples.Samples.{_f, c_o, d_o, d2_o, plain, relocatable}
 use Rattle.laws.proofs.examples.LdRuns.{Links, a, b, m, q, m_path, q_path, both_asks, both_paths, both_words, contents, labelled, links}
 use Rattle.laws.proofs.examples.{LdRuns.{made_of, rows_read, run_of, vector}, LawExamples.below, NeededPremises.{counts, link_of}}
@@ -149,6 +149,38 @@ build_says law =
     (λ disk files steps runs last out r t ran may last_ran at held bytes once_ran fit. law disk files steps runs last out r t
     (record { steps_ran = ran; may_replace = may; last_ran = last_ran; leaves = at; held = held; bytes = bytes }) once_ran fit)
     (refl, (refl, tt)) none_twice
+
+-- a build of no step is one command
+singles : (paths : List (List ℕ)) → flat_map itself paths ≡ paths
+singles [] = refl
+singles (path ∷ paths) = ap (λ (ps : List (List ℕ)). path ∷ ps) (singles paths)
+
+-- the law of two builds, of which the other has no step
+builds_say : BuildsLaw contents contents →
+    StoreAlike contents contents last once (last_run c_o d_o part program program) (once_run c_o d_o part program program)
+builds_say law =
+    build_says (λ disk files steps runs last out r t build once_ran fit. law disk disk files files steps [] runs [] last
+    (at_once steps last out) r t build (record {
+      steps_ran = tt;
+      may_replace = tt;
+      last_ran = once_ran;
+      leaves = build.leaves ∙ sym (singles (leaves_of steps last));
+      held = build.held;
+      bytes = build.bytes;
+    }) refl refl refl fit)
+
+-- the step stores at m, so the file at a is as before
+elsewhere_says : ElsewhereLaw contents contents →
+    disk_left contents contents (disk_of_two c_o d_o) (step_run c_o d_o part program program ∷ []) a ≡ Some (encoding c_o)
+elsewhere_says law =
+    law (disk_of_two c_o d_o) (step ∷ []) (step_run c_o d_o part program program ∷ []) a
+    (is_ld (disk_of_two c_o d_o) step (step_run c_o d_o part program program) ran (refl, (refl, tt)), ran.no_fault, tt)
+    (counts (λ (l : List ℕ). get_or l 0 0) m a refl, tt)
+  where
+    ran : Links [] relocatable m (a ∷ b ∷ []) (step_run c_o d_o part program program)
+    ran =
+        links step_words (disk_of_two c_o d_o) (leaves_of_two c_o d_o) m_path part [] relocatable both_paths step_asks
+        (labelled a c_o ∷ labelled b d_o ∷ []) refl refl refl (refl, (refl, tt))
 
 -- ---- two files that define the same name: only the command without the step reports it
 

@@ -148,7 +148,7 @@ taken forced kept more f fs e = by_object (object_in (decode f.1)) refl
         absurd (let bad : after (Err cause) ≡ Ok more = ap (λ (x : Result Contents Cause). after (kept_with forced kept f.0 x)) (sym found) ∙ e in cc)
     by_object (Ok object) found = by_next object found (kept_with forced kept f.0 (Ok object)) refl
 
-took : (forced : List (List ℕ)) (kept more : List Labelled) (files : List (List ℕ × List ℕ)) → with_inputs forced kept files ≡ Ok more →
+pub took : (forced : List (List ℕ)) (kept more : List Labelled) (files : List (List ℕ × List ℕ)) → with_inputs forced kept files ≡ Ok more →
     TakesAll forced kept (inputs_opened (known files)) more
 took forced kept more [] e = cc
 took forced kept more (f ∷ fs) e =

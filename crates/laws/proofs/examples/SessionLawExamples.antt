@@ -12,14 +12,17 @@ use Rattle.tool_options.specs.Choices.{Choices}
 use Rattle.link_out.specs.{declared.linked.Linked.Linked, Outcomes.outcome_of as result_of, function.Reports.line, Inputs.with_input}
 use Rattle.surroundings.specs.{Events.{Event, Opened, opened, opens, stored}, declared.office.Stored.TheVariants.Kept}
 use Rattle.v7tools.specs.declared.fault.CliFault.{CliFault}
-use Rattle.v7tools.specs.{Answers.{Stepped, add_step, done}, LineRuns.{IsLineOf, LineRun, status_after}, LinkRuns.IsLinkRun}
+use Rattle.v7tools.specs.declared.fault.CliFault.TheVariants as faults
+use Rattle.link_out.specs.declared.linked.LinkFault.TheVariants as links
+use Rattle.v7tools.specs.{Answers.{Stepped, add_step, done, refused}, LineRuns.{IsLineOf, LineRun, status_after}, LinkRuns.IsLinkRun}
 use Rattle.v7tools.specs.{SessionRuns.{AreLines, Chains, answers_of, events_of, lines_asked, worst}, CommandRuns.{AsksFor, Ends}}
-use Rattle.laws.specs.Calls.{DoesPerform, RunsSession, SessionCallLaw}
+use Rattle.laws.specs.Calls.{DoesPerform, LinkCallLaw, RunsSession, SessionCallLaw}
 use Rattle.laws.specs.SessionsByCommands.{AreGivenTheSame, CannotRead, CannotWrite, DoesAsLd, EndsWell, FailsBy, IsGivenTheSame, IsKnown}
-use Rattle.laws.specs.SessionsByCommands.{IsThere, IsUndisturbed, LeavesNoTrace, LinkLineLaw, LinksLeft, RunsLd, UndoLaw, files_left}
+use Rattle.laws.specs.SessionsByCommands.{AreThere, IsRefusedAsLd, IsSameOn, IsThere, IsUndisturbed, LeavesNoTrace, LinkLineLaw, LinksLeft}
+use Rattle.laws.specs.SessionsByCommands.{RefusedLineLaw, RunsLd, SameDiskLaw, UndoLaw, files_left}
 use Rattle.laws.specs.Disks.{Disk, Run}
 use Rattle.laws.proofs.examples.Samples.{b_o, e_o, object, plain}
-use Rattle.laws.proofs.examples.LdRuns.{Links, a, b, q, q_path, both_asks, both_paths, both_words, contents, holding, links, made_of}
+use Rattle.laws.proofs.examples.LdRuns.{Links, a, b, q, q_path, both_asks, both_paths, both_words, contents, holding, links, made_of, took}
 use Rattle.laws.proofs.examples.{LdRuns.{rows_read, run_of}, NeededPremises.{counts, link_of}}
 
 abbrev p : List ℕ
@@ -246,6 +249,21 @@ calm answer text apart e =
 call_says_session : SessionCallLaw contents contents → RunsSession contents contents [] plain (session_of long_script long_lines)
 call_says_session law = law [] plain (session_of long_script long_lines) (performs long_script long_lines long_session) session_asks
 
+-- and this one of the link that its arguments ask for
+call_says_link : LinkCallLaw contents contents → RunsLd contents contents [] plain q (a ∷ b ∷ []) ld_run
+call_says_link law = law [] plain q (a ∷ b ∷ []) ld_run ld_links.performs ld_links.asks
+
+-- a disk with another file has what the session read
+abbrev more_files : Disk
+more_files at = cond (bytes_eq at x) (Some []) (files at)
+
+is_same : (path : List ℕ) (file : Contents) → files path ≡ Some (encoding file) → more_files path ≡ Some (encoding file) →
+    IsSameOn files more_files (events_of before_link) (path, Some (encoding file))
+is_same path file one other = record { bytes = encoding file; first = one; second = other; untouched = (tt, (tt, (tt, (tt, tt)))) }
+
+disk_says : SameDiskLaw → AreThere more_files left
+disk_says law = law before_link files more_files (refl, (refl, (refl, tt))) (is_same a b_o refl refl, (is_same b e_o refl refl, tt))
+
 -- the law of a link gives that ld stores, writes and answers as the line did
 link_of_left : LinkLineLaw contents contents →
     DoesAsLd contents contents p q made.file left link_line ld_run
@@ -262,6 +280,76 @@ session_says_links law = by_end (link_of_left law)
     by_end (inl h) = h
     by_end (inr (inl h)) = absurd (counts (λ (n : ℕ). n) 0 2 refl h.0)
     by_end (inr (inr h)) = absurd (counts (λ (n : ℕ). n) 0 2 refl h.0)
+
+-- ---- a link that does not fit, in a session and by ld
+
+abbrev large_o : Contents
+large_o = object (0o207 ∷ []) (0 ∷ []) [] [] 65534 []
+
+abbrev large : List Labelled
+large = record { label = a; object = large_o } ∷ []
+
+abbrev large_left : List Opened
+large_left = (a, Some (encoding large_o)) ∷ []
+
+abbrev large_disk : Disk
+large_disk at = cond (bytes_eq at a) (Some (encoding large_o)) None
+
+abbrev unfit_line : LineRun
+unfit_line = record { line = to_link p; events = []; answer = line (codes "does not fit"); status = 1; kept = large }
+
+unfit_chain : Chains [] plain [] (add_line a large_o large ∷ unfit_line ∷ []) large
+unfit_chain = (
+  adds_is a large_o [] large (add_step [] a (with_input [] [] a (encoding large_o))) refl refl refl refl,
+  (inl (record {
+    did = record { verdict = refused; answer = line (codes "does not fit"); kept = large };
+    is_link = inl refl;
+    refuses = refl;
+    does = record { events = refl; answer = refl; status = refl; kept = refl };
+  }), refl),
+)
+
+abbrev unfit_fault : CliFault
+unfit_fault = faults.NotLinked links.DoesNotFit
+
+abbrev unfit_run : Run (List ℕ) (List ℕ)
+unfit_run = record {
+  words = codes "ld" ∷ codes "-o" ∷ q ∷ a ∷ [];
+  script = None;
+  disk = large_disk;
+  earlier = [];
+  events = opens large_left;
+  output_before = holding [];
+  output_after = holding [];
+  error_before = holding [];
+  error_after = holding (codes "v7: does not fit\n");
+  status = 2;
+}
+
+unfit_ran : IsLinkRun contents [] plain q_path (a ∷ []) (Some []) (Some (opens large_left)) (Err unfit_fault) (holding []) (holding [])
+unfit_ran = inr (inr (inl (record {
+  fault = unfit_fault;
+  found = large_left;
+  answer = record {
+    all = refl;
+    link = record {
+      over = inr (record { kept = large; taken = took [] [] large ((a, encoding large_o) ∷ []) refl; none = refl });
+      bytes = refl;
+    };
+  };
+  asked = refl;
+  refuses = record { refusal = refl; silent = refl };
+})))
+
+refused_says : RefusedLineLaw contents contents → IsRefusedAsLd contents contents unfit_line unfit_run
+refused_says law =
+    law [] plain large unfit_run (add_line a large_o large ∷ []) [] unfit_line p q unfit_chain refl refl (calm _ _ refl) (record {
+      runs = record { output = q_path; out_path = refl; did = (Err unfit_fault, unfit_ran, (refl, refl)) };
+      on_disk = (refl, tt);
+      there = (record { bytes = encoding large_o; read = refl; there = refl }, tt);
+    })
+
+-- ---- two lines that leave no trace
 
 -- a line is given what it is given
 alike : (r : LineRun) → AllByRecursion IsKnown r.events → IsUndisturbed r.line r.answer → IsGivenTheSame r r
