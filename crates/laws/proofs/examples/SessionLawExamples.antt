@@ -301,12 +301,15 @@ unfit_line = record { line = to_link p; events = []; answer = line (codes "does 
 unfit_chain : Chains [] plain [] (add_line a large_o large ∷ unfit_line ∷ []) large
 unfit_chain = (
   adds_is a large_o [] large (add_step [] a (with_input [] [] a (encoding large_o))) refl refl refl refl,
-  (inl (record {
-    did = record { verdict = refused; answer = line (codes "does not fit"); kept = large };
-    is_link = inl refl;
-    refuses = refl;
-    does = record { events = refl; answer = refl; status = refl; kept = refl };
-  }), refl),
+  (
+    inl (record {
+      did = record { verdict = refused; answer = line (codes "does not fit"); kept = large };
+      is_link = inl refl;
+      refuses = refl;
+      does = record { events = refl; answer = refl; status = refl; kept = refl };
+    }),
+    refl,
+  ),
 )
 
 abbrev unfit_fault : CliFault
