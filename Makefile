@@ -4,7 +4,7 @@
 #: make quick                 compiles them and libv7 without proof into build/quick, shows a session       kit, cc      3 minutes
 #: make lib wheel             proves and builds libv7, and makes its wheel of Python                       kit          20 minutes
 #: make dist                  makes the packages of a release in dist/                                     kit          25 minutes
-#: make page                  makes the pages of the lesson, as build/lesson.html; `lesson` prints steps   kit          10 minutes
+#: make page                  makes build/v7.html, the page, with the proved libv7 for a browser           tools/needs  20 minutes
 #: make install               `make install-lib` and `make uninstall` too: what was built, or FROM=build/quick; `make clean` removes it
 #:
 #: make which CHANGED=PATH    which tests and crates a change concerns; or SINCE=COMMIT                    Python       seconds
@@ -34,10 +34,10 @@ endif
 # tools/prove.py uses all processors by itself
 .NOTPARALLEL:
 .SECONDEXPANSION:
-.PHONY: all quick lib wheel dist lesson page install install-lib uninstall clean help which check-text test gate check check-all \
+.PHONY: all quick lib wheel dist page install install-lib uninstall clean help which check-text test gate check check-all \
 	check-wrong-bodies planted demo recheck bench build/quick/libv7_c.a
 
-PROGRAMS := $(addprefix build/,v7 v7-from-gnu v7-object v7-explain v7-lesson)
+PROGRAMS := $(addprefix build/,v7 v7-from-gnu v7-object v7-explain)
 all: $(PROGRAMS)
 
 # a proved program, which `make gate` leaves too, at the same place
@@ -48,7 +48,7 @@ $(PROGRAMS) build/library_uses: build/%: crates/$$(subst -,_,$$*)/out/$$(subst -
 # tools/prove.py proves a crate with the libraries under it, side by side where none waits for another, and builds it
 ifneq ($(filter-out $(LIGHT),$(or $(MAKECMDGOALS),all)),)
 crate_of = $(word 2,$(subst /, ,$@))
-PROVED := $(foreach crate,v7 v7_from_gnu v7_object v7_explain v7_lesson library_uses,crates/$(crate)/out/$(crate)) crates/v7_c/out/libv7_c.a
+PROVED := $(foreach crate,v7 v7_from_gnu v7_object v7_explain library_uses,crates/$(crate)/out/$(crate)) crates/v7_c/out/libv7_c.a
 $(PROVED): crates.txt $$(shell python3 -m tools.prove --sources $$(crate_of))
 	python3 -m tools.prove $(crate_of) $@
 	touch $@
@@ -128,14 +128,17 @@ demo: build/v7
 	@python3 -m tests.programs.demo
 	@echo 'Each function of build/v7 is proved. next: make, which proves the other programs; docs/TUTORIAL.md'
 
-# adds the objects FILES to a session one by one and takes them out again, and shows each state; docs/teaching/LESSON.md
-lesson: build/v7-lesson
-	build/v7-lesson $(or $(FILES),examples/k.o examples/l.o)
+# the page: one file with the linker, compiled for WebAssembly from the module of the proved libv7, and the objects and lessons of examples/.
+# `make build/quick/v7.html` makes it of what `make quick` compiles
+page: build/v7.html
 
-# the pages that a release has: `lesson.html` has every order of five objects, `program.html` a program in C, and `tables.html` pointers
-# and bss. v7-lesson(1) says how to make others
-page: build/v7-lesson
-	python3 packaging/installed.py pages build build
+build/v7.wasm: crates/v7_c/out/libv7_c.a
+	python3 -m tools.module $@
+build/quick/v7.wasm: build/quick/libv7_c.a
+	python3 -m tools.module --quick $@
+$(PLACES:=/v7.wasm): tools/module.py packaging/heap.c page/session.js
+$(PLACES:=/v7.html): %/v7.html: %/v7.wasm packaging/page.py include/v7.h $(wildcard page/* examples/*.o examples/*/*.o examples/lessons.txt examples/*/lessons.txt)
+	python3 packaging/page.py $< $@
 
 help:
 	@sed -n 's/^#: \{0,1\}//p' Makefile
@@ -160,7 +163,7 @@ gate:
 # the cheapest first, so that a fault shows early. The gate leaves the programs that the tests of `check` run. Beside these, wrong bodies
 # of crates that have changed are tried, for 15 minutes. A minute before V7_CI_SECONDS are over it names what is left out, and fails
 check:
-	@MINUTES=15 python3 -m tests parts 'make test' 'make gate' 'make all lib build/library_uses' \
+	@MINUTES=15 python3 -m tests parts 'make test' 'make gate' 'make all lib page build/library_uses' \
 		'make check-wrong-bodies & python3 -m tests check; status=$$?; wait $$! && exit $$status' $(MORE)
 
 # all wrong bodies, in place of those of crates that have changed, and without a limit of time
@@ -186,7 +189,7 @@ bench: build/v7 build/v7-explain build/v7-from-gnu build/v7-object
 
 # the programs, and what the package v7 has besides; uninstall takes away what install and install-lib have put there
 $(PROGRAMS:build/%=build/quick/%): build/quick/libv7_c.a ;
-install: $(PROGRAMS:build/%=$(FROM)/%)
+install: $(PROGRAMS:build/%=$(FROM)/%) $(FROM)/v7.html
 	rm -rf $(STAGE)
 	python3 packaging/installed.py put $(FROM) $(STAGE)$(PREFIX)
 	python3 packaging/installed.py copy $(STAGE) '$(DESTDIR)' $(PREFIX)

@@ -89,6 +89,13 @@ def link(release, place):
         run("strip", program)
 
 
+def page(release, place):
+    """The page, as place/bin/v7.html."""
+    words = [f"{place}/v7.wasm"] if release.is_checked else ["--quick", "build/quick/v7.wasm"]
+    run(sys.executable, "-m", "tools.module", *words)
+    run(sys.executable, "packaging/page.py", words[-1], f"{place}/bin/v7.html")
+
+
 def libraries(place):
     """The libraries and what comes with them, installed below place/lib as if it were the folder usr."""
     flags = ["PREFIX=/usr", "LIBDIR=/usr/lib", "INCLUDEDIR=/usr/include", f"DESTDIR={place}/library", "CFLAGS=", "LDFLAGS="]
@@ -372,6 +379,7 @@ def main(words):
     os.makedirs("dist")
     with tempfile.TemporaryDirectory() as place:
         link(release, place)
+        page(release, place)
         libraries(place)
         top = f"{place}/tar/{release.name}"
         tree(release, place, top, "", "/lib")

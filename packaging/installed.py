@@ -1,9 +1,8 @@
 #!/usr/bin/env python3
-"""Lays out what is installed, and puts it into its place: programs, manual, documents, as HTML too, examples, the pages of lessons, and
+"""Lays out what is installed, and puts it into its place: programs, manual, documents, as HTML too, examples, the page, and
 completion. The packages of a release have the same, by packaging/dist.py.
 
 usage: packaging/installed.py put BUILD FOLDER          what the programs of the folder BUILD come with, below FOLDER
-       packaging/installed.py pages BUILD FOLDER        the pages of the lesson, in FOLDER
        packaging/installed.py library FOLDER            the documents of libv7, below FOLDER
        packaging/installed.py copy STAGE DEST PREFIX    copies what is below STAGE/PREFIX to DEST/PREFIX; without a DEST it notes that there
        packaging/installed.py remove PREFIX             takes away what was noted
@@ -23,10 +22,6 @@ from tests.lib.files import TOP, read, read_bytes, write  # noqa: E402
 from tests.lib.programs import PROGRAMS, asked  # noqa: E402
 import completion  # noqa: E402
 
-# the pages, each with the folder of its objects and its objects
-PAGES = {"lesson.html": ("examples", ["main.o", "twice.o", "k.o", "l.o", "double.o"]),
-         "program.html": ("examples/total", ["total.o", "say.o", "console.o", "low.o", "limit.o"]),
-         "tables.html": ("examples/menu", ["menu.o", "stop.o", "room.o", "more.o", "pair.o"])}
 DOCUMENTS = ["CHANGES.md", "CONTRIBUTING.md", "docs", "examples"]
 # what libv7-dev has of the documents: what v7.h cites, and what shows how to call the library
 LIBRARY_DOCUMENTS = ["docs/LIBRARY.md", "docs/LINK.md", "docs/FORMAT.md", "docs/OBJECTS.md"]
@@ -176,23 +171,15 @@ def documents(to, names, has_html, made=()):
 
 # --- all that comes with the programs
 
-def pages(build, to):
-    """Writes the pages of the lesson into a folder, each of the objects of a folder, with the lessons there."""
-    for name, (folder, files) in PAGES.items():
-        words = ["-p", "page", "-q", f"{folder}/lessons.txt", *(f"{folder}/{file}" for file in files)]
-        write(f"{to}/{name}", asked(os.path.abspath(f"{build}/v7-lesson"), *words, cwd=TOP))
-
-
 def put(build, to, has_html=None, made=()):
     """The programs of a folder, and what comes with them, below a folder. `made` are the files that are made besides."""
     for name in PROGRAMS:
         write(f"{to}/bin/{name}", read_bytes(f"{build}/{name}"))
-    shutil.copytree(f"{TOP}/page", f"{to}/share/v7/page")
     for path in files_in(["man"]):
         if not path.endswith(".3"):
             write(f"{to}/share/man/man{path[-1]}/{os.path.basename(path)}", read_bytes(f"{TOP}/{path}"))
-    documents(f"{to}/share/doc/v7", DOCUMENTS, has_tools() if has_html is None else has_html, [*PAGES, *made])
-    pages(build, f"{to}/share/doc/v7")
+    documents(f"{to}/share/doc/v7", DOCUMENTS, has_tools() if has_html is None else has_html, ["v7.html", *made])
+    write(f"{to}/share/doc/v7/v7.html", read_bytes(f"{build}/v7.html"))
     bash, zsh = completion.texts()
     for name in PROGRAMS:
         write(f"{to}/share/bash-completion/completions/{name}", bash)
@@ -248,7 +235,7 @@ def remove(prefix):
 
 def main(words):
     library = lambda to: documents(to, LIBRARY_DOCUMENTS, has_tools())
-    kinds = {"put": put, "pages": pages, "library": library, "copy": copy, "remove": remove}
+    kinds = {"put": put, "library": library, "copy": copy, "remove": remove}
     if len(words) < 2 or words[0] not in kinds:
         sys.exit(__doc__)
     kinds[words[0]](*words[1:])

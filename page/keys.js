@@ -99,7 +99,7 @@ function questionKey(event, key) {
 // single keys, in small letters or with Caps Lock, if they are on
 function shortcut(event) {
     if (event.key === "Escape" && (view.guide >= 0 || chosen)) return chosen ? choose("", false) : closeGuide();
-    if (!areKeysOn || event.ctrlKey || event.metaKey || event.altKey || event.target.tagName === "INPUT") return undefined;
+    if (!areKeysOn || event.ctrlKey || event.metaKey || event.altKey || /INPUT|TEXTAREA/.test(event.target.tagName)) return undefined;
     const key = event.key.toLowerCase();
     if (key === "/") {
         event.preventDefault();
@@ -135,7 +135,7 @@ function watchBar() {
     const acts = {
         withdraw, keys: switchKeys, guides: () => closeGuide(true),
         decimal: () => show({ ...view, decimal: !view.decimal }), whole: switchWhole, flick, presenter: switchPresenter,
-        maps: () => { areMapsShown = !areMapsShown; showMaps(stateNow()); draw(); },
+        maps: () => { areMapsShown = !areMapsShown; keepAddress(); showMaps(stateNow()); draw(); },
     };
     for (const [id, act] of Object.entries(acts)) {
         byId(id).addEventListener("click", () => { if (byId(id).getAttribute("aria-disabled") !== "true") act(); });
@@ -147,13 +147,19 @@ function watchBar() {
 function switchWhole() {
     isWhole = byId("whole").getAttribute("aria-pressed") !== "true";
     opened.clear();
+    keepAddress();
     showChosen(true, firstChanged);
 }
 
 // large words for a projector, without the legend
-function switchPresenter() {
-    const isOn = document.documentElement.classList.toggle("presenter");
+const isLarge = () => document.documentElement.classList.contains("presenter");
+function setLarge(isOn) {
+    document.documentElement.classList.toggle("presenter", isOn);
     byId("presenter").setAttribute("aria-pressed", String(isOn));
+}
+function switchPresenter() {
+    setLarge(!isLarge());
+    keepAddress();
     showChosen(true, firstChanged);
 }
 

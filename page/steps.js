@@ -1,34 +1,5 @@
-// Steps, the address of the page, and showing it anew. Each step is an entry of the browser's history.
+// Steps, and showing the page anew. Each step is an entry of the browser's history.
 "use strict";
-
-function hashOf({ list, gone, layout, decimal, guide, done }) {
-    const parts = [];
-    if (list.length > 0) parts.push(`objects=${list.map((object) => object + 1).join()}`);
-    if (gone >= 0) parts.push(`withdrawn=${gone + 1}`);
-    if (layout >= 0) parts.push(`addresses=${LAYOUTS[layout]}`);
-    if (decimal) parts.push("numbers=decimal");
-    if (guide === 0) parts.push(`tour=${done + 1}`);
-    if (guide > 0) parts.push(`lesson=${guide}&done=${done}`);
-    return parts.join("&");
-}
-
-// the view of an address, as far as there is such a state
-function viewOf(hash) {
-    const words = new URLSearchParams(hash);
-    const list = (words.get("objects") ?? "").split(",").filter(Boolean).map((text) => Number(text) - 1);
-    const gone = Number(words.get("withdrawn") ?? 0) - 1;
-    const isThere = hasState(list);
-    const guide = words.has("tour") ? 0 : GUIDES[Number(words.get("lesson"))] && words.has("lesson") ? Number(words.get("lesson")) : -1;
-    const wanted = guide === 0 ? Number(words.get("tour")) - 1 : Number(words.get("done") ?? 0);
-    const done = guide < 0 ? 0 : Math.max(0, Math.min(wanted, GUIDES[guide].steps.length - 1)) || 0;
-    const decimal = words.get("numbers") === "decimal";
-    // a question is about the objects of its lesson
-    if (guide > 0 && GUIDES[guide].steps[done + 1]?.ask) return { ...guideView(guide, done), decimal };
-    return {
-        list: isThere ? list : [], gone: isThere && hasState([...list, gone]) ? gone : -1,
-        layout: LAYOUTS.indexOf(words.get("addresses")), decimal, guide, done,
-    };
-}
 
 // ---- showing
 function stepText() {
@@ -182,6 +153,9 @@ function forget() {
 // the first row that the last step changed
 const firstChanged = () => byId("image").querySelector(":scope.scene .word, :scope.scene .fold") ?? byId("image").querySelector(".word.bound, .word.put-back") ?? byId("image").querySelector(".word.new, .word.cut-off") ?? byId("image").querySelector(".fold.new, .fold.cut-off");
 
+// the list that was shown last
+let shownList = [];
+
 function showAll() {
     const state = stateNow();
     const changed = changesOf(view);
@@ -207,6 +181,7 @@ function showAll() {
         return firstChanged();
     });
     say([stepText(), byId("note").textContent, guideText()]);
+    shownList = view.list;
 }
 
 // the focus goes to the image, if what had it is not there any more
@@ -223,15 +198,15 @@ function say(sentences) {
 // ---- steps
 // makes a new step
 function step(newView) {
-    view = newView;
+    [view, chosen] = [newView, ""];
     history.pushState(null, "", `#${hashOf(view)}`);
     showAll();
 }
 
 // shows the same step in another way
 function show(newView) {
-    view = newView;
-    history.replaceState(null, "", `#${hashOf(view)}`);
+    [view, chosen] = [newView, ""];
+    keepAddress();
     showAll();
 }
 
@@ -253,17 +228,40 @@ function flick() {
 // chooses a word or a name; one that is folded is shown
 function choose(key, isLed) {
     chosen = key;
+    clearTimeout(addressTimer);
+    addressTimer = setTimeout(keepAddress, 200);
     showChosen(false, () => (isLed ? byId(isWordKey(key) ? key : chosenPlace(stateNow())) : null));
     unfoldCard();
 }
 
-window.addEventListener("popstate", () => {
-    view = viewOf(location.hash.slice(1));
-    showAll();
-});
+// where the linker has stopped, or had no memory, a new one shows the list that was there, or none
+async function beginAgain(fault) {
+    await beginLinker();
+    view = { ...START, decimal: view.decimal, list: shownList };
+    shownList = [];
+    show(view);
+    setText(byId("note"), `${fault instanceof Fault ? "There was no memory for that" : "The linker has stopped"}: the page is as it was before this step.`);
+    byId("note").classList.add("refused");
+}
 
-function begin() {
-    view = viewOf(location.hash.slice(1));
+function watchFaults() {
+    const take = (event, fault) => {
+        if (!endsLinker(fault)) return;
+        event.preventDefault();
+        beginAgain(fault);
+    };
+    window.addEventListener("error", (event) => take(event, event.error));
+    window.addEventListener("unhandledrejection", (event) => take(event, event.reason));
+}
+
+async function begin() {
+    source = document.documentElement.outerHTML;
+    try {
+        await beginLinker();
+    } catch (fault) {
+        setText(byId("status"), `This browser cannot run the linker: ${fault.message}`);
+        return;
+    }
     const [wide, widest] = ["80em", "84em"].map((width) => window.matchMedia(`(min-width: ${width})`));
     const fold = () => { byId("more").open = widest.matches; };
     widest.addEventListener("change", fold);
@@ -271,8 +269,12 @@ function begin() {
     watchKeys();
     watchFind();
     watchTabs();
-    showAll();
+    watchOwn();
+    watchFaults();
+    window.addEventListener("popstate", restore);
+    restore();
     if (wide.matches) for (const object of DATA.objects) if (object.text.length + object.data.length <= FEW) byId("cards").children[object.number].querySelector("details").open = true;
     watchLayout();
+    document.body.classList.add("ready");
 }
 begin();

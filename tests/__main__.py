@@ -46,7 +46,7 @@ TIERS = ["text", "test", "check", "all"]
 HEAD = re.compile(r"^(?:# )?tier: (\w+), (\d+) seconds((?:;(?:\n#?)? \w+: [^;\n]+)*)$", re.M)
 # Debian's packages of commands, and of modules of Python, where they have another name
 PACKAGES = {"cc": "gcc libc6-dev", "c++": "g++", "venv": "python3-venv", "man": "man-db", "aspell": "aspell aspell-en",
-            "chromedriver": "chromium-driver", "selenium": "python3-selenium", "pdp11": "simh"}
+            "chromedriver": "chromium-driver", "selenium": "python3-selenium", "node": "nodejs", "wasm-opt": "binaryen", "pdp11": "simh"}
 # the lines that a test prints for those who run it, besides its last one
 SHOWN = re.compile(r"skipped: |(.*: )?not (run|assembled|measured|formatted)\b")
 # for a whole run of one crate, on a machine with other work too
@@ -316,7 +316,7 @@ def concern(path, test):
         imports = " ".join(re.findall(r"^ *(?:from|import) .*", read(test.path), re.M))
         return "uses it" if re.search(rf"\b{os.path.basename(path)[:-3]}\b", imports) else ""
     crate = path.split("/")[1] if path.startswith("crates/") else None
-    own = [name for name in test.words("programs") if crate in below({**CRATES, "libv7.so": "v7_c"}[name], crates_in(TOP))]
+    own = [name for name in test.words("programs") if crate in below({**CRATES, "libv7.so": "v7_c", "v7.wasm": "v7_c", "v7.html": "v7_c"}[name], crates_in(TOP))]
     return f"runs {' '.join(sorted(own))}" if own else ""
 
 

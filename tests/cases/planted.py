@@ -68,7 +68,6 @@ def rows_of(table, runs):
 SCRIPTS = {
     **rows_of(largest.TABLE, lambda name: f"$ {name}\n" + "$ v7-object\n" * (name == "v7-explain")),
     **rows_of(largest.CALLS, lambda _: "$ libv7\n"),
-    "page_data.py: pages": (["tests.page.page_data"], "$ v7-lesson\n$ v7\n$ v7-explain\n"),
     "terminal.py: all": (["tests.programs.terminal"], "$ v7\n"),
 }
 

@@ -9,7 +9,7 @@ tests/costs/counting.py says how instructions are counted.
 
 usage: python3 -m tests.costs.scaling [KIND ..]
 
-tier: all, 120 seconds; programs: v7 v7-explain v7-lesson; for: docs/internals/COSTS.md; needs: valgrind
+tier: all, 120 seconds; programs: v7 v7-explain; for: docs/internals/COSTS.md; needs: valgrind
 """
 import functools
 import math
@@ -70,7 +70,7 @@ class Work:
     """What a command does, in a folder of its own."""
 
     def __init__(self, programs, folder):
-        self.v7, self.explain, self.lesson = programs
+        self.v7, self.explain = programs
         self.folder = folder
 
     def object(self, name, words=(), symbols=()):
@@ -146,10 +146,6 @@ class Work:
         symbols = [(name, *((WANTED, 0) if number % 2 else (DEFINED, 2 * number))) for number, (name, _, _) in enumerate(names(0, size))]
         return [self.explain, "-m", self.object("mapped.o", words, symbols)], ""
 
-    def steps(self, size):
-        """Shows what each step of a lesson changes, with `size` objects of 100 words and 10 names."""
-        return [self.lesson, "-c", *self.of_words(size)], ""
-
 
 KINDS = {
     "objects": [20, 80, 160, 320],
@@ -163,7 +159,6 @@ KINDS = {
     "texts": [2047, 8191, 16383, MOST_WORDS],
     "maps": [20, 80, 160, 320],
     "mapped": [341, 1365, 2730, MOST_SYMBOLS],
-    "steps": [3, 12, 24, 48],
 }
 # its status is 1, as names stay undefined
 REPORTS = ("mapped",)
@@ -199,7 +194,7 @@ def check(stated, kind, exponent):
 def main(*kinds):
     if not is_installed():
         return
-    programs = [program(name) for name in ("v7", "v7-explain", "v7-lesson")]
+    programs = [program(name) for name in ("v7", "v7-explain")]
     text = read(f"{TOP}/docs/internals/COSTS.md")
     stated = dict.fromkeys(KINDS, float(re.search(r"exponents of [\d.]+ to ([\d.]+),", text)[1]))
     stated |= {kind: float(most) for kind, most in re.findall(r"`([a-z]+)`[^`.]*?\shas (\d\.\d\d)", text)}

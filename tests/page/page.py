@@ -1,14 +1,14 @@
-"""Opens the page of the lesson in Chromium, from the disk, and compares what it shows with what `v7-lesson`, `v7 ld` and `v7 nm` say of
-the same objects (tests/page/page_states.py), and what it says with a model (page_model.py). Then it looks at the layout in many sizes
+"""Opens the page in Chromium, from the disk, and compares what it shows and says with the model of a state (tests/page/page_state.py), and
+its links with `v7 ld` and `v7 nm` (page_states.py, page_model.py). Then it looks at the layout in many sizes
 (page_layout.py), takes the tour and the lessons by keys alone (page_use.py), and measures the stage (page_stage.py) with the sixteen
 compiled objects of tests/page/data and with the examples: model, layout and stage in Firefox too, if it is installed. The pictures of
 docs/pictures are compared with the page. No other script starts a browser.
 
 usage: python3 -m tests.page.page [-j JOBS] [-s SEED] [PART ..]     all parts or these, so many side by side; the seed puts the sixteen
                                                                     objects into an order
-       the parts: firefox, layout, stage, states, model, use; and pictures, which writes docs/pictures anew
-tier: all, 1500 seconds; words: -j 4; programs: v7 v7-lesson v7-explain;
- for: crates/v7_lesson page examples/lessons.txt docs/pictures; needs: chromium chromedriver selenium firefox-esr
+       the parts: firefox, layout, stage, states, model, own, use; and pictures, which writes docs/pictures anew
+tier: all, 1500 seconds; words: -j 4; programs: v7 v7-explain v7-from-gnu v7.wasm;
+ for: page examples/lessons.txt docs/pictures; needs: chromium chromedriver selenium firefox-esr wasm-opt
 """
 import argparse
 import random
@@ -21,7 +21,7 @@ from functools import cached_property
 
 from tests.lib.compare import notices
 from tests.lib.programs import ran
-from tests.page import page_layout, page_model, page_use
+from tests.page import page_layout, page_model, page_own, page_use
 from tests.page.page_browser import Chromium, Firefox, firefox
 from tests.page.page_layout import PICTURES, compare_pictures, look_at_states, look_everywhere, look_on_paper, make_pictures
 from tests.page.page_stage import SIZES, response, stage, steps
@@ -104,7 +104,7 @@ def in_firefox(tools, given):
     for zoom, sizes, layouts in ((1, SIZES[:-1], page_layout.FIREFOX_SIZES), (2, SIZES[-1:], [(640, 800, 1)])):
         with Firefox(zoom=zoom) as page:
             if zoom == 1:
-                checked(tools, page, given.pages, (*page_model.CHECKS, (page_use.reasons, (0, 1, 2))), most=40)
+                checked(tools, page, given.pages, (*page_own.CHECKS, *page_model.CHECKS, (page_use.reasons, (0, 1, 2))), most=40)
             stages(tools, page, given, sizes)
             look_everywhere(page, given.looked_at, layouts, f"zoom {zoom} in Firefox", counts)
     say_counts("Firefox", counts)
@@ -145,6 +145,7 @@ def pictures(_, page, given):
 PARTS = {
     "firefox": in_firefox, "layout": layouts, "stage": stages, "states": states,
     "model": lambda tools, page, given: checked(tools, page, given.pages, page_model.CHECKS),
+    "own": lambda tools, page, given: checked(tools, page, given.pages, page_own.CHECKS),
     "use": lambda tools, page, given: checked(tools, page, given.pages, page_use.CHECKS)}
 
 

@@ -30,6 +30,8 @@ if not all(os.path.exists(path) for path in ("/usr/bin/chromium", "/usr/bin/chro
 
 # how long a browser may take, in seconds, where the machine does other work too
 PATIENCE = 300
+# the module has been compiled, and the page is shown
+READY = "return document.body?.classList.contains('ready') ?? false"
 # two frames later the page has been laid out and drawn
 SETTLED = "const done = arguments[arguments.length - 1]; requestAnimationFrame(() => requestAnimationFrame(() => done()));"
 
@@ -89,6 +91,7 @@ class Chromium(Browser):
     def open(self, address):
         self.driver.get("about:blank")
         self.driver.get(self.url + address)
+        self.wait(READY)
 
     def size(self, width, height, scale=1):
         metrics = {"width": width, "height": height, "deviceScaleFactor": scale, "mobile": False}
@@ -241,6 +244,7 @@ class Firefox(Browser):
         self.send("WebDriver:SwitchToFrame", {"id": 0})
         if self.run("window.focus(); return innerWidth") != width:
             raise RuntimeError(f"the frame is not {width} wide")
+        self.wait(READY)
 
     def type(self, *keys):
         acts = [{"type": kind, "value": key} for key in keys for kind in ("keyDown", "keyUp")]

@@ -1,16 +1,8 @@
-"""Compares the lessons of the page with the programs: their answers, and the faults of a file of questions."""
-import json
+"""Compares the lessons of the page with the programs: their answers, and the faults of a file of lessons."""
 import re
 
-from tests.lib.files import read, write
+from tests.page.page_state import Given, Session, Step
 from tests.page.page_tools import LAYOUTS, same
-
-
-def states_in(path):
-    """The data of a page, and its size in bytes."""
-    text = read(path)
-    data = json.loads(re.search(r'id="data">\n(.*?)</script>', text, re.S).group(1))
-    return data, len(text.encode())
 
 
 ONE = "lesson One\nadd main.o\n"
@@ -72,11 +64,15 @@ QUESTIONS = [
 ]
 
 
-def bad_questions(tools, files):
-    """A line that refers to no word, name or step: no page, and the line's number."""
-    for text, line, fault in QUESTIONS:
-        path = write(f"{tools.folder}/bad.txt", text + "\n")
-        same(f"questions: {text}", tools.asked_of(path, *files), (2, "", f"v7-lesson: {path}: line {line}: {fault}\n"))
+TAKE = "(text) => takeLessons(text)"
+
+
+def bad_lessons(tools, files):
+    """A line that refers to no word, name or step: no lessons, and the line's number."""
+    with tools.scripts(files)[0] as scripts:
+        for text, line, fault in QUESTIONS:
+            same(f"lessons: {text}", scripts.run(TAKE, text + "\n"), f"line {line}: {fault}")
+            same(f"lessons that are left: {text}", scripts.run("() => DATA.lessons"), [])
 
 
 # a file of questions that has to be accepted: objects that come again, and texts that could end the script of the page
@@ -98,62 +94,62 @@ withdraw
 NUMBERS = [0o177774, 4, 0, 0o12, 0o20000, 0o177770, 6, 2, 0o12, 0o17774]
 
 
-def questions_of_all_kinds(tools, files):
+def lessons_of_all_kinds(tools, files):
     """A withdrawn object can come again, a lesson begins with no object, and a text is data, whatever it has."""
-    data, _ = states_in(tools.page_of(files, "accepted.html", write(f"{tools.folder}/accepted.txt", ACCEPTED)))
-    texts = [part for line in data["lessons"] for part in line if isinstance(part, str)]
+    with tools.scripts(files)[0] as scripts:
+        same("lessons of all kinds", scripts.run(TAKE, ACCEPTED), "")
+        lessons = scripts.run("() => DATA.lessons")
+    texts = [part for line in lessons for part in line if isinstance(part, str)]
     same("a text that could end the script", [text for text in texts if "script" in text], ["</script><b>", "<!-- </script> -->"])
     same("relocation words and sizes in texts", [text for text in texts if text.startswith("0")], ["051", "0", "012 (10.)", "02 (2.)"])
-    same("the numbers of texts", [part for line in data["lessons"] if line[0] == "say" for part in line if isinstance(part, int)], NUMBERS)
+    same("the numbers of texts", [part for line in lessons if line[0] == "say" for part in line if isinstance(part, int)], NUMBERS)
 
 
-def changed_by(states, here, word, rest):
-    """The words that a step changes, and the list after it."""
+def after_step(here, word, rest):
+    """The list after a step, and the words that it changes."""
     longer = [*here, rest[0]] if word == "add" else here
-    marks = [f"{mark[0]}-{mark[1]}" for mark in states[tuple(longer)]["marks"] if mark[0] != "name"]
-    return marks, longer if word == "add" else here[:-1]
+    return (longer if word == "add" else here[:-1] if word == "withdraw" else here), longer if word in ("add", "withdraw") else []
 
 
-def lesson_answers(tools, path, files, lessons=10, answers=12):
+def lesson_answers(tools, scripts, files, lessons=10, answers=12):
     """The answers of the lessons are what the programs say of the objects; there are so many lessons, and answers at least."""
-    data, _ = states_in(path)
-    states = {tuple(state["list"]): state for state in data["states"] if "marks" in state}
-    here, asked, compared_here = [], None, 0
-    for word, *rest in data["lessons"]:
+    here, asked, compared_here, lines = [], None, 0, scripts.run("() => DATA.lessons")
+    for word, *rest in lines:
         if word == "lesson":
             here = []
         elif word in ("changes", "value", "where"):
             asked = [word, *rest]
+            if word == "value":
+                same(f"the word before {asked}", asked[3], Session([Given(files[number]) for number in here]).rows()[asked[1]].value)
         elif word in ("add", "withdraw", "link", "image"):
-            marks, after = changed_by(states, here, word, rest) if word in ("add", "withdraw") else ([], here)
+            after, changed = after_step(here, word, rest)
             if asked:
-                said = answer_said(tools, asked, [files[number] for number in after], word, rest, marks)
-                same(f"the answer to {asked}, {word}", said, asked)
+                said = answer_said(tools, asked, [files[number] for number in after], word, rest, [files[number] for number in changed])
+                same(f"the answer to {asked}, {word}", [asked[0], *sorted(said[1:])] if asked[0] == "changes" else said, [asked[0], *sorted(asked[1:])] if asked[0] == "changes" else asked)
                 compared_here += 1
             here, asked = after, None
-    same("lessons", (sum(line[0] == "lesson" for line in data["lessons"]), compared_here >= answers), (lessons, True))
+    same("lessons", (sum(line[0] == "lesson" for line in lines), compared_here >= answers), (lessons, True))
 
 
-def remarks(tools, path, files):
-    """What a lesson quotes of v7-explain is what that says of the object that was added last, and of no other."""
-    data, _ = states_in(path)
+def remarks(_, scripts, files):
+    """What a lesson quotes of v7-explain is what libv7 remarks on the object that was added last, and on no other."""
     here, count = [], 0
-    odd = [re.findall(r"^/ odd: .*?: (.*)$", tools.listing(file), re.M) for file in files]
-    for word, *rest in data["lessons"]:
+    odd = [[one["text"] for one in scripts.run("(number) => LINKER.remarks(DATA.objects[number].bytes)", number)] for number in range(len(files))]
+    for word, *rest in scripts.run("() => DATA.lessons"):
         here = {"lesson": [], "add": [*here, *rest], "withdraw": here[:-1]}.get(word, here)
         quoted = re.search(r'v7-explain has a remark: "(.*)"\.$', str(rest[-1])) if word == "say" else None
         if quoted:
-            same("the remark of v7-explain", [quoted[1]], odd[here[-1]])
+            same("the remark of v7-explain", [any(quoted[1].endswith(text) for text in odd[here[-1]]), len(odd[here[-1]])], [True, 1])
             same("other remarks of v7-explain", [said for number, said in enumerate(odd) if said and number != here[-1]], [])
             count += 1
     same("remarks of v7-explain", count > 0, True)
 
 
-def answer_said(tools, asked, files, word, rest, marks):
-    """A question with the answer that the programs give."""
+def answer_said(tools, asked, files, word, rest, changed):
+    """A question with the answer that the model and the programs give; `changed` are the objects whose last one the step adds or withdraws."""
     kind, *about = asked
     if kind == "changes":
-        return ["changes", *marks]
+        return ["changes", *(f"{part}-{offset}" for part, offset in (Step([Given(file) for file in changed]).changed if changed else []))]
     if word == "link":
         linked = tools.link(list(LAYOUTS.values())[rest[0]], files)
         lines = [line for line in linked["table"].splitlines() if line[9:] == about[0] and line[7] not in "UC"]
@@ -162,7 +158,7 @@ def answer_said(tools, asked, files, word, rest, marks):
             part, offset = about[0].split("-")
             number = linked["segments"][part][int(offset) // 2]
     else:
-        lines = [line.split() for line in tools.step(len(files), files)]
-        found = [line for line in lines if kind == "value" and f"{line[0]}-{int(line[1], 8) if line[1].isdigit() else 0}" == about[0]]
-        number = int(found[0][2], 8) if found else None
+        session = Session([Given(file) for file in files])
+        known = session.names.get(about[0], ("", 0))
+        number = session.rows()[about[0]].value if kind == "value" else known[1] if known[0] in ("text", "data", "bss", "number") else None
     return ["where", about[0], number] if kind == "where" else ["value", about[0], number, asked[3]]

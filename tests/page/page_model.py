@@ -1,157 +1,13 @@
-"""What the page says, compared with a model: the states of a session, whose names are those of tests/oracles/model.py. In each state these
-are the sentence, the status, the names in their order with what is struck out, and what words were. Then come the cards, what the words
-of a link name, the legend, the tour's count, and what can be done and seen while a question is open."""
-import os
+"""What the page says, compared with the model of a state (page_state.py). In each state these are the sentence, the status, the names in
+their order with what is struck out, and what words were. Then come the cards, what the words of a link name, the legend, the tour's count,
+and what can be done and seen while a question is open."""
 import re
 from itertools import permutations
 
-from tests.lib.files import read_bytes
-from tests.oracles import model
-from tests.page.page_data import branch_of
 from tests.page.page_stage import SEEN, first
-from tests.page.page_states import by_alphabet, lines_on, read
-from tests.page.page_tools import PARTS, WORD, addend_said, known_as, same, size_said
-
-SEGMENT = {0o2: "text", 0o4: "data", 0o6: "bss"}
-# what is known of a name that is defined, or of an undefined one
-KNOWN = {model.UNDEFINED: "common", model.ABSOLUTE: "number", **model.SEGMENTS}
-
-
-def counted(number, what):
-    return f"{number} {what}{'' if number == 1 else 's'}"
-
-
-def addend(meant):
-    return addend_said(meant, "\u2212")
-
-
-class Given:
-    """An object: its words with their relocation words, and its symbols."""
-
-    def __init__(self, path):
-        self.name, self.file = os.path.basename(path), model.read_object(read_bytes(path))
-        self.text, self.data, self.bss = map(self.file.size, model.SEGMENTS)
-        self.words = {model.SEGMENTS[segment]: words for segment, words in self.file.words.items()}
-        self.symbols = [(one.name.decode("latin-1"), one.type, one.value) for one in self.file.symbols]
-
-    def start(self, segment):
-        return {"text": 0, "data": self.text, "bss": self.text + self.data}[segment]
-
-
-class Word:
-    """A word of the image: its value, the pc bit, what it refers to (a segment, "" for a number, or None while it waits), the name that its
-    object has for it, and the place that is meant. Then its object, its segment, index, value and relocation word there."""
-
-    def __init__(self, value, pc, kind, name, added, meant):
-        self.value, self.pc, self.kind, self.name, self.added, self.meant = value, pc, kind, name, added, meant
-        self.of, self.part, self.index, self.own, self.reloc = None, "", 0, 0, 0
-
-
-class Session:
-    """What a session of some objects knows."""
-
-    def __init__(self, objects):
-        merged = model.Merged([one.file for one in objects], ())
-        named = lambda sizes: {name: sizes[segment] for segment, name in model.SEGMENTS.items()}
-        self.objects, self.sizes, self.words = objects, named(merged.sizes), {}
-        self.names = {name.decode("latin-1"): ("undefined" if external.is_undefined else KNOWN[external.kind], external.value)
-                      for name, external in merged.externals.items()}
-        self.multiples = [*dict.fromkeys(name.decode("latin-1") for name in merged.multiples)]
-        for one, front in zip(objects, map(named, merged.before)):
-            for part in PARTS:
-                for index, (word, reloc) in enumerate(one.words[part]):
-                    made = self.words[part, front[part] + 2 * index] = self.word(one, front, part, index, word, reloc)
-                    made.of, made.part, made.index, made.own, made.reloc = one, part, index, word, reloc
-
-    def word(self, one, front, part, index, word, reloc):
-        pc, kind = reloc & 1, reloc & 0o16
-        meant, next_one = (word + one.start(part) + 2 * index + 2) % WORD if pc else word, front[part] + 2 * index + 2
-        if kind == 0:
-            return Word((meant - next_one) % WORD if pc else word, pc, "", "", 0, meant)
-        if kind in SEGMENT:
-            name, added, segment, meant = "", 0, SEGMENT[kind], (meant - one.start(SEGMENT[kind]) + front[SEGMENT[kind]]) % WORD
-        else:
-            name, added = one.symbols[reloc >> 4][0], meant
-            segment, place = self.names[name]
-            segment, meant = (None, added) if segment in ("undefined", "common") else ("" if segment == "number" else segment, (place + added) % WORD)
-        return Word((meant - next_one) % WORD if pc else meant, pc, segment, name, added, meant)
-
-    def waiting(self):
-        """The names for which words wait, one for each word, object by object."""
-        waiting = [word for word in self.words.values() if word.kind is None]
-        return [word.name for one in self.objects for part in PARTS for word in waiting if word.of is one and word.part == part]
-
-    def rows(self):
-        """The words by the ids of their rows."""
-        return {f"{part}-{offset}": word for (part, offset), word in self.words.items()}
-
-    def place(self, word):
-        if word.meant >= WORD // 2 and word.meant > self.sizes.get(word.kind, 0):
-            return f"{word.kind} \u2212 {WORD - word.meant:o}"
-        return f"{word.kind or 'a number'} {word.meant:06o}" if word.kind or word.pc else "a number"
-
-
-class Step:
-    """What the last step did: an object was added to a session, or withdrawn."""
-
-    def __init__(self, objects, is_gone):
-        self.one, self.is_gone = objects[-1], is_gone
-        self.before, self.after = Session(objects[:-1]), Session(objects)
-        old, new = self.before.words, self.after.words
-        self.changed = sorted((key for key in old if old[key].kind is None and new[key].kind is not None), key=lambda key: (PARTS.index(key[0]), key[1]))
-
-    def status(self):
-        words = f": {counted(len(self.changed), 'word')} {'put back' if self.is_gone else 'bound'}" if self.changed else ""
-        return f"{'Withdrew' if self.is_gone else 'Added'} {self.one.name}{words}"
-
-    def sentence(self):
-        if not self.changed:
-            return self.brought()
-        part, offset = self.changed[0]
-        old, new = self.before.words[part, offset], self.after.words[part, offset]
-        at, where = self.after.names[old.name][1], f"The word at {part} {offset:06o}"
-        more = f" {counted(len(self.changed) - 1, 'other word')} changed too." if len(self.changed) > 1 else ""
-        if self.is_gone:
-            return f"{where} waits for {old.name} again, so {at:06o} was subtracted from it: {new.value:06o} \u2212 {at:06o} = {old.value:06o}.{more}"
-        distance = f", the distance from {offset + 2:06o} to {new.meant:06o}" if new.pc and new.kind == part else ""
-        return f"{where} waited for {old.name}. This is at {at:06o} now, so the linker added it: {old.value:06o} + {at:06o} = {new.value:06o}{distance}.{more}"
-
-    def brought(self):
-        names = len(self.after.names) - len(self.before.names)
-        parts = [(self.one.text, f"{counted(self.one.text // 2, 'word')} of text"), (self.one.data, f"{counted(self.one.data // 2, 'word')} of data"),
-                 (self.one.bss, f"{size_said(self.one.bss)} of bss"), (names, counted(names, "name"))]
-        said = ", ".join(text for number, text in parts if number)
-        if self.is_gone:
-            return f"{said or 'Nothing'} of {self.one.name} cut off."
-        waiting = self.after.waiting()
-        names = [*dict.fromkeys(waiting)]
-        waits = f"{counted(len(waiting), 'word')} wait{'s' if len(waiting) == 1 else ''} for {counted(len(names), 'name') if len(names) > 3 else ', '.join(names)}." if waiting else "No word waits for a name."
-        return f"{self.one.name} brought {said or 'nothing'}. {waits}"
-
-    def names(self):
-        """The rows of the names: each with what is known, what is struck out, and its tag; first those that changed, then new ones."""
-        old, new, rows = self.before.names, self.after.names, []
-        for name in new:
-            state, was, tag = known_as(*new[name]), "", "" if name in old else "new"
-            if self.is_gone:
-                state, tag = (state, "cut off") if name not in old else (known_as(*old[name]), "")
-            if name in old and old[name] != new[name]:
-                was, tag = known_as(*(new if self.is_gone else old)[name]), "put back" if self.is_gone else "changed"
-            rows.append([name, state, was, tag])
-        order = {"changed": 0, "put back": 0, "new": 1, "cut off": 1, "": 2}
-        rows.sort(key=lambda row: order[row[3]])
-        kept = self.before.multiples
-        return rows + [[name, "multiply defined", "", "cut off" if self.is_gone and name not in kept else ""] for name in self.after.multiples]
-
-    def struck(self):
-        """What each word was that the step changed."""
-        found = {}
-        for part, offset in self.changed:
-            old, new = self.before.words[part, offset], self.after.words[part, offset]
-            said = f"{new.value:06o} {new.name}{addend(new.added)} = {self.after.place(new)}" if self.is_gone else f"{old.value:06o} waits for {old.name}{addend(old.added)}"
-            found[f"{part}-{offset}"] = said
-        return found
-
+from tests.page.page_state import SEGMENT, Given, Session, Step, branch_of
+from tests.page.page_states import lines_on, read
+from tests.page.page_tools import WORD, addend_said, same
 
 # shows a list of objects, or with the last one withdrawn
 SHOW = """
@@ -164,8 +20,8 @@ return [byId("note").textContent, byId("status").textContent];
 BESIDES = re.compile(r" \d+ arrows? more: choose a word to see its own\.| Now add another object, and look at which words change\.")
 
 
-def says(tools, page, files, most=1000):
-    """The sentence, the status, the names and what is struck out in each state, or so many, and all lines that `v7-lesson` has."""
+def says(_, page, files, most=1000):
+    """The sentence, the status, the names and what is struck out in each state, or so many, and all words and names."""
     objects, count = [Given(file) for file in files], len(files)
     lists = [order for length in range(1, count + 1) for order in permutations(range(count), length)] if count <= 5 else [range(length) for length in range(1, count + 1)]
     lists = lists[::max(1, len(lists) // most)]
@@ -178,9 +34,29 @@ def says(tools, page, files, most=1000):
             same(f"{what}: the status", status, step.status())
             same(f"{what}: the names", [name[:4] for name in shown["names"]], step.names())
             same(f"{what}: what is struck out", {word["id"]: word["was"] for word in shown["words"] if word["isOld"]}, step.struck())
-            if not is_gone:
-                same(f"{what}: lines", lines_on(shown), by_alphabet(tools.step(len(order), [files[number] for number in order])))
+            session = step.before if is_gone else step.after
+            same(f"{what}: labels", {word["id"]: sorted(word["labels"]) for word in shown["words"] if word["labels"]}, step.after.labels())
+            same(f"{what}: headings", [head for head in shown["heads"] if not is_gone or " 00 (0.)" not in head and head.startswith(tuple(session.sizes))], session.heads())
+            same(f"{what}: lines", lines_on(shown), (step.before if is_gone else step.after).lines())
     return 2 * len(lists)
+
+
+DECIMAL = "show({ ...view, decimal: arguments[0] }); isWhole = true; showChosen(true);"
+
+
+def in_decimal(_, page, files):
+    """In decimal each number of six octal digits is the decimal one, and has no 0 before it."""
+    decimal = lambda text: re.sub(r"\b[0-7]{6}\b", lambda found: str(int(found[0], 8)), text)
+    for count, layout in ((2, -1), (len(files), -1), (len(files), 1)):
+        page.run("show({ ...START, list: DATA.objects.map(({ number }) => number).slice(0, arguments[0]), layout: arguments[1] })", count, layout)
+        both = []
+        for is_decimal in (False, True):
+            page.run(DECIMAL, is_decimal)
+            shown = read(page, False)
+            both.append([[word[key].strip(" \u2007") for key in ("id", "offset", "value", "sum", "given-word")] for word in shown["words"]]
+                        + [name[:3] for name in shown["names"]] + [[mark] for mark in shown["marks"] if not re.search("[+\u2212]", mark)] + [[shown["note"]]])
+        same(f"{count} objects in decimal, layout {layout}", both[1], [[*map(decimal, line)] for line in both[0]])
+        page.run(DECIMAL, False)
 
 
 def reloc_said(reloc):
@@ -213,6 +89,8 @@ def cards(_, page, files):
         for word, (_, _, said) in zip(words, rows):
             same(f"the relocation word of {one.name}, {word.part} {word.index}: {said}", said.startswith(reloc_said(word.reloc)) if word.reloc else " = " not in said, True)
     page.open("#objects=1,2")
+    buttons = page.run("return [...document.querySelectorAll('.add > span')].map((one) => one.textContent)")
+    same("the buttons of the cards", buttons, ["1 of 2", "2 of 2", *["Add"] * (len(files) - 2)])
     for key, word in [*Session([Given(file) for file in files[:2]]).rows().items()][::2]:
         said, is_seen, _ = page.run(CHOSEN, key)
         same(f"the relocation word of the chosen {key}", (said, is_seen), (reloc_said(word.reloc), True))
@@ -224,7 +102,7 @@ def in_link(_, page, files):
     words = Session([Given(file) for file in files]).rows()
     for shown in read(page)["words"]:
         word = words[shown["id"]]
-        same(f"what {shown['id']} of a link refers to", shown["of"], f"{word.name}{addend(word.added)}" if word.name else word.kind)
+        same(f"what {shown['id']} of a link refers to", shown["of"], f"{word.name}{addend_said(word.added)}" if word.name else word.kind)
 
 
 LEGEND = "return [...document.querySelectorAll('.legend li')].map((line) => [line.querySelector('.swatch')?.className ?? '', line.querySelector('b')?.textContent ?? '']).filter(([swatch]) => swatch);"
@@ -336,4 +214,4 @@ def questions(_, page, __):
 
 
 # the checks of this file, and those of pages.py's pages that each is for
-CHECKS = ((says, (0, 1, 2, 3)), (cards, (0, 1, 2)), (in_link, (0, 1, 2, 3)), (in_object, (1, 3)), (counts_said, (0,)), (owners, (3,)), (questions, (0, 1, 2)))
+CHECKS = ((says, (0, 1, 2, 3)), (in_decimal, (0, 1, 2)), (cards, (0, 1, 2)), (in_link, (0, 1, 2, 3)), (in_object, (1, 3)), (counts_said, (0,)), (owners, (3,)), (questions, (0, 1, 2)))

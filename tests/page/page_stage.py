@@ -4,8 +4,8 @@ import re
 import time
 
 from tests.page.page_browser import Keys
-from tests.page.page_data import place_in_image, sizes_of
-from tests.page.page_tools import LAYOUTS, PARTS, WORD, same
+from tests.page.page_state import Given, Session
+from tests.page.page_tools import LAYOUTS, WORD, same
 
 # widths, heights and scales of a window; a zoom of 200 % at 1280 is a window of 640 pixels, each of two dots
 SIZES = [(1920, 1080, 1), (1366, 768, 1), (1024, 768, 1), (390, 844, 1), (640, 360, 2)]
@@ -37,17 +37,6 @@ return found;
 """
 
 
-def ends_in_image(lines):
-    """The id of the row that each word of the image means, from the lines of `v7-lesson`."""
-    sizes, wanted = sizes_of(lines), {}
-    for line in [line for line in lines if line.startswith(PARTS)]:
-        part, offset = line.split()[:2]
-        kind, number = place_in_image(line, sizes)
-        if kind not in ("nowhere", "outside"):
-            wanted[f"{part}-{int(offset, 8)}"] = kind if kind.endswith("-end") else f"{kind}-{number}"
-    return wanted
-
-
 def meant_in_link(linked, word, end, is_pc):
     """The address that a word means in a link; that of a row of a word is even."""
     part, offset = word.split("-")
@@ -59,7 +48,8 @@ def meant_in_link(linked, word, end, is_pc):
 def compare_ends(tools, page, files, step=1):
     """Of so many words one arrow is drawn in the image, another one in each link, and ends at the place that the word means: in a link its
     address."""
-    wanted, what = ends_in_image(tools.step(len(files), files)), f"{len(files)} objects"
+    session, what = Session([Given(file) for file in files]), f"{len(files)} objects"
+    wanted = {key: session.place_id(word) for key, word in session.rows().items() if word.kind}
     drawn = page.run(ENDS, step, 0)
     count = len(drawn)
     for word, end, *_ in drawn:
@@ -229,9 +219,9 @@ FIND = "byId('find').value = arguments[0]; find(); return matches.map(({ id }) =
 
 
 def search(tools, page, files):
-    """`/jsr pc,` finds each such instruction, in folds too: as many as v7-lesson lists, and those of the map of v7-explain."""
-    lines = tools.step(len(files), files)
-    wanted = [["text", int(line.split()[1], 8)] for line in lines if "jsr pc," in line]
+    """`/jsr pc,` finds each such instruction, in folds too: as many as v7-explain has, and those of its map."""
+    session = Session([Given(file) for file in files])
+    wanted = [[part, offset] for (part, offset), word in session.in_order() if "jsr pc," in session.instruction(word, offset)]
     page.run("document.activeElement.blur()")
     page.type("/", "j", "s", "r", " ", "p", "c", ",")
     page.wait("return document.getElementById('find').value === 'jsr pc,' && /of/.test(document.getElementById('found').textContent)")

@@ -1,13 +1,13 @@
-"""Compares what the page shows with what `v7-lesson` prints for the same objects, and the addresses with what `v7 ld` and `v7 nm` say. States
-are reached by keys, clicks and addresses."""
+"""Compares what the page shows with the model of a state (page_state.py), and the addresses with what `v7 ld` and `v7 nm` say. States are
+reached by keys, clicks and addresses."""
 import os
 import re
 
-from tests.lib.files import read_bytes
+from tests.lib.files import read_bytes, write
 from tests.lib.objects import unpack
-from tests.page.page_data import full
 from tests.page.page_stage import response
-from tests.page.page_tools import CLASS, FIVE, IN_C, LAYOUTS, TABLES, WORD, same, size_said, words_of
+from tests.page.page_state import Given, Session, Step
+from tests.page.page_tools import CLASS, FIVE, IN_C, LAYOUTS, PARTS, TABLES, WORD, object_of, same, size_said, words_of
 
 # shows the whole image with each object unfolded, as key o and clicks on all folds do
 WHOLE = """
@@ -26,8 +26,9 @@ return {
     words: all("#image .word:not(.spot)", (row) => ({
         id: row.id, segment: row.id.split("-")[0], number: Number(row.id.split("-")[1]), isCut: row.classList.contains("cut-off"), isOld: row.matches(".bound, .put-back"),
         ...Object.fromEntries(["offset", "value", "pc", "place", "instruction", "bound-name", "sum", "of", "was", "tag", "given-word"].map((name) => [name, part(row, name)])),
+        labels: [...row.querySelectorAll(".label")].map((one) => [one.textContent, one.tagName]),
         target: part(row, "target") || (part(row, "instruction") || part(row, "string") || row.classList.contains("inside") ? "a number" : "") })),
-    bss: text(document.querySelector("#bss .size")),
+    bss: text(document.querySelector("#bss .size")), heads: all("#image .segment h3", text),
     names: all("#names .name", (row) => [...["b", ".state", ".was", ".tag", ".address"].map((name) => text(row.querySelector(name))), row.classList.contains("cut")]),
     marks: all(".overwrote .was", text), done: all(".undone .was", text),
     table: one("table"), report: one("report"), step: one("status"), refused: document.querySelector("#note.refused") ? one("note") : "", note: one("note"),
@@ -43,24 +44,19 @@ def read(page, is_whole=True):
 
 
 def lines_on(shown):
-    """What the page shows, as the lines that `v7-lesson` has, with the names sorted: in which order the page has them, the model says."""
+    """What the page shows, as the lines of the model. In which order the page has the names, page_model.py says."""
     words, names = [word for word in shown["words"] if not word["isCut"]], [name for name in shown["names"] if not name[-1]]
     lines = [words_of(f"{word['segment']} {word['offset']} {word['value']} {word['pc']} {word['target']} {word['place']}")
              + (f" / {word['instruction']}" if word["instruction"] else "") for word in words]
     lines += [f"bss {shown['bss']}"] if shown["bss"] not in ("", size_said(0)) else []
-    lines += sorted(f"name {name}: {known}" for name, known, *_ in names)
-    lines += [words_of(f"mark {mark}") for mark in shown["marks"]]
-    return [line.replace("\u2212", "-") for line in lines] if words or names else ["nothing"]
+    return [*lines, *sorted(f"name {name}: {known}" for name, known, *_ in names)]
 
 
-def by_alphabet(lines):
-    names = iter(sorted(line for line in lines if line.startswith("name ")))
-    return [next(names) if line.startswith("name ") else line for line in lines]
-
-
-def compare_state(tools, page, what, step, files):
-    shown = read(page)
-    same(what, lines_on(shown), by_alphabet(tools.step(step, files)))
+def compare_state(page, what, files):
+    """The words, names and marks of a state; gives what is shown."""
+    shown, objects = read(page), [Given(file) for file in files]
+    same(what, lines_on(shown), Session(objects).lines())
+    same(f"{what}: marks", sorted(map(words_of, shown["marks"])), Step(objects).marks() if objects else [])
     return shown
 
 
@@ -87,6 +83,16 @@ def compare_words(shown, linked, what):
             same(f"{place}: the address of {word['of']}", f"{added:06o}", addresses[word["of"]])
 
 
+def compare_heads(heads, linked, what):
+    """The headings of a link: each segment with its bytes, from one address to another. Commons and bss are one in a file."""
+    (_, text, data, bss), base = linked["header"][:4], linked["base"]
+    wanted = [(part, start, end) for part, start, end in (("text", 0, text), ("data", base, base + data)) if end > start]
+    same(f"{what}: headings", [head for head in heads if head.startswith(PARTS)], [f"{part} {size_said(end - start)} {start:06o} to {end:06o}" for part, start, end in wanted])
+    rest = [re.fullmatch(r"(?:commons|bss) 0([0-7]+) \((\d+)\.\) bytes ([0-7]{6}) to ([0-7]{6})", head) for head in heads if head.startswith(("commons", "bss"))]
+    sizes = [(int(one[1], 8), int(one[2]), int(one[4], 8) - int(one[3], 8)) for one in rest]
+    same(f"{what}: headings of commons and bss", ([*map(len, map(set, sizes))], sum(size for size, _, _ in sizes)), ([1] * len(sizes), bss))
+
+
 def compare_addresses(tools, page, what, files):
     """The four links of what is there; the last key puts the addresses away."""
     for key, (layout, options) in zip("pnir", LAYOUTS.items()):
@@ -97,6 +103,7 @@ def compare_addresses(tools, page, what, files):
             same(where, shown["refused"], f"refused: {linked['refused']}")
             continue
         compare_words(shown, linked, where)
+        compare_heads(shown["heads"], linked, where)
         same(f"{where}: table", shown["table"] + "\n", linked["table"] or "empty\n")
         same(f"{where}: report", shown["report"].rstrip("\n") + "\n", linked["report"])
         for name, *_, address, _ in shown["names"]:
@@ -119,44 +126,42 @@ def chain(tools, page, files, order):
     for number, here in zip(order, lists):
         what = f"add {' '.join(map(os.path.basename, here))}"
         page.type(str(number + 1))
-        shown = compare_state(tools, page, what, len(here), here)
+        shown = compare_state(page, what, here)
         compare_tags(shown, what, shown["marks"], "bound")
         compare_addresses(tools, page, what, here)
-    for here in reversed(lists):
-        what = f"withdraw {' '.join(map(os.path.basename, here))}"
+    for before, here in [*zip(lists, [[], *lists])][::-1]:
+        what = f"withdraw to {' '.join(map(os.path.basename, here))}"
         page.type("w")
-        shown = compare_state(tools, page, what, len(here) + 1, here)
-        wanted = [line.removeprefix("mark ") for line in tools.step(len(here), here) if line.startswith("mark ")]
-        same(f"{what}: put back", [words_of(line.replace("\u2212", "-")) for line in shown["done"]], wanted)
+        shown = compare_state(page, what, here)
+        same(f"{what}: put back", sorted(map(words_of, shown["done"])), Step([Given(file) for file in before]).marks())
         compare_tags(shown, what, shown["done"], "put back")
 
 
-def clicks(tools, page, files):
+def clicks(page, files):
     """By clicks: two objects, one taken back, and an address that is kept. The tabulator reaches each button, and Enter presses it."""
     page.open("")
     page.click("add1")
     page.click("add2")
-    added = compare_state(tools, page, "click add2", 2, files[:2])
+    added = compare_state(page, "click add2", files[:2])
     same("what is marked", [word["tag"] for word in added["words"]], ["", "", "", "bound", "", "new", "new"])
     page.click("withdraw")
-    compare_state(tools, page, "click withdraw", 3, files[:2])
+    compare_state(page, "click withdraw", files[:1])
     page.click("flick")
     same("the step before", lines_on(read(page)), lines_on(added))
     page.pick("addresses", "-n (n)")
     kept = read(page)
-    same("address", kept["hash"], "#objects=1,2&addresses=-n")
+    same("address", kept["hash"], "#objects=1,2&addresses=-n&whole=1")
     page.open(kept["hash"])
     same("a page that is opened at a kept address", read(page), {**kept, "focus": ""})
     page.click("decimal")
     same("decimal", [word["value"] for word in read(page)["words"]], [f"{int(word['value'], 8):\u2007>5}" for word in kept["words"]])
     page.open("")
     page.press("add2")
-    compare_state(tools, page, "Enter", 1, files[1:2])
+    compare_state(page, "Enter", files[1:2])
 
 
 def large(tools, page, given, path):
     """Each word of five large objects can be reached, in the image and in each link; what changed is never folded."""
-    same("bytes of five large objects", os.path.getsize(path) <= 5_000_000, True)
     page.load(path)
     for order in ("1,2,3,4,5", "5,3,1", "2,4"):
         here = [given[int(number) - 1] for number in order.split(",")]
@@ -166,7 +171,7 @@ def large(tools, page, given, path):
         page.run("document.querySelector('#rest .fold').click()")
         sizes = [len(one.text) + len(one.data) for one in (unpack(read_bytes(file)) for file in here)]
         same(f"{order}: a click on a fold shows the words of its object", len(read(page, False)["words"]) >= sizes[0], True)
-        shown = compare_state(tools, page, f"five objects, {order}", len(here), here)
+        shown = compare_state(page, f"five objects, {order}", here)
         changed = {f"{mark[0]}-{int(mark[1], 8)}" for mark in map(str.split, shown["marks"]) if mark[0] in ("text", "data") and mark[2] == "was"}
         same(f"{order}: what changed is shown, or counted", (bound <= changed, len(bound) + counted), (True, len(changed)))
         same(f"{order}: words", len(shown["words"]), sum(sizes))
@@ -177,12 +182,13 @@ def large(tools, page, given, path):
 def compare_states(tools, page, given):
     """All of this."""
     page.load(given.pages[0][0])
-    clicks(tools, page, CLASS)
+    clicks(page, CLASS)
     for files in (CLASS, FIVE, IN_C, TABLES):
         page.load(tools.page_of(files))
         for order in ([0, 1, 2, 3, 4], [4, 2, 3, 1, 0]):
             chain(tools, page, files, order)
     large(tools, page, *given.large)
-    page.load(tools.page_of([full(tools, CLASS), CLASS[3]], "full.html"))
+    full = write(f"{tools.folder}/full.o", object_of([(0, 0)] * 32_767, []))
+    page.load(tools.page_of([full, CLASS[3]]))
     page.type("1", "2")
-    compare_addresses(tools, page, "full.o l.o", [f"{tools.folder}/full.o", CLASS[3]])
+    compare_addresses(tools, page, "full.o l.o", [full, CLASS[3]])

@@ -1,13 +1,15 @@
 """What the tests of the page share: the programs, the objects that pages are made of, and the comparing."""
+import json
 import os
 import random
 import re
+import subprocess
 
-import installed
+import page as pages  # of packaging
 from tests.lib.compare import Differs
 from tests.lib.files import TOP, read_bytes, write
 from tests.lib.objects import pack, unpack
-from tests.lib.programs import asked, program, ran
+from tests.lib.programs import BUILD, asked, program, ran
 
 LAYOUTS = {"plain": [], "-n": ["-n"], "-i": ["-i"], "-r": ["-r"]}
 WORD = 0o200000
@@ -21,12 +23,15 @@ def paths(folder, names):
 
 # the objects of the pages of a release: the class example, a program in C with an object that has a fault, and the lessons about pointers,
 # bss and the output of -r. And those of a program with words that refer to each segment of their own
-CLASS, IN_C, TABLES = (paths(*page) for page in installed.PAGES.values())
+CLASS, IN_C, TABLES = (paths(folder, names) for _, folder, names in pages.SETS)
 FIVE = paths("examples", ["start.o", "print.o", "main.o", "twice.o", "count.o"])
 # a program in C of sixteen files: a calculator without any library, as Debian's Portable C Compiler (the source package pcc,
 # 1.2.0~DEVEL+20220331, configured with --target=pdp11-unknown-bsd) and examples/asm.py made it. A file comes before those that it calls
 NAMES = "main command line token number parse apply stack name mem list sort error text print start".split()
 SIXTEEN = paths("tests/page/data", [f"{name}.o" for name in NAMES])
+
+# takes the first set of a page
+OPEN = "() => takeObjects(decodedObjects(SETS[0].objects), SETS[0].lessons)"
 
 faults = []
 compared = 0
@@ -36,7 +41,9 @@ def same(what, shown, wanted):
     global compared
     compared += 1
     if shown != wanted:
-        faults.append(f"{what}\n  the page: {shown}\n  wanted:   {wanted}")
+        shown, wanted = str(shown), str(wanted)
+        at = max(0, len(os.path.commonprefix([shown, wanted])) - 100)
+        faults.append(f"{what}\n  the page: {shown[at:at + 400]}\n  wanted:   {wanted[at:at + 400]}")
 
 
 def planted():
@@ -73,7 +80,7 @@ def size_said(size):
     return f"0{size:o} ({size}.) bytes"
 
 
-def addend_said(meant, minus="-"):
+def addend_said(meant, minus="\u2212"):
     return "" if meant == 0 else f" {minus} {WORD - meant:o}" if meant >= WORD // 2 else f" + {meant:o}"
 
 
@@ -83,32 +90,47 @@ def known_as(kind, number):
     return f"{'the number' if kind == 'number' else kind} {number:06o}"
 
 
+def listing(path):
+    """The instructions of a file, as v7-explain has them."""
+    return ran(program("v7-explain"), "-d", path).texts("utf-8")[1]
+
+
+class Scripts:
+    """The scripts of a page that need no browser, in node."""
+
+    def __init__(self, path, *flags):
+        self.node = subprocess.Popen(["node", *flags, f"{TOP}/tests/page/dump.mjs", path], stdin=subprocess.PIPE, stdout=subprocess.PIPE, text=True)
+
+    def run(self, script, *words):
+        """What a function of JavaScript gives; a fault as {"fault": its message}."""
+        self.node.stdin.write(json.dumps([script, *words]) + "\n")
+        self.node.stdin.flush()
+        return json.loads(self.node.stdout.readline())
+
+    def __enter__(self):
+        return self
+
+    def __exit__(self, *_):
+        self.node.stdin.close()
+        self.node.wait()
+        self.node.stdout.close()
+
+
 class Tools:
     """The programs that the page is compared with."""
 
     def __init__(self, folder):
-        self.lesson, self.v7, self.explain = map(program, ("v7-lesson", "v7", "v7-explain"))
-        self.page, self.folder = f"{TOP}/page", folder
+        self.v7, self.explain, self.folder, self.module = program("v7"), program("v7-explain"), folder, os.path.join(TOP, BUILD, "v7.wasm")
 
-    def page_of(self, files, name="lesson.html", questions=""):
-        return write(f"{self.folder}/{name}", asked(self.lesson, "-p", self.page, *["-q", questions] * bool(questions), *files))
+    def page_of(self, files, name="page.html", lessons=""):
+        """A page of these objects alone."""
+        title = next((title for title, folder, names in pages.SETS if paths(folder, names) == files), "These objects")
+        return write(f"{self.folder}/{name}", pages.page_of(self.module, [pages.set_of(title, lessons, files)]))
 
-    def asked_of(self, questions, *files):
-        """The status and both outputs for a page with a file of questions."""
-        return ran(self.lesson, "-p", self.page, "-q", questions, *files).texts("utf-8")
-
-    def steps(self, files):
-        """The lines of all steps, each without its first."""
-        steps = re.split(r"^(?:add|withdraw) .*\n", asked(self.lesson, *files), flags=re.M)[1:]
-        return [[words_of(line) for line in step.splitlines()] for step in steps]
-
-    def step(self, number, files):
-        """The lines of a step, after the first."""
-        return self.steps(files)[number - 1] if files else ["nothing"]
-
-    def listing(self, file):
-        """A file as v7-explain lists it."""
-        return ran(self.explain, file).texts("utf-8")[1]
+    def scripts(self, files, lessons=""):
+        """Its scripts, with these objects; and why its lessons are none, or nothing."""
+        scripts = Scripts(self.page_of(files, lessons=lessons))
+        return scripts, scripts.run(OPEN)
 
     def map_of(self, files):
         return ran(self.explain, "-m", *files).texts("utf-8")[1]

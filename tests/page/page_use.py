@@ -7,9 +7,10 @@ from tests.lib.files import read_bytes, write
 from tests.lib.objects import unpack
 from tests.page.page_browser import Keys
 from tests.page.page_lessons import answer_said
-from tests.page.page_model import Given, Session, addend, asked
+from tests.page.page_model import asked
 from tests.page.page_stage import first, steps
-from tests.page.page_tools import LAYOUTS, object_of, same, size_said
+from tests.page.page_state import Given, Session
+from tests.page.page_tools import LAYOUTS, addend_said, object_of, same, size_said
 
 FIRST = """
 const text = (selector) => {
@@ -226,7 +227,7 @@ WRONG_ANSWERS = """
 const wait = nextStep();
 const wrong = choicesOf(wait).filter((one) => !one.isRight);
 const known = namesOf(stateNow()).find(({ name }) => name === wait.name);
-const numbers = { value: [wait.before, wait.number + 2], where: [known?.number ?? 2, (wait.number ?? 0) + 2, 0] }[wait.kind] ?? [];
+const numbers = { value: [wait.before, wait.number + 2], where: [known?.number ?? 2, (wait.number ?? 0) + 2, 0, ...(known ? LAYOUTS.map((_, i) => symbolOf(stateNow(), known.i, i).value) : [])] }[wait.kind] ?? [];
 for (const number of new Set(numbers)) if (number !== wait.number) wrong.push({ number, isRight: false });
 const word = wait.kind === "value" ? wordOf(stateNow(), wait.word) : null;
 const adds = wait.act?.[0] === "add" ? [label(wait.act[1]), word?.kind < 0 && defines(wait.act[1], word.name) ? word.name : ""] : ["", ""];
@@ -241,7 +242,7 @@ def word_wanted(word, session):
     return f"refers to {session.place(word)}" if word.kind or word.pc else "It is a number"
 
 
-def reason_wanted(kind, act, text, known, wait, adds, session):
+def reason_wanted(kind, act, text, known, wait, adds, session, addresses):
     """How the reason of a wrong answer begins, or what it has, by what the model says of the state."""
     words, key = session.rows(), wait["word"] if kind == "value" else ""
     if kind == "changes" and text != "no word":
@@ -256,24 +257,58 @@ def reason_wanted(kind, act, text, known, wait, adds, session):
         if adds[1]:
             return f"{adds[0]} defines {adds[1]}: add the place of {adds[1]} to the word, modulo 200000."
         if act == "link" and words[key].pc:
-            return f"Take the address of {words[key].name + addend(words[key].added) if words[key].name else session.place(words[key])} in this link, and subtract that of the place after the word."
+            return f"Take the address of {words[key].name + addend_said(words[key].added) if words[key].name else session.place(words[key])} in this link, and subtract that of the place after the word."
         return word_wanted(words[key], session) if act == "link" else "subtract" if act == "withdraw" else "the word"
-    if kind == "where" and known and act == "link" and text.isdigit() and int(text, 8) == known[1] and known[0] in ("text", "data", "bss"):
-        return f"That is its offset in {known[0]}"
-    return ""
+    if kind == "where" and text == "no address":
+        return {"common": "lays the common out", "undefined": "but the linker does"}.get(known[0], "An object defines it")
+    return where_wanted(int(text, 8), known, wait, addresses) if kind == "where" and act == "link" else ""
 
 
-def reasons(_, page, files):
+def where_wanted(number, known, wait, addresses):
+    """Why a number is not the address of a name in the link of a question."""
+    layout, segments = wait["act"][1], ("text", "data", "bss")
+    if wait["number"] is None:
+        return "It stays a common" if known[0] == "common" else "No object defines it"
+    if known[0] in segments and number == known[1]:
+        return f"That is its offset in {known[0]}: add where {known[0]} begins in this link."
+    other = [name for i, (name, address) in enumerate(zip(LAYOUTS, addresses)) if i != layout and address == number]
+    if other:
+        return f"That is its address {'in a plain link' if other[0] == 'plain' else f'with {other[0]}'}."
+    if known[0] == "data" and layout in (1, 2):
+        return ("With -n data begins at the next multiple of 20000 after text.", "With -i data has addresses of its own, which begin at 0.")[layout - 1]
+    return f"Its offset is {known[1]:06o}. " if known[0] in segments else ""
+
+
+def addresses_of(tools, name, files):
+    """The address of a name in each link, or None."""
+    tables = [tools.link(options, files).get("table", "") for options in LAYOUTS.values()]
+    found = [[line for line in table.splitlines() if line[9:] == name and line[7] in "TDBA"] for table in tables]
+    return [int(lines[0][:6], 8) if lines else None for lines in found]
+
+
+def reasons(tools, page, files):
     """Each wrong answer has a reason, which follows from the state; each question has a choice that is wrong."""
     count = 0
     for question in asked(page):
         wrong = page.run(WRONG_ANSWERS)
         same(f"{question}: a wrong answer", len(wrong) > 0, True)
         for kind, act, text, reason, here, known, wait, adds in wrong:
-            wanted = reason_wanted(kind, act, text, known, wait, adds, Session([Given(files[number]) for number in here]))
+            given = [files[number] for number in here]
+            addresses = addresses_of(tools, wait["name"], given) if kind == "where" and given else []
+            wanted = reason_wanted(kind, act, text, known, wait, adds, Session([Given(file) for file in given]), addresses)
             same(f"{question}, {text}: {reason}", (len(reason) > 15, wanted in reason, "undefined" in reason and kind != "choice"), (True, True, False))
         count += len(wrong)
     return count
+
+
+# questions for an address in each layout, of a name in data and of a common
+HINTS = "lesson Hints\nadd k.o\nadd l.o\nadd main.o\n" + "".join(f"ask where {name} Where?\nlink {layout}\n" for layout in LAYOUTS for name in ("_x", "_count"))
+
+
+def hints(tools, page, files):
+    """The reasons of wrong addresses in each layout."""
+    page.load(tools.page_of(files, "hints.html", write(f"{tools.folder}/hints.txt", HINTS)))
+    return reasons(tools, page, files)
 
 
 NUMBERS = {"12": 10, "10.": 10, "0xa": 10, "0x0A": 10, "9": 9, "-2": 65534, "177776": 65534, "0o12": 10, "x": None, "1g": None}
@@ -402,18 +437,40 @@ def paper(_, page, __):
     asked = page.run("return GUIDES[2].steps.filter((step) => step.ask).map((step) => prose(step.ask))")
     same("the handout is printed", page.run("return [window.printed, document.body.classList.contains('handout'), view.guide, view.done]"), [True, False, 2, 0])
     same("questions on paper, without answers and with them", (len(texts), [ask for ask in asked for text in texts if ask not in text]), (2, []))
-    first, last = page.run("const parts = [...document.querySelectorAll('#paper > div:first-child > *')]; const asked = parts.filter((part) => part.querySelector('.ask'));"
-                           "return [asked[0].querySelector('.ask').textContent.slice(0, 3), asked.map((part) => part.nextElementSibling?.tagName ?? '')]")
-    same("the first question on paper, and what follows a question", (first, "TABLE" in last), ("1. ", False))
-    same("pc and places on paper", page.run("return [...document.querySelectorAll('#paper tr')].map((row) => row.textContent)")[1], "text000002177774pcwaits for _count")
     same("answers on paper", ["Answer: text 000006" in text for text in texts], [False, True])
     page.open("#lesson=2&done=0&numbers=decimal")
     page.run("window.print = () => {}")
     page.click("handout")
-    decimal = page.run("return [...document.querySelectorAll('#paper tr')].map((row) => row.textContent)")[3]
-    same("a handout in decimal", decimal, "text665528pcwaits for _twice")
+    decimal = page.run("return document.querySelectorAll('#paper tr')[3].textContent.replace(/\\s+/g, '')")
+    same("a handout in decimal", decimal, "text665528031=symbol1,pc/_twice")
     page.open("#lesson=2&done=1")
     same("one handout of a lesson", page.run("return document.getElementById('handout')"), None)
+
+
+# of each lesson the objects that it adds, and of its sheet without answers the headings and the lines of objects, what is marked, and what follows
+# `Answer: `; then the answers, as text, with the sheet's steps
+HANDOUTS = """
+window.print = () => {};
+return GUIDES.slice(1).map(({ steps }, i) => {
+    view = guideView(i + 1, 0);
+    printHandout();
+    const sheet = document.querySelector("#paper > div"), all = (selector) => [...sheet.querySelectorAll(selector)].map((one) => one.textContent);
+    const added = [...new Set(steps.filter(({ act }) => act?.[0] === "add").map(({ act }) => act[1]))];
+    const asked = steps.filter(({ ask, kind }) => ask && ["value", "where"].includes(kind)).map(rightText);
+    return [added, all("h2"), all(".paper-object tr").length, all("table").length - all(".paper-object").length, sheet.textContent.includes("\u2612"), all(".line"), asked, all(".paper-step").join(" ")];
+});
+"""
+
+
+def handouts(_, page, files):
+    """The sheet of each lesson has its objects, from which all follows, and no answer."""
+    page.open("")
+    objects, count = [Given(file) for file in files], 0
+    for number, (added, heads, rows, tables, is_marked, lines, answers, steps) in enumerate(page.run(HANDOUTS), 1):
+        same(f"the objects of handout {number}", (heads, rows), ([objects[one].name for one in added], sum((objects[one].text + objects[one].data) // 2 for one in added)))
+        same(f"the answers of handout {number}", (tables, is_marked, {*lines} - {"Answer: ______________________"}, [one for one in answers if re.search(rf"\b{one}\b", steps)]), (0, False, set(), []))
+        count += len(lines)
+    return count
 
 
 # ---- what is computed for a class
@@ -463,13 +520,11 @@ def practice(tools, page, files):
     here, count = [], 0
     for question, (act, *rest) in page.run(PRACTICE):
         after = [*here, files[rest[0]]] if act == "add" else here
-        marks = [line.split() for line in tools.step(len(after), after) if line.startswith(("mark text", "mark data"))]
         if question:
-            wanted = answer_said(tools, question, after, act, rest, [f"{mark[1]}-{int(mark[2], 8)}" for mark in marks])
-            same(f"practice, {len(after)} objects", question, wanted)
+            wanted = answer_said(tools, question, after, act, rest, after if act == "add" else [])
+            same(f"practice, {len(after)} objects", sorted(map(str, question)), sorted(map(str, wanted)))
         if question and question[0] == "value":
-            part, offset = question[1].split("-")
-            same(f"practice, {len(after)} objects, before", f"{part} {int(offset):06o} {question[3]:06o}" in " ".join(tools.step(len(here), here)), True)
+            same(f"practice, {len(after)} objects, before", question[3], Session([Given(file) for file in here]).rows()[question[1]].value)
         here, count = after, count + bool(question)
     return count
 
@@ -484,13 +539,14 @@ return predictionOf(view.done + 1).isRight;
 
 def result(_, page, __):
     """At the end of a lesson the page says how many answers were right and wrong, and how many questions are open."""
+    page.run("sessionStorage.clear()")
     page.open("#lesson=7&done=0")
     given = []
     for done in range(page.run("return GUIDES[7].steps.length - 1")):
         if page.run("return isAsked()") and len(given) < 3:
             given.append(page.run(ANSWER, len(given) != 1))
         page.run("goTo(7, arguments[0])", done + 1)
-    same("the result of a lesson", (given, page.run("return document.querySelector('#guide .result')?.textContent")), ([True, False, True], "Your answers: 2 right, 1 wrong, 1 open."))
+    same("the result of a lesson", (given, page.run("return document.querySelector('#guide .result')?.textContent")), ([True, False, True], "Your first answers: 2 right, 1 wrong, 1 open."))
 
 
 def distances(_, page, __):
@@ -559,5 +615,5 @@ def ends(tools, page, _):
 # the checks of this file, and the pages that each is for: the class example, a program in C, pointers and bss, sixteen objects
 CHECKS = (
     (first_view, (0,)), (roles, (0,)), (stops, (3,)), (keys, (0,)), (history, (0,)), (tour, (0,)), (lessons, (0, 1, 2)), (wrong_answer, (0,)), (numbers, (0,)), (leads, (0,)),
-    (texts, (0,)), (presenter, (3,)), (projector, (0,)), (paper, (0,)), (maps, (0, 1, 2)), (practice, (0, 1, 2)), (result, (0,)), (beside, (0, 3)), (old_browser, (0,)),
-    (distances, (1,)), (ends, (0,)), (reasons, (0, 1, 2)))
+    (texts, (0,)), (presenter, (3,)), (projector, (0,)), (paper, (0,)), (handouts, (0, 1, 2)), (maps, (0, 1, 2)), (practice, (0, 1, 2)), (result, (0,)), (beside, (0, 3)), (old_browser, (0,)),
+    (distances, (1,)), (ends, (0,)), (reasons, (0, 1, 2)), (hints, (0,)))

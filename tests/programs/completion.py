@@ -39,9 +39,6 @@ WANTED = [
     ("v7-explain REA", ["README.md"]),
     ("v7-object main", ["main.lst"]),
     ("v7-from-gnu -o t", ["total"]),
-    ("v7-lesson twi", ["twice.o"]),
-    ("v7-lesson -n 1 -q less", ["lessons.txt"]),
-    ("?v7-lesson -n", ["-n"]),
 ]
 ASK = r"""
 . "$1"; shift
@@ -71,7 +68,7 @@ def check_bash(file):
     count = 0
     for typed, wanted in WANTED:
         same(f"bash: {typed}", sorted(bash(file, typed)), sorted(wanted))
-    for command in ("v7 ld", "v7 nm", "v7-explain", "v7-from-gnu", "v7-lesson"):
+    for command in ("v7 ld", "v7 nm", "v7-explain", "v7-from-gnu"):
         offered = bash(file, f"?{command} -")
         shown = {line.split(" ")[0] for line in offered if not line.startswith("--")}
         same(f"bash: {command}", shown, options_of(command.replace(" ", "-")))

@@ -4,7 +4,7 @@ usage: python3 -m tests.programs.installed look FOLDER      what is below this f
        python3 -m tests.programs.installed            installs the programs by packaging/installed.py, as `make install` does, into a new
                                            folder, with the mask 077; looks, calls a program as another user, and uninstalls
 
-tier: check, 10 seconds; programs: v7 v7-explain v7-object v7-from-gnu v7-lesson; for: packaging/installed.py docs man examples;
+tier: check, 10 seconds; programs: v7 v7-explain v7-object v7-from-gnu v7.html; for: packaging/installed.py docs man examples;
  needs: cmark-gfm mandoc
 
 A file FOO.gz may be in place of FOO, as on Debian.
@@ -108,7 +108,7 @@ def make():
             faults += [] if said == wanted else [f"{program}: {said}"]
         there = {os.path.relpath(path, root) for path in glob.glob(f"{root}/**", recursive=True)}
         has_html = installed.has_tools()
-        for wanted in ("doc/v7/lesson.html", "doc/v7/docs/TUTORIAL.html", "doc/v7/man/v7.1.html", "man/man1/v7-ld.1",
+        for wanted in ("doc/v7/v7.html", "doc/v7/docs/TUTORIAL.html", "doc/v7/man/v7.1.html", "man/man1/v7-ld.1",
                        "bash-completion/completions/v7-explain", "zsh/site-functions/_v7"):
             if f"share/{wanted}" not in there and (has_html or not wanted.endswith(".html")):
                 faults.append(f"share/{wanted} is not installed")

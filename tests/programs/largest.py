@@ -2,10 +2,10 @@
 
 A contract cannot say that memory is found, so a body that answers `no memory` from some size on is proved. Here it fails. What the five
 tools and libv7 give is that of tests/oracles/model.py, instructions are those of tests/oracles/disassembly.py, remarks those of
-tests/oracles/notes.py; of rows, maps and lessons the words and the names are counted.
+tests/oracles/notes.py; of rows and maps the words and the names are counted.
 
 usage: python3 -m tests.programs.largest [ROW ..]      all rows of the table, or these: 'v7-explain -m, objects'
-tier: check, 120 seconds; programs: v7 v7-explain v7-object v7-from-gnu v7-lesson libv7.so;
+tier: check, 120 seconds; programs: v7 v7-explain v7-object v7-from-gnu libv7.so;
  for: crates/checks crates/link_maps crates/library_calls
 """
 import dataclasses
@@ -271,26 +271,6 @@ def mapped(kind):
     same("-m -y, externals", NAME.findall(text), [*map(in_listing, asked)])
 
 
-# --- v7-lesson
-
-def taught(kind):
-    """The last addition, with each word and each name, and how many marks it leaves; and nothing after all are withdrawn."""
-    together, paths = merged(kind), written(encoded(kind))
-    status, text, errors = answer("v7-lesson", "-n", str(len(paths)), *paths)
-    same("status", (status, errors), (0, ""))
-    lines = text.split("\n")[:-1]
-    same("title", lines[0], f"add {paths[-1]}")
-    for segment, words in (("text", [file.words for file in KINDS[kind]]), ("data", [file.data for file in KINDS[kind]])):
-        found = [line.split()[1] for line in lines if line.startswith(f"  {segment} ")]
-        same(segment, found, [f"{2 * place:06o}" for place in range(sum(map(len, words)))])
-    names = re.findall(r"^  name (\S+): (?!multiply)", text, re.M)
-    same("names", names, [*map(in_listing, together.externals)])
-    same("multiples", len(re.findall("^  name .*: multiply defined$", text, re.M)), len(together.multiples))
-    same("marks", len(re.findall("^  mark ", text, re.M)), MARKS.get(kind, 0))
-    last = str(2 * len(paths))
-    same("the end", answer("v7-lesson", "-n", last, *paths), (0, f"withdraw {paths[0]}\n  nothing\n", ""))
-
-
 # --- v7-from-gnu
 
 def long_named(count, kind, first=0):
@@ -472,7 +452,6 @@ TABLE = [
     ("v7-explain -l", inventoried, [*KINDS]),
     ("v7-explain -s", shown_in_rows, [*KINDS]),
     ("v7-explain -m", mapped, GOOD),
-    ("v7-lesson", taught, GOOD),
     ("v7-from-gnu", converted, [*GNU_FILES]),
     ("v7-from-gnu -o", converted_together, [*GNU_LISTS]),
 ]

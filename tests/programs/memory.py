@@ -2,7 +2,7 @@
 tests/libv7/c/calls.c does the same with the calls of libv7.
 
 usage: python3 -m tests.programs.memory [CALL ..]      all calls of the table, or these: 'v7 nm'
-tier: check, 90 seconds; programs: v7 v7-explain v7-object v7-from-gnu v7-lesson; for: crates/surroundings tests/lib/watch.c
+tier: check, 90 seconds; programs: v7 v7-explain v7-object v7-from-gnu; for: crates/surroundings tests/lib/watch.c
 
 A call is run as it is, and then with its first request refused, with its second, and so on, until a run makes fewer requests; and with
 each of them and all after it. For each call a line has their number, and how many of the runs came out as if nothing had been refused. In
@@ -95,11 +95,6 @@ def calls():
     yield Call("v7-object", ["v7-object", "main.lst", "out"], examples("main.lst"))
     yield Call("v7-from-gnu", ["v7-from-gnu", "squares.gnu", "out"], GNU)
     yield Call("v7-from-gnu -o", ["v7-from-gnu", "-o", "made", *map(os.fsdecode, GNU)], {**GNU, b"made/old": b""})
-    questions = b"lesson A\nadd main.o\nask changes Which word changes?\nadd twice.o\n"
-    lessons = {**examples("k.o", "l.o", "main.o", "twice.o"), b"questions": questions}
-    yield Call("v7-lesson", ["v7-lesson", "k.o", "l.o"], lessons, rb"(?m)^\w+ \S+\.o$")
-    yield Call("v7-lesson -c", ["v7-lesson", "-c", "k.o", "l.o"], lessons, rb"(?m)^\w+ \S+\.o$")
-    yield Call("v7-lesson -p", ["v7-lesson", "-p", os.path.join(TOP, "page"), "-q", "questions", "main.o", "twice.o"], lessons)
 
 
 # --- runs
@@ -155,8 +150,7 @@ class Command:
         """Judges a run in which a request was refused: how far it went."""
         same("status", came.status, 2)
         name = self.call.words[0]
-        # the lesson says where it was
-        if not re.fullmatch(f"{name}: {'(.+: )?' * (name == 'v7-lesson')}{FAULTS['memory']}\n", os.fsdecode(came.error)):
+        if not re.fullmatch(f"{name}: {FAULTS['memory']}\n", os.fsdecode(came.error)):
             raise Differs(f"standard error: {came.error!r}")
         if not self.whole.output.startswith(came.output) or len(came.output) not in self.beginnings:
             raise Differs(f"standard output has a part of an answer: {came.output[-80:]!r}")

@@ -2,8 +2,8 @@
 of `data/`, it has to print the bytes of `stdout`, and to end with the status of `status`. `rt ci` compares those of proved programs,
 once all is proved.
 
-tier: test, 3 seconds; programs: v7 v7-explain v7-object v7-from-gnu v7-lesson library_uses;
- for: crates/v7_explain crates/v7_lesson crates/library_uses
+tier: test, 3 seconds; programs: v7 v7-explain v7-object v7-from-gnu library_uses;
+ for: crates/v7_explain crates/library_uses
 """
 import os
 

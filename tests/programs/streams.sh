@@ -3,13 +3,13 @@
 # error, what is read from one is a read error, and no file that a command opens takes the place of one. It also tries more files than may
 # be open, a device that is full, an output that is the input, and files that are larger than the memory.
 #
-# tier: check, 10 seconds; programs: v7 v7-explain v7-object v7-from-gnu v7-lesson; for: crates/surroundings
+# tier: check, 10 seconds; programs: v7 v7-explain v7-object v7-from-gnu; for: crates/surroundings
 set -u
 cd "$(dirname "$0")/../.."
 build=$(realpath "${V7_BUILD:-build}")
 top=$PWD
 PATH=$build:$PATH
-for program in v7 v7-explain v7-object v7-from-gnu v7-lesson; do
+for program in v7 v7-explain v7-object v7-from-gnu; do
     [ -x "$build/$program" ] || { echo "$build/$program is missing: make builds it"; exit 2; }
 done
 work=$(mktemp -d)
@@ -130,11 +130,9 @@ for letter in '' -d -l -s -m '-y _main'; do
 done
 said='v7-explain: reported: a program; relocation removed, so ld cannot link it again'
 tried 'v7-explain -c, output closed' 1 "$said" v7-explain -c reported >&-
-tried 'v7-lesson, output closed' 2 "v7-lesson: $(fault_words write)" v7-lesson main.o >&-
 if [ -c /dev/full ]; then
     tried 'v7-explain, device full' 2 "v7-explain: $(fault_words write)" v7-explain main.o >/dev/full
     tried 'v7-explain -o, device full' 2 "v7-explain: /dev/full: $(fault_words write)" v7-explain -o /dev/full main.o >answers
-    tried 'v7-lesson, device full' 2 "v7-lesson: $(fault_words write)" v7-lesson main.o >/dev/full
 fi
 
 # an output to which a link leads is refused if it is the input, which stays as it was
@@ -168,10 +166,6 @@ if (ulimit -v 200000 && exec v7-explain main.o) >answers 2>fault; then
         (ulimit -v 200000 && exec "$@")
     }
     ln -s /dev/zero zero
-    for words in 'v7-lesson zero' 'v7-lesson large' "v7-lesson -p $top/page -q zero main.o"; do
-        file=${words% main.o}
-        tried "$words" 2 "v7-lesson: ${file##* }: file too long" limited $words >answers
-    done
     for words in v7-explain 'v7-explain -c' 'v7-explain -o out' 'v7-explain -m'; do
         tried "$words zero" 2 "v7-explain: zero: $(fault_words open)" limited $words zero >answers
         tried "$words large" 2 'v7-explain: large: file too long' limited $words large >answers

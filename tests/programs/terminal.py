@@ -5,7 +5,7 @@ The terminal is a pseudo-terminal, by the module `pty`. What is expected here is
 v7-session(1). Options are those of the manual pages. Random command lines, always the same, show that a reason is given for those
 that v7 refuses, and for no others.
 
-tier: check, 25 seconds; programs: v7 v7-explain v7-from-gnu v7-lesson v7-object;
+tier: check, 25 seconds; programs: v7 v7-explain v7-from-gnu v7-object;
  for: crates/v7 crates/command_words crates/surroundings man
 """
 import os
@@ -81,13 +81,6 @@ BESIDE = {
         ("-o", "-o needs the next argument as its value"), ("-oq a b", "-o needs the next argument as its value"),
         ("-o a -o b c", "-o takes one value"), ("a b -z", "there is no option -z"), ("-Sz a b", "there is no option -z"),
         ("a b --x", "an option has one letter, but for --help and --version")],
-    "v7-lesson": [
-        ("", "it needs a file"), ("-z a.o", "there is no option -z"),
-        ("a.o --step", "an option has one letter, but for --help and --version"), ("a.o -n", "-n needs the next argument as its value"),
-        ("-n 0 a.o", "-n needs a number from 1 on"), ("-n x a.o", "-n needs a number from 1 on"),
-        ("-n 1 -n 1 a.o", "-n takes one value"), ("-q a b.o", "-q needs -p"), ("-p a b.o -c", "-p and -c exclude each other"),
-        ("-n 1 a.o -p b", "-n and -p exclude each other"), ("-p", "-p needs the next argument as its value"),
-        ("-p a -q", "-q needs the next argument as its value"), ("-p a -q b", "it needs a file")],
 }
 # arguments that ask for help
 HELP = [([], None), (["help"], None), (["help", "help"], None), (["--help"], None), (["ld", "-r", "--help"], "ld")]

@@ -5,7 +5,7 @@ The shell begins at the top of a folder that is like a clone after `make quick`,
 README make the copy of the examples. What a page shows are its blocks that begin with "$ "; tests/programs/manual.sh runs all pages
 through pipes.
 
-tier: check, 2 seconds; programs: v7 v7-explain v7-object v7-from-gnu v7-lesson; for: crates/v7 docs examples README.md; needs: pdp11
+tier: check, 2 seconds; programs: v7 v7-explain v7-object v7-from-gnu; for: crates/v7 docs examples README.md; needs: pdp11
 """
 import os
 import pty

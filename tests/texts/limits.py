@@ -58,7 +58,7 @@ LIMITS = [
         "docs/LINK.md": "what is written to a file | 512 bytes; {} |",
     }),
     ("v7_explain/src/explaining.rt", "MOST_BYTES", {
-        "docs/LINK.md": "; a file for `v7-lesson`; a listing or an object in GNU's form | {} bytes;",
+        "docs/LINK.md": "; a listing or an object in GNU's form | {} bytes;",
         "man/v7-explain.1": "The file has more than {} bytes,",
     }),
     ("v7_object/src/making.rt", "MOST_BYTES", {
@@ -66,13 +66,6 @@ LIMITS = [
     }),
     ("v7_from_gnu/src/reading.rt", "MOST_BYTES", {
         "man/v7-from-gnu.1": "The file has more than {} bytes.",
-    }),
-    ("v7_lesson/src/page.rt", "PAGE_LIMIT", {
-        "docs/LINK.md": "if it has every order of them | {} bytes;",
-        "man/v7-lesson.1": "The file has more than {} bytes,",
-    }),
-    ("v7_lesson/src/states.rt", "ALL_ORDERS", {
-        "docs/LINK.md": "bytes; {} | there is no page",
     }),
 ]
 

@@ -35,8 +35,6 @@ WIRES = [
     "crates/v7tools/src/program.rt: error: Wire::new(StandardError::new(rt)),",
     "crates/library_calls/src/written.rt: let mut wire = Wire::new(Vec::new(alloc));",
     "crates/library_calls/src/file_calls.rt: let mut wire = Wire::new(Vec::new(alloc));",
-    "crates/v7_lesson/src/links.rt: let mut lines = Wire::new(Vec::new(out.allocator()));",
-    'crates/v7_lesson/src/files.rt: read_object(alloc, &mut Wire::new(bytes)).map_err(|fault| anyhow!("{path}: {fault}"))',
     "crates/surroundings/src/disk.rt: let mut out = Wire::new(PieceWriter::new(device, replaces));",
     "crates/surroundings/src/disk.rt: Ok(device) => store_text_on(text, &mut Wire::new(PieceWriter::new(device, replaces))),",
     "crates/surroundings/src/shown.rt: output: Wire::new(io::writer(rt)),",

@@ -1,0 +1,244 @@
+"""The model of a state of a session, by tests/oracles/model.py: what the page shows is compared with it."""
+import functools
+import os
+import re
+
+from tests.lib.files import read_bytes
+from tests.oracles import model
+from tests.page.page_tools import PARTS, WORD, addend_said, known_as, listing, size_said
+
+SEGMENT = {0o2: "text", 0o4: "data", 0o6: "bss"}
+# what is known of a name that is defined, or of an undefined one
+KNOWN = {model.UNDEFINED: "common", model.ABSOLUTE: "number", **model.SEGMENTS}
+
+
+def counted(number, what):
+    return f"{number} {what}{'' if number == 1 else 's'}"
+
+
+def branch_of(word, address):
+    """The address to which a word branches, if it does."""
+    if word & 0o177000 == 0o077000:
+        return (address + 2 - 2 * (word & 0o77)) % WORD
+    if 0o400 <= word < 0o4000 or 0o100000 <= word < 0o104000:
+        return (address + 2 + 2 * (word & 0o377) - (0o1000 if word & 0o200 else 0)) % WORD
+    return None
+
+
+class Given:
+    """An object: its words with their relocation words, its symbols, and its instructions as v7-explain has them."""
+
+    def __init__(self, path):
+        self.path, self.name, self.file = path, os.path.basename(path), model.read_object(read_bytes(path))
+        self.text, self.data, self.bss = map(self.file.size, model.SEGMENTS)
+        self.words = {model.SEGMENTS[segment]: words for segment, words in self.file.words.items()}
+        self.symbols = [(one.name.decode("latin-1"), one.type, one.value) for one in self.file.symbols]
+
+    def start(self, segment):
+        return {"text": 0, "data": self.text, "bss": self.text + self.data}[segment]
+
+    @functools.cached_property
+    def instructions(self):
+        """The instructions by the index of their first words; words that are none are left out."""
+        found, index = {}, 0
+        for line in listing(self.path).splitlines():
+            again = re.match(r"/ .*: the row before, (\d+) times", line)
+            row = re.match(r"([0-7]{6})  (?:[0-7]{6} ?)+ +(.*)", line)
+            if again:
+                found.update({index + i: "halt" for i in range(1, int(again[1]) + 1)})
+            elif row:
+                index = int(row[1], 8) // 2
+                found[index] = re.sub(r" */ .*", "", row[2])
+        return {index: text for index, text in found.items() if not re.fullmatch("[0-7]{6}", text)}
+
+    def branch(self, index):
+        """Where the branch of an instruction to a number leads."""
+        target, text = branch_of(self.words["text"][index][0], 2 * index), self.instructions.get(index, "")
+        is_number = target is not None and self.words["text"][index][1] & 0o17 == 0 and re.search(f"[ ,]{target:o}$", text)
+        return target if is_number else None
+
+
+class Word:
+    """A word of the image: its value, the pc bit, what it refers to (a segment, "" for a number, or None while it waits), the name that its
+    object has for it, and the place that is meant. Then its object, its segment, index, value and relocation word there."""
+
+    def __init__(self, value, pc, kind, name, added, meant):
+        self.value, self.pc, self.kind, self.name, self.added, self.meant = value, pc, kind, name, added, meant
+        self.of, self.part, self.index, self.own, self.reloc = None, "", 0, 0, 0
+
+
+class Session:
+    """What a session of some objects knows."""
+
+    def __init__(self, objects):
+        merged = model.Merged([one.file for one in objects], ())
+        named = lambda sizes: {name: sizes[segment] for segment, name in model.SEGMENTS.items()}
+        self.objects, self.sizes, self.words = objects, named(merged.sizes), {}
+        self.names = {name.decode("latin-1"): ("undefined" if external.is_undefined else KNOWN[external.kind], external.value)
+                      for name, external in merged.externals.items()}
+        self.multiples = [*dict.fromkeys(name.decode("latin-1") for name in merged.multiples)]
+        self.fronts = [*map(named, merged.before)]
+        for one, front in zip(objects, self.fronts):
+            for part in PARTS:
+                for index, (word, reloc) in enumerate(one.words[part]):
+                    made = self.words[part, front[part] + 2 * index] = self.word(one, front, part, index, word, reloc)
+                    made.of, made.part, made.index, made.own, made.reloc = one, part, index, word, reloc
+
+    def word(self, one, front, part, index, word, reloc):
+        pc, kind = reloc & 1, reloc & 0o16
+        meant, next_one = (word + one.start(part) + 2 * index + 2) % WORD if pc else word, front[part] + 2 * index + 2
+        if kind == 0:
+            return Word((meant - next_one) % WORD if pc else word, pc, "", "", 0, meant)
+        if kind in SEGMENT:
+            name, added, segment, meant = "", 0, SEGMENT[kind], (meant - one.start(SEGMENT[kind]) + front[SEGMENT[kind]]) % WORD
+        else:
+            name, added = one.symbols[reloc >> 4][0], meant
+            segment, place = self.names[name]
+            segment, meant = (None, added) if segment in ("undefined", "common") else ("" if segment == "number" else segment, (place + added) % WORD)
+        return Word((meant - next_one) % WORD if pc else meant, pc, segment, name, added, meant)
+
+    def waiting(self):
+        """The names for which words wait, one for each word, object by object."""
+        waiting = [word for word in self.words.values() if word.kind is None]
+        return [word.name for one in self.objects for part in PARTS for word in waiting if word.of is one and word.part == part]
+
+    def in_order(self):
+        """The words with their segments and offsets, in the order of the image."""
+        return sorted(self.words.items(), key=lambda item: (PARTS.index(item[0][0]), item[0][1]))
+
+    def rows(self):
+        """The words by the ids of their rows."""
+        return {f"{part}-{offset}": word for (part, offset), word in self.words.items()}
+
+    def place(self, word, minus="\u2212"):
+        if word.kind is None:
+            return f"waits for {word.name}{addend_said(word.added, minus)}"
+        if word.kind and word.meant >= WORD // 2 and word.meant > self.sizes[word.kind]:
+            return f"{word.kind} {minus} {WORD - word.meant:o}"
+        return f"{word.kind or 'a number'} {word.meant:06o}" if word.kind or word.pc else "a number"
+
+    def place_id(self, word):
+        """The id of the row of the place that a word means in the image."""
+        if not word.kind:
+            return f"outside-{word.meant}" if word.kind == "" and word.pc and not word.name else ""
+        size = self.sizes[word.kind]
+        if word.meant < size:
+            return f"{word.kind}-{word.meant - (word.meant % 2 if word.kind != 'bss' else 0)}"
+        return f"{word.kind}-end" if word.meant == size else f"{word.kind}-beyond-{word.meant}"
+
+    def instruction(self, word, offset):
+        """The instruction that begins at a word; a branch has its place in the image, and then that of its object."""
+        text = word.of.instructions.get(word.index, "") if word.part == "text" else ""
+        target = word.of.branch(word.index) if text else None
+        if target is None or offset == 2 * word.index:
+            return text
+        return f"{text[:-len(f'{target:o}')]}{(target + offset - 2 * word.index) % WORD:o}, in {word.of.name} {target:o}"
+
+    def labels(self):
+        """The labels at words, in no order: each with the element that it is, `S` if another definition of its name counts."""
+        found = {}
+        for one, front in zip(self.objects, self.fronts):
+            for name, kind, value in one.symbols:
+                part = {2: "text", 3: "data"}.get(kind % 32)
+                index = (value - one.start(part)) % WORD // 2 if part else WORD
+                if index < len(one.words.get(part, ())):
+                    place = front[part] + 2 * index
+                    counts = not kind & model.EXTERNAL or self.names[name] == (part, place)
+                    found.setdefault((part, place), []).append([f"{name}:", "SPAN" if counts else "S"])
+        for name, place in self.names.items():
+            if place in self.words and f"{name}:" not in [said for said, _ in found.get(place, [])]:
+                found.setdefault(place, []).append([f"{name}:", "SPAN"])
+        return {f"{part}-{offset}": sorted(labels) for (part, offset), labels in found.items()}
+
+    def heads(self):
+        """The headings of the segments."""
+        return [f"{part} {size_said(size)}" for part, size in self.sizes.items() if size]
+
+    def lines(self):
+        """The words, bss and the names, as the page shows them."""
+        lines = []
+        for (part, offset), word in self.in_order():
+            said = self.instruction(word, offset)
+            lines.append(f"{part} {offset:06o} {word.value:06o} {'pc ' * word.pc}{self.place(word)}{f' / {said}' * bool(said)}")
+        lines += [f"bss {size_said(self.sizes['bss'])}"] * (self.sizes["bss"] > 0)
+        names = [f"name {name}: {known_as(*known)}" for name, known in self.names.items()]
+        return [*lines, *sorted([*names, *(f"name {name}: multiply defined" for name in self.multiples)])]
+
+
+class Step:
+    """What the last step did: an object was added to a session, or withdrawn."""
+
+    def __init__(self, objects, is_gone=False):
+        self.one, self.is_gone = objects[-1], is_gone
+        self.before, self.after = Session(objects[:-1]), Session(objects)
+        old, new = self.before.words, self.after.words
+        self.changed = sorted((key for key in old if old[key].kind is None and new[key].kind is not None), key=lambda key: (PARTS.index(key[0]), key[1]))
+        self.renamed = [name for name, known in self.before.names.items() if known != self.after.names[name]]
+
+    def marks(self):
+        """What the addition overwrote, in no order."""
+        words = [(key, self.before.words[key]) for key in self.changed]
+        return sorted([*(f"{name} was {known_as(*self.before.names[name])}" for name in self.renamed),
+                       *(f"{part} {offset:06o} was {word.value:06o} {'pc ' * word.pc}{self.before.place(word)}" for (part, offset), word in words)])
+
+    def status(self):
+        words = f": {counted(len(self.changed), 'word')} {'put back' if self.is_gone else 'bound'}" if self.changed else ""
+        return f"{'Withdrew' if self.is_gone else 'Added'} {self.one.name}{words}"
+
+    def sentence(self):
+        """What the page says of the step."""
+        if not self.changed:
+            return " ".join([self.brought(), *self.doubled()])
+        part, offset = self.changed[0]
+        old, new = self.before.words[part, offset], self.after.words[part, offset]
+        at, where = self.after.names[old.name][1], f"The word at {part} {offset:06o}"
+        more = [f"{counted(len(self.changed) - 1, 'other word')} changed too."] * (len(self.changed) > 1)
+        if self.is_gone:
+            return " ".join([f"{where} waits for {old.name} again: its mark gave it back what it was, {old.value:06o}.", *more])
+        sign = lambda number: str(number if number < WORD // 2 else number - WORD).replace("-", "\u2212")
+        decimal = f", in decimal {sign(old.value)} + {sign(at)} = {sign(new.value)}" if new.pc and old.value >= WORD // 2 else ""
+        distance = f", the distance from {offset + 2:06o} to {new.meant:06o}" if new.pc and new.kind == part else ""
+        said = f"{where} waited for {old.name}. This is at {at:06o} now, so the linker added it: {old.value:06o} + {at:06o} = {new.value:06o}{decimal}{distance}."
+        return " ".join([said, *more, *self.doubled()])
+
+    def doubled(self):
+        """The names that the object defines a second time."""
+        new = [name for name in self.after.multiples if name not in self.before.multiples]
+        return [f"{name} is defined a second time: the first definition counts." for name in new if not self.is_gone]
+
+    def brought(self):
+        names = len(self.after.names) - len(self.before.names)
+        parts = [(self.one.text, f"{counted(self.one.text // 2, 'word')} of text"), (self.one.data, f"{counted(self.one.data // 2, 'word')} of data"),
+                 (self.one.bss, f"{size_said(self.one.bss)} of bss"), (names, counted(names, "name"))]
+        said = ", ".join(text for number, text in parts if number)
+        if self.is_gone:
+            return f"{said or 'Nothing'} of {self.one.name} cut off."
+        waiting = self.after.waiting()
+        names = [*dict.fromkeys(waiting)]
+        waits = f"{counted(len(waiting), 'word')} wait{'s' if len(waiting) == 1 else ''} for {counted(len(names), 'name') if len(names) > 3 else ', '.join(names)}." if waiting else "No word waits for a name."
+        return f"{self.one.name} brought {said or 'nothing'}. {waits}"
+
+    def names(self):
+        """The rows of the names: each with what is known, what is struck out, and its tag; first those that changed, then new ones."""
+        old, new, rows = self.before.names, self.after.names, []
+        for name in new:
+            state, was, tag = known_as(*new[name]), "", "" if name in old else "new"
+            if self.is_gone:
+                state, tag = (state, "cut off") if name not in old else (known_as(*old[name]), "")
+            if name in self.renamed:
+                was, tag = known_as(*(new if self.is_gone else old)[name]), "put back" if self.is_gone else "changed"
+            rows.append([name, state, was, tag])
+        order = {"changed": 0, "put back": 0, "new": 1, "cut off": 1, "": 2}
+        rows.sort(key=lambda row: order[row[3]])
+        kept = self.before.multiples
+        tag = lambda name: "" if name in kept else "cut off" if self.is_gone else "new"
+        return rows + [[name, "multiply defined", "", tag(name)] for name in self.after.multiples]
+
+    def struck(self):
+        """What each word was that the step changed."""
+        found = {}
+        for part, offset in self.changed:
+            old, new = self.before.words[part, offset], self.after.words[part, offset]
+            said = f"{new.value:06o} {new.name}{addend_said(new.added)} = {self.after.place(new)}" if self.is_gone else f"{old.value:06o} {self.before.place(old)}"
+            found[f"{part}-{offset}"] = said
+        return found
