@@ -27,6 +27,7 @@ mod LoadedLemmas
 mod MoveLemmas
 mod OperandLemmas
 mod OperandPlaceLemmas
+mod OriginLemmas
 mod ReachedInstructionLemmas
 mod RefusalLemmas
 mod RelocatedLemmas

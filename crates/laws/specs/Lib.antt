@@ -14,3 +14,4 @@ pub mod Disks
 pub mod SessionsByCommands
 pub mod Calls
 pub mod Builds
+pub mod Origins
