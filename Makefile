@@ -129,7 +129,8 @@ demo: build/v7
 	@echo 'Each function of build/v7 is proved. next: make, which proves the other programs; docs/TUTORIAL.md'
 
 # the page: one file with the linker, compiled for WebAssembly from the module of the proved libv7, and the objects and lessons of examples/.
-# `make build/quick/v7.html` makes it of what `make quick` compiles
+# `make build/quick/v7.html` makes it of what `make quick` compiles. It takes Debian's binaryen: without it the rest is built
+PAGE := $(if $(shell command -v wasm-opt),v7.html)
 page: build/v7.html
 
 build/v7.wasm: crates/v7_c/out/libv7_c.a
@@ -163,7 +164,7 @@ gate:
 # the cheapest first, so that a fault shows early. The gate leaves the programs that the tests of `check` run. Beside these, wrong bodies
 # of crates that have changed are tried, for 15 minutes. A minute before V7_CI_SECONDS are over it names what is left out, and fails
 check:
-	@MINUTES=15 python3 -m tests parts 'make test' 'make gate' 'make all lib page build/library_uses' \
+	@MINUTES=15 python3 -m tests parts 'make test' 'make gate' 'make all lib $(PAGE:%=build/%) build/library_uses' \
 		'make check-wrong-bodies & python3 -m tests check; status=$$?; wait $$! && exit $$status' $(MORE)
 
 # all wrong bodies, in place of those of crates that have changed, and without a limit of time
@@ -189,7 +190,7 @@ bench: build/v7 build/v7-explain build/v7-from-gnu build/v7-object
 
 # the programs, and what the package v7 has besides; uninstall takes away what install and install-lib have put there
 $(PROGRAMS:build/%=build/quick/%): build/quick/libv7_c.a ;
-install: $(PROGRAMS:build/%=$(FROM)/%) $(FROM)/v7.html
+install: $(PROGRAMS:build/%=$(FROM)/%) $(PAGE:%=$(FROM)/%)
 	rm -rf $(STAGE)
 	python3 packaging/installed.py put $(FROM) $(STAGE)$(PREFIX)
 	python3 packaging/installed.py copy $(STAGE) '$(DESTDIR)' $(PREFIX)

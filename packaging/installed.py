@@ -178,8 +178,12 @@ def put(build, to, has_html=None, made=()):
     for path in files_in(["man"]):
         if not path.endswith(".3"):
             write(f"{to}/share/man/man{path[-1]}/{os.path.basename(path)}", read_bytes(f"{TOP}/{path}"))
-    documents(f"{to}/share/doc/v7", DOCUMENTS, has_tools() if has_html is None else has_html, ["v7.html", *made])
-    write(f"{to}/share/doc/v7/v7.html", read_bytes(f"{build}/v7.html"))
+    page = [name for name in ("v7.html",) if os.path.exists(f"{build}/{name}")]
+    if not page:
+        print("no page is installed: `make page` makes it", file=sys.stderr)
+    documents(f"{to}/share/doc/v7", DOCUMENTS, has_tools() if has_html is None else has_html, [*page, *made])
+    for name in page:
+        write(f"{to}/share/doc/v7/{name}", read_bytes(f"{build}/{name}"))
     bash, zsh = completion.texts()
     for name in PROGRAMS:
         write(f"{to}/share/bash-completion/completions/{name}", bash)

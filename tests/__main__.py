@@ -316,7 +316,7 @@ def concern(path, test):
         imports = " ".join(re.findall(r"^ *(?:from|import) .*", read(test.path), re.M))
         return "uses it" if re.search(rf"\b{os.path.basename(path)[:-3]}\b", imports) else ""
     crate = path.split("/")[1] if path.startswith("crates/") else None
-    own = [name for name in test.words("programs") if crate in below({**CRATES, "libv7.so": "v7_c", "v7.wasm": "v7_c", "v7.html": "v7_c"}[name], crates_in(TOP))]
+    own = [name for name in test.words("programs") if crate in below({**CRATES, "libv7.so": "v7_c"}[name], crates_in(TOP))]
     return f"runs {' '.join(sorted(own))}" if own else ""
 
 

@@ -5,7 +5,7 @@ cannot grow.
 
 usage: python3 -m tests.libv7.module             compares
        python3 -m tests.libv7.module -m COUNT    makes so many random changes of the module, and says which are not found
-tier: check, 120 seconds; programs: libv7.so v7.wasm; for: page/session.js packaging/heap.c tools/module.py; needs: node wasm-opt
+tier: check, 120 seconds; programs: libv7.so; for: page/session.js packaging/heap.c tools/module.py; needs: node wasm-opt
 """
 import glob
 import hashlib
@@ -28,7 +28,7 @@ from tests.page.page_tools import CLASS, Scripts, Tools, planted, report, same
 
 OPTIONS = [0, 16, 32, 1, 2, 4, 8, 64, 65, 5, 20, 3, 48, 128]
 # what a job gives, by the linker of the page; a fault is a list of its number and its word
-PLAY = r"""(jobs, isShort) => {
+PLAY = r"""(jobs) => {
     const tried = (act) => {
         try {
             return act();
@@ -63,7 +63,7 @@ PLAY = r"""(jobs, isShort) => {
     return jobs.map(([name, ...words], i) => {
         const given = () => md5(JSON.stringify(tried(() => calls[name](...words))));
         const [wanted, out] = [given(), heap.heap_out()];
-        if (isShort && i % 5 === 0) {
+        if (i % 5 === 0) {
             for (let limit = 0; limit >= 0; limit = limit < 8 ? limit + 1 : limit * 2) {
                 heap.heap_limit(BigInt(limit));
                 const came = tried(() => calls[name](...words));
@@ -229,12 +229,12 @@ def digest(value):
 
 
 # ---- both
-def compare(scripts, jobs, wanted, is_short):
+def compare(scripts, jobs, wanted):
     """How many jobs differ in the module."""
     scripts.run(BEGIN)
     count = 0
     for start in range(0, len(jobs), 100):
-        came = scripts.run(PLAY, jobs[start:start + 100], is_short)
+        came = scripts.run(PLAY, jobs[start:start + 100])
         came = [came] * 100 if isinstance(came, dict) else came
         for job, one, other in zip(jobs[start:], came, wanted[start:start + 100]):
             count += one != other
@@ -290,7 +290,7 @@ def mutate(tools, count):
 def main(*words):
     if words[:1] == ("-w",):
         with Scripts(words[1]) as scripts:
-            return int(compare(scripts, *json.load(sys.stdin), False) > 0)
+            return int(compare(scripts, *json.load(sys.stdin)) > 0)
     notices(planted)
     with tempfile.TemporaryDirectory() as folder:
         tools = Tools(folder)
@@ -298,7 +298,7 @@ def main(*words):
             return mutate(tools, int(words[1]))
         jobs = jobs_of(300)
         with Scripts(tools.page_of(CLASS)) as scripts:
-            compare(scripts, jobs, [digest(native(job)) for job in jobs], True)
+            compare(scripts, jobs, [digest(native(job)) for job in jobs])
         check_heap(tools)
     print(f"{len(jobs)} calls of the module, and sessions")
     return report("by the module and by libv7")

@@ -7,7 +7,7 @@ docs/pictures are compared with the page. No other script starts a browser.
 usage: python3 -m tests.page.page [-j JOBS] [-s SEED] [PART ..]     all parts or these, so many side by side; the seed puts the sixteen
                                                                     objects into an order
        the parts: firefox, layout, stage, states, model, own, use; and pictures, which writes docs/pictures anew
-tier: all, 1500 seconds; words: -j 4; programs: v7 v7-explain v7-from-gnu v7.wasm;
+tier: all, 1500 seconds; words: -j 4; programs: v7 v7-explain v7-from-gnu;
  for: page examples/lessons.txt docs/pictures; needs: chromium chromedriver selenium firefox-esr wasm-opt
 """
 import argparse

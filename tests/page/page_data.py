@@ -2,7 +2,7 @@
 state (page_state.py) and with libv7 in Python, and links with what `v7 ld` writes and `v7 nm` prints. Then come the places that words mean,
 what it has of each object, and the answers of its lessons. Wrong files of lessons have to be refused.
 
-tier: check, 60 seconds; programs: v7 v7-explain libv7.so v7.wasm;
+tier: check, 60 seconds; programs: v7 v7-explain libv7.so;
  for: page packaging/page.py examples/lessons.txt tests/page; needs: node wasm-opt
 """
 import os

@@ -3,7 +3,9 @@ import json
 import os
 import random
 import re
+import shutil
 import subprocess
+import sys
 
 import page as pages  # of packaging
 from tests.lib.compare import Differs
@@ -121,6 +123,11 @@ class Tools:
 
     def __init__(self, folder):
         self.v7, self.explain, self.folder, self.module = program("v7"), program("v7-explain"), folder, os.path.join(TOP, BUILD, "v7.wasm")
+        if not os.path.exists(self.module) and not shutil.which("wasm-opt"):
+            print("not run, as wasm-opt is missing: Debian's package is binaryen")
+            sys.exit(0)
+        if not os.path.exists(self.module):
+            sys.exit(f"{self.module} is missing: make page makes it; or, after make quick: make build/quick/v7.html, V7_BUILD=build/quick")
 
     def page_of(self, files, name="page.html", lessons=""):
         """A page of these objects alone."""

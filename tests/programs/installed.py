@@ -4,7 +4,7 @@ usage: python3 -m tests.programs.installed look FOLDER      what is below this f
        python3 -m tests.programs.installed            installs the programs by packaging/installed.py, as `make install` does, into a new
                                            folder, with the mask 077; looks, calls a program as another user, and uninstalls
 
-tier: check, 10 seconds; programs: v7 v7-explain v7-object v7-from-gnu v7.html; for: packaging/installed.py docs man examples;
+tier: check, 10 seconds; programs: v7 v7-explain v7-object v7-from-gnu; for: packaging/installed.py docs man examples;
  needs: cmark-gfm mandoc
 
 A file FOO.gz may be in place of FOO, as on Debian.
@@ -110,7 +110,8 @@ def make():
         has_html = installed.has_tools()
         for wanted in ("doc/v7/v7.html", "doc/v7/docs/TUTORIAL.html", "doc/v7/man/v7.1.html", "man/man1/v7-ld.1",
                        "bash-completion/completions/v7-explain", "zsh/site-functions/_v7"):
-            if f"share/{wanted}" not in there and (has_html or not wanted.endswith(".html")):
+            is_made = os.path.exists(f"{BUILD}/v7.html") if "v7/v7.html" in wanted else has_html or not wanted.endswith(".html")
+            if f"share/{wanted}" not in there and is_made:
                 faults.append(f"share/{wanted} is not installed")
         faults += [f"a package has {installed.NOTED}"] if os.path.exists(f"{folder}/package{root}/{installed.NOTED}") else []
         subprocess.run([sys.executable, script, "remove", root], check=True)
