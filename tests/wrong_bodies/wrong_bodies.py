@@ -43,8 +43,6 @@ from tests.wrong_bodies import edits
 from tools import prove
 
 SEEN = "tests/wrong_bodies/wrong-bodies.seen"
-# what is noted of a crate that was never tried
-NEVER = "-", 0
 # of the time that `make check` has, what is left to say what was tried
 LAST_SECONDS = 10
 BLOCK = re.compile(r"( *)(?:pub(?:\(\w+\))? )?(impl|trait|mod)\b(.*)\{$")
@@ -290,7 +288,7 @@ class Trial:
         self.edits = [it for it in found if only is None or {crate.name, f"{crate.name}/{it.name}"} & only]
         self.results, self.apart, self.copies = {}, set(), 0
         # what the next copy may take, and what the longest one took
-        self.expected, self.seconds = noted().get(crate.name, NEVER)[1] or crate.functions() * prove.SECONDS_EACH, 0
+        self.expected, self.seconds = noted().get(crate.name, ("-", 0))[1] or crate.functions() * prove.SECONDS_EACH, 0
 
     def left(self):
         """The names of the edits of which nothing is known yet."""
@@ -441,7 +439,7 @@ def note(trials, digests):
     rows = {crate: (known if known == digest(crate) else "-", seconds) for crate, (known, seconds) in noted().items()}
     for name, trial in trials.items():
         if trial.copies or not trial.left():
-            _, seconds = rows.pop(name, NEVER)
+            _, seconds = rows.pop(name, ("-", 0))
             is_refused = not trial.left() and not trial.failed()
             rows[name] = digests[name] if is_refused else "-", trial.seconds or seconds
     write(SEEN, "".join(f"{crate} {known} {seconds or ''}".rstrip() + "\n" for crate, (known, seconds) in rows.items()))
