@@ -35,20 +35,20 @@ endif
 .NOTPARALLEL:
 .SECONDEXPANSION:
 .PHONY: all quick lib wheel dist page install install-lib uninstall clean help which check-text test gate check check-all \
-	check-wrong-bodies planted demo recheck bench build/quick/libv7_c.a
+	check-wrong-bodies planted demo recheck bench build/quick/liblibv7.a
 
 PROGRAMS := $(addprefix build/,v7 v7-from-gnu v7-object v7-explain)
 all: $(PROGRAMS)
 
 # a proved program, which `make gate` leaves too, at the same place
-$(PROGRAMS) build/library_uses: build/%: crates/$$(subst -,_,$$*)/out/$$(subst -,_,$$*)
+$(PROGRAMS): build/%: crates/$$(subst -,_,$$*)/out/$$(subst -,_,$$*)
 	mkdir -p build
 	cp $< $@
 
 # tools/prove.py proves a crate with the libraries under it, side by side where none waits for another, and builds it
 ifneq ($(filter-out $(LIGHT),$(or $(MAKECMDGOALS),all)),)
 crate_of = $(word 2,$(subst /, ,$@))
-PROVED := $(foreach crate,v7 v7_from_gnu v7_object v7_explain library_uses,crates/$(crate)/out/$(crate)) crates/v7_c/out/libv7_c.a
+PROVED := $(foreach crate,v7 v7_from_gnu v7_object v7_explain,crates/$(crate)/out/$(crate)) crates/libv7/out/liblibv7.a
 $(PROVED): crates.txt $$(shell python3 -m tools.prove --sources $$(crate_of))
 	python3 -m tools.prove $(crate_of) $@
 	touch $@
@@ -69,8 +69,8 @@ lib: build/libv7.a build/libv7.so
 
 # where it is: proved, and as `make quick` leaves it
 PLACES := build build/quick
-build/libv7.a: crates/v7_c/out/libv7_c.a
-build/quick/libv7.a: build/quick/libv7_c.a
+build/libv7.a: crates/libv7/out/liblibv7.a
+build/quick/libv7.a: build/quick/liblibv7.a
 $(PLACES:=/libv7.a):
 	mkdir -p $(@D)
 	rm -f $@
@@ -116,7 +116,7 @@ dist:
 	python3 packaging/dist.py
 
 # all as a release has it, but unproved. What has not changed is not compiled again
-build/quick/libv7_c.a:
+build/quick/liblibv7.a:
 	@python3 -m tools.sketch $(@D)
 
 quick: build/quick/libv7.so
@@ -133,9 +133,9 @@ demo: build/v7
 PAGE := $(if $(shell command -v wasm-opt),v7.html)
 page: build/v7.html
 
-build/v7.wasm: crates/v7_c/out/libv7_c.a
+build/v7.wasm: crates/libv7/out/liblibv7.a
 	python3 -m tools.module $@
-build/quick/v7.wasm: build/quick/libv7_c.a
+build/quick/v7.wasm: build/quick/liblibv7.a
 	python3 -m tools.module --quick $@
 $(PLACES:=/v7.wasm): tools/module.py packaging/heap.c page/session.js
 $(PLACES:=/v7.html): %/v7.html: %/v7.wasm packaging/page.py include/v7.h $(wildcard page/* examples/*.o examples/*/*.o examples/lessons.txt examples/*/lessons.txt)
@@ -164,7 +164,7 @@ gate:
 # the cheapest first, so that a fault shows early. The gate leaves the programs that the tests of `check` run. Beside these, wrong bodies
 # of crates that have changed are tried, for 15 minutes. A minute before V7_CI_SECONDS are over it names what is left out, and fails
 check:
-	@MINUTES=15 python3 -m tests parts 'make test' 'make gate' 'make all lib $(PAGE:%=build/%) build/library_uses' \
+	@MINUTES=15 python3 -m tests parts 'make test' 'make gate' 'make all lib $(PAGE:%=build/%)' \
 		'make check-wrong-bodies & python3 -m tests check; status=$$?; wait $$! && exit $$status' $(MORE)
 
 # all wrong bodies, in place of those of crates that have changed, and without a limit of time
@@ -189,7 +189,7 @@ bench: build/v7 build/v7-explain build/v7-from-gnu build/v7-object
 	python3 -m tests.costs.scaling
 
 # the programs, and what the package v7 has besides; uninstall takes away what install and install-lib have put there
-$(PROGRAMS:build/%=build/quick/%): build/quick/libv7_c.a ;
+$(PROGRAMS:build/%=build/quick/%): build/quick/liblibv7.a ;
 install: $(PROGRAMS:build/%=$(FROM)/%) $(PAGE:%=$(FROM)/%)
 	rm -rf $(STAGE)
 	python3 packaging/installed.py put $(FROM) $(STAGE)$(PREFIX)

@@ -22,7 +22,7 @@
  * something to report, and otherwise 0. *ANSWER is always filled. docs/LINK.md has all limits.
  *
  * V7_NO_MEMORY comes only at a stage at which nothing is refused. A call takes memory after it has accepted the options, the
- * form, the names and the sizes of parts, and for a file only if it is whole. So V7_NO_MEMORY never comes in place of 1 to 10, of 11
+ * names and the sizes of parts, and for a file only if it is whole. So V7_NO_MEMORY never comes in place of 1 to 10, of 11
  * to 14 for a file. Before a link reads an object it enters the forced names: if there are none, V7_NO_MEMORY does not come in
  * place of 11 to 14 for the first object either. Once an object is accepted, memory may run out there, and V7_NO_MEMORY may come
  * in place of any later fault: the answer does not say which request failed.
@@ -48,7 +48,7 @@ extern "C" {
 enum v7_fault {
     V7_NO_FAULT = 0,
     /* what is asked for */
-    V7_NO_OPTION = 1,          /* a bit of OPTIONS is not an option, or FORM is not a form */
+    V7_NO_OPTION = 1,          /* a bit of OPTIONS is not an option */
     V7_EXCLUDED = 2,           /* options exclude each other: V7_RELOCATABLE and V7_STRIP, V7_PURE or V7_SPLIT; V7_PURE and V7_SPLIT */
     V7_LONG_NAME = 3,          /* the name of the entry point has more than 8 bytes */
     V7_CUT_NAMES = 4,          /* the size of the forced names is not a multiple of 8 */
@@ -122,7 +122,7 @@ static inline const char *v7_strerror(uint32_t fault)
     case V7_NO_FAULT:
         return "no fault";
     case V7_NO_OPTION:
-        return "no such option or form";
+        return "no such option";
     case V7_EXCLUDED:
         return "options exclude each other";
     case V7_LONG_NAME:
@@ -536,11 +536,10 @@ struct v7_result {
  * status is 1, `fault` is 0, and file, report, findings and places have size 0. */
 uint32_t v7_run(const struct v7_request *request, struct v7_result *result);
 
-/* A size that no file of a link exceeds, by v7_run or by v7_session_link, if the objects have BYTES bytes in all, and the forced names
- * FORCED_SIZE, together fewer than 2^63: 16 and BYTES, and 12 for each of these names; SIZE_MAX if this sum is over it. Findings, and so
- * places, are at most a twelfth of it, and 3. The report has at most 27 bytes for each finding, and 18. So a caller with buffers of these
- * sizes makes a link by one call. */
-size_t v7_most(size_t bytes, size_t forced_size);
+/* A linked file, of v7_run or v7_session_link, has at most so many bytes: those of a header, of 32,767 words of text and of data with a
+ * relocation word each, and of 5,461 symbols. A caller with such a buffer does not have to ask for the size of the file first. The report
+ * has at most 27 bytes for each finding, and 18. */
+enum v7_limit { V7_MAX_FILE = 327684 };
 
 /* A session is kept between calls, so an edit costs what the edit is, and not what is there. The struct is the caller's, and at first all of it
  * is 0, as after `struct v7_session session = {0};`. A call that has a fault leaves the session as it was. Other calls may come between. */
@@ -567,17 +566,14 @@ uint32_t v7_session_withdraw(struct v7_session *session, struct v7_answer *answe
  * 7 and 9 as there, and V7_NOT_KEPT after 9; V7_NO_SESSION, 1 to 3, 41 to 43, V7_NO_MEMORY, V7_NO_ROOM. */
 uint32_t v7_session_link(struct v7_session *session, const struct v7_request *request, struct v7_result *result);
 
-/* Writes what the session shows, as lines, each with its newline, or as one JSON object. It has the words of the merged text and data,
- * each with its offset in bytes, its value and what it refers to or waits for. It has the size of bss in bytes, the external names with
- * what is known of each, and the names that are multiply defined. And it has the marks of the last object that is there: what its
- * addition overwrote, in order, and nothing else. A word appears in them at most once. A name may appear more than once, as a common
- * that grows several times: its first mark has what was known of it before the addition, and each later one what the change before it
- * led to. Lines have offsets and values in octal and sizes in decimal; a byte of a name that does not print, a blank and a backslash are
- * \ooo there. JSON has all numbers in decimal; a byte of a name that does not print, a quote and a backslash are \u00xx there. v7(3)
- * lists the members of the JSON object. Faults, the first that applies: V7_NO_SESSION, V7_NO_OPTION for FORM, V7_NO_MEMORY,
- * V7_NO_ROOM. */
-enum v7_form { V7_LINES = 0, V7_JSON = 1 };
-uint32_t v7_session_state(struct v7_session *session, uint32_t form, unsigned char *room, size_t room_size, struct v7_answer *answer);
+/* Writes what the session shows, as one JSON object, whose members v7(3) lists. It has the words of the merged text and data, each with
+ * its offset in bytes, its value and what it refers to or waits for. It has the size of bss in bytes, the external names with what is
+ * known of each, and the names that are multiply defined. And it has the marks of the last object that is there: what its addition
+ * overwrote, in order, and nothing else. A word appears in them at most once. A name may appear more than once, as a common that grows
+ * several times: its first mark has what was known of it before the addition, and each later one what the change before it led to.
+ * Numbers are in decimal; a byte of a name that does not print, a quote and a backslash are \u00xx. Faults, the first that applies:
+ * V7_NO_SESSION, V7_NO_MEMORY, V7_NO_ROOM. */
+uint32_t v7_session_state(struct v7_session *session, unsigned char *room, size_t room_size, struct v7_answer *answer);
 
 /* Ends the session, if one is begun, and gives its memory back. All of the struct is then as it was at first. The status is 0. */
 uint32_t v7_session_free(struct v7_session *session);

@@ -3,7 +3,7 @@
 python3-v7), the wheel of Python, and SHA256SUMS. The tar and the package v7 have a README of their own, packaging/README.md.
 
 usage: packaging/dist.py           of what tools/prove.py has proved, or proves now
-       packaging/dist.py --kept    of what is in build/proved and crates/v7_c/out, which it does not check: for trials
+       packaging/dist.py --kept    of what is in build/proved and crates/libv7/out, which it does not check: for trials
 
 The programs are linked statically, so they need no library where they run. Two runs for one commit give the same bytes, whatever the
 folder, the user and the date: files have the date of the commit, and belong to root.
@@ -61,13 +61,13 @@ class Release:
 
     def prove(self):
         """Proves what is not proved yet."""
-        for crate, out in (*((crate, crate) for crate in PROGRAMS.values()), ("v7_c", "libv7_c.a")):
+        for crate, out in (*((crate, crate) for crate in PROGRAMS.values()), ("libv7", "liblibv7.a")):
             run(sys.executable, "-m", "tools.prove", "--anew", crate, f"crates/{crate}/out/{out}")
 
     def crates(self):
         """The crates of the repository that the programs and libv7 are made of, and the kit's libraries that they use."""
         uses = crates_in(TOP)
-        ours = set().union(*(below(name, uses) for name in [*PROGRAMS.values(), "v7_c"]))
+        ours = set().union(*(below(name, uses) for name in [*PROGRAMS.values(), "libv7"]))
         kits = {"std", *(other for name in ours for other in uses[name])} - ours
         for name in [*kits]:
             form = read(f"{self.kit}/rlibs/{name}.rlib/format")
@@ -102,7 +102,7 @@ def libraries(place):
     how = {"env": {key: text for key, text in os.environ.items() if key not in ("MAKEFLAGS", "MFLAGS", "MAKELEVEL")}}
     for path in glob.glob("build/libv7.*"):
         os.remove(path)
-    run("make", "-s", "-o", "crates/v7_c/out/libv7_c.a", "install-lib", *flags, **how)
+    run("make", "-s", "-o", "crates/libv7/out/liblibv7.a", "install-lib", *flags, **how)
     run("strip", "--strip-unneeded", shared(place))
     run("strip", "-g", "-D", f"{place}/library/usr/lib/libv7.a")
 

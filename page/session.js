@@ -190,7 +190,7 @@ class Session {
     add(bytes) { return this.memory.whole(() => this.memory.made((place) => this.memory.call("v7_session_add", this.handle, ...this.memory.given(bytes), place))); }
     withdraw() { return this.memory.whole(() => this.memory.made((place) => this.memory.call("v7_session_withdraw", this.handle, place))); }
     // it is ASCII: JSON has other bytes of names by their numbers
-    state() { return JSON.parse(new TextDecoder().decode(this.memory.written("v7_session_state", this.handle, { option: 1 }))); }
+    state() { return JSON.parse(new TextDecoder().decode(this.memory.written("v7_session_state", this.handle))); }
     link(asked) { return this.memory.whole(() => linked(this.memory, "v7_session_link", [this.handle], asked, WANTS_REPORT)); }
     free() {
         this.memory.call("v7_session_free", this.handle);

@@ -36,11 +36,12 @@ from typing import NamedTuple
 
 from tests.lib.compare import notices, same
 from tests.lib.files import TOP, read, read_bytes
-from tests.lib.programs import Ran, program, ran
+from tests.lib.programs import PROGRAMS, Ran, program, ran
 from tests.lib.rattle import below, crates_in
 from tests.lib.tally import Failed, Tally
-from tools.compiling import CRATES, compile_program
+from tools.compiling import compile_program
 from tools.prove import SECONDS_EACH, crates_under
+from tools.sketch import compile_library
 
 TIERS = ["text", "test", "check", "all"]
 HEAD = re.compile(r"^(?:# )?tier: (\w+), (\d+) seconds((?:;(?:\n#?)? \w+: [^;\n]+)*)$", re.M)
@@ -294,7 +295,8 @@ def run_unproved(tests):
     with ThreadPoolExecutor(PROCESSORS) as pool:
         # what is cheap comes first, and nothing that waits before what it waits for
         first = {pool.submit(passes, *it.command()): it.title() for it in tests if not it.words("programs")}
-        programs = {pool.submit(compile_program, TOP, name, folder): f"the program {name}" for name in CRATES}
+        programs = {pool.submit(compile_program, TOP, name, folder): f"the program {name}" for name in PROGRAMS}
+        programs[pool.submit(compile_library, TOP, folder)] = "libv7"
         work = [(f"tests of {name}", run_tests, name, count) for name, count in crates_with_tests().most_common()]
         # those that repeat most take longest, so they come first
         files = sorted(glob.glob("tests/cases/data/*.case"), key=lambda path: -sum(map(int, re.findall(r"\* ?(\d+)", read(path)))))
@@ -316,7 +318,7 @@ def concern(path, test):
         imports = " ".join(re.findall(r"^ *(?:from|import) .*", read(test.path), re.M))
         return "uses it" if re.search(rf"\b{os.path.basename(path)[:-3]}\b", imports) else ""
     crate = path.split("/")[1] if path.startswith("crates/") else None
-    own = [name for name in test.words("programs") if crate in below({**CRATES, "libv7.so": "v7_c"}[name], crates_in(TOP))]
+    own = [name for name in test.words("programs") if crate in below({**PROGRAMS, "libv7.so": "libv7"}[name], crates_in(TOP))]
     return f"runs {' '.join(sorted(own))}" if own else ""
 
 

@@ -4,7 +4,7 @@
 # usage: tools/dist.sh all                     builds them twice, compares them, and runs them: `sh tools/dist.sh all`
 #        tools/dist.sh -t                      a trial of what `make quick` has compiled: all of this that needs no other system
 #        tools/dist.sh run DIST                runs the packages of the folder DIST
-#        OBJECTS=FOLDER tools/dist.sh ..       a trial: takes the objects of programs and libv7_c.a from this folder, and proves nothing
+#        OBJECTS=FOLDER tools/dist.sh ..       a trial: takes the objects of programs and liblibv7.a from this folder, and proves nothing
 #        PROVED=CHECKOUT tools/dist.sh ..      begins with what was proved in this checkout, and proves only what has changed
 #        BASE=FOLDER tools/dist.sh ..          copies Debian's base from this folder, which debootstrap has made, as make_debian does
 #
@@ -46,9 +46,9 @@ stop() {
 
 # puts objects that were not proved in place of proved ones
 take_objects() {
-    mkdir -p "$1/build/proved" "$1/crates/v7_c/out"
+    mkdir -p "$1/build/proved" "$1/crates/libv7/out"
     cp "$OBJECTS"/*.o "$1/build/proved"
-    cp "$OBJECTS/libv7_c.a" "$1/crates/v7_c/out"
+    cp "$OBJECTS/liblibv7.a" "$1/crates/libv7/out"
     for crate in $(sed -n 's/^\([a-z0-9_]*\).*:.*/\1/p' "$1/crates.txt"); do
         echo "not proved: compiled for a trial of the packages" >"$1/build/proved/$crate.verdict"
     done

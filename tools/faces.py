@@ -16,7 +16,7 @@ BEGIN, END = "from include/v7.h, by tools/faces.py", "end of what is from includ
 # the enums of the module, with what its names begin with; of the faults it has the texts, and one name
 IN_PYTHON = {"v7_part": "", "v7_nm_option": "", "v7_link_option": "", "v7_relocation": "", "v7_segment": "", "v7_gnu_option": "",
              "v7_remark_kind": "", "v7_finding_kind": "", "v7_map_name_state": "", "v7_map_use_kind": "", "v7_map_limit_kind": "",
-             "v7_want": "_", "v7_form": "_"}
+             "v7_want": "_"}
 # types of C in ctypes and in Rust; other pointers are a c_void_p there, and pointers here
 TYPES = {"uint16_t": ("_U16", "u16"), "uint32_t": ("_U32", "u32"), "uint64_t": ("_U64", "u64"), "size_t": ("_SIZE", "usize"),
          "unsigned char[8]": ("_NAME", "Name"), "unsigned char": ("", "u8"), "void": ("", "c_void"),

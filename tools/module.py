@@ -18,7 +18,7 @@ from tools import prove, sketch
 from tools.compiling import kit, once
 
 # the crate of libv7
-CRATE = "v7_c"
+CRATE = "libv7"
 TARGET = "--target=wasm64-unknown-unknown"
 FEATURES = ["memory64", "bulk-memory", "sign-ext", "nontrapping-float-to-int", "multivalue", "mutable-globals"]
 HEAP = """define internal {{ i64, i64 }} @rattle_{name}({arguments}) {{

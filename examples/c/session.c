@@ -13,11 +13,11 @@ struct linked {
 };
 
 /* what a session of the first object shows */
-static const char first_state[] = "  text 000000  012700     a number\n"
-                                  "  text 000002  000004     a number\n"
-                                  "  text 000004  004767     a number\n"
-                                  "  text 000006  177770 pc  waits for _half\n"
-                                  "  name _half: undefined\n";
+static const char first_state[] =
+    "{\"objects\":1,\"text\":[{\"offset\":0,\"value\":5568,\"pc\":false,\"target\":\"number\"},"
+    "{\"offset\":2,\"value\":4,\"pc\":false,\"target\":\"number\"},{\"offset\":4,\"value\":2551,\"pc\":false,\"target\":\"number\"},"
+    "{\"offset\":6,\"value\":65528,\"pc\":true,\"target\":\"external\",\"name\":\"_half\"}],\"data\":[],\"bss\":0,"
+    "\"externals\":[{\"name\":\"_half\",\"state\":\"undefined\",\"value\":0}],\"multiples\":[],\"marks\":[]}";
 
 /* mov $4,r0; jsr pc,_half */
 static const struct v7_word main_text[] = {{012700, 0}, {4, 0}, {004767, 0}, {0177770, V7_REFERS_TO(1) + V7_FROM_PC}};
@@ -54,13 +54,13 @@ static void run(struct v7_session *session, const struct v7_slice *objects, size
     to->result = result;
 }
 
-/* whether the session shows this, as lines */
+/* whether the session shows this */
 static int shows(struct v7_session *session, const char *state)
 {
-    unsigned char room[ROOM];
+    unsigned char room[2 * ROOM];
     struct v7_answer answer;
 
-    return v7_session_state(session, V7_LINES, room, ROOM, &answer) == 0 && answer.size == strlen(state) && memcmp(room, state, answer.size) == 0;
+    return v7_session_state(session, room, sizeof room, &answer) == 0 && answer.size == strlen(state) && memcmp(room, state, answer.size) == 0;
 }
 
 int main(void)

@@ -34,7 +34,7 @@ def main():
 
     session = v7.Session([MAIN])
     waiting = {"value": 0o177770, "pc": True, "target": "external", "name": "_half"}
-    shown = session.text()
+    shown = session.state()
     same("a word that waits", session.state()["text"][3], {"offset": 6, **waiting})
     session.add(HALF)
     same("added", session.link(), both)
@@ -42,7 +42,7 @@ def main():
     same("what the addition overwrote", session.state()["marks"], marks)
     session.withdraw()
     same("withdrawn", session.link(), alone)
-    same("shown as before", session.text(), shown)
+    same("shown as before", session.state(), shown)
     session.withdraw()
     same("nothing left", session.link(), v7.link([]))
     try:

@@ -84,12 +84,10 @@ DEFINES, MAKES_COMMON, WANTS, FORCES, TEXT_WORD, DATA_WORD = 1, 2, 3, 4, 5, 6
 LIMIT_TEXT, LIMIT_DATA, LIMIT_BSS, LIMIT_END, LIMIT_SYMBOLS, LIMIT_NUMBER, LIMIT_NAMES = 1, 2, 3, 4, 5, 6, 7
 # enum v7_want
 _REPORT, _FINDINGS, _PLACES, _MAP = 1, 2, 4, 8
-# enum v7_form
-_LINES, _JSON = 0, 1
 _NO_ROOM = 60
 # what the faults mean
 FAULTS: Dict[int, str] = {
-    1: "no such option or form", 2: "options exclude each other", 3: "the name of the entry point has more than 8 bytes",
+    1: "no such option", 2: "options exclude each other", 3: "the name of the entry point has more than 8 bytes",
     4: "the size of the forced names is not a multiple of 8", 5: "more than 64 names are forced",
     6: "too many words, bytes of bss or symbols", 7: "a struct is too short", 8: "no session", 9: "no such want", 10: "a session already",
     11: "short header", 12: "bad magic number", 13: "odd size", 14: "truncated", 21: "not an object", 22: "no relocation",
@@ -581,10 +579,10 @@ class _Run:
     def __init__(self, objects: Iterable[bytes], options: int, entry: str, forced: Iterable[str], wants: int,
                  call: Any = None, size: int = 0) -> None:
         """Links objects, or by another call what has this size: once, if it reports at most 2,000 names."""
-        parts, call, most = _list(objects), call or _LIBRARY.v7_run, _LIBRARY.v7_most
+        parts, call = _list(objects), call or _LIBRARY.v7_run
         request, size = _asked(parts, options, entry, forced, wants), size + sum(map(len, parts))
-        most.restype = ctypes.c_size_t
-        size = most(ctypes.c_size_t(size), ctypes.c_size_t(request.forced.size))
+        # a linked file has no more than its objects, a header, and a symbol for each forced name
+        size += 16 + request.forced.size // 8 * 12
         # of a file each symbol has twelve bytes, a word with what it refers to four, and a line of the report at most 27
         symbols, few = size // 12, min(size // 12, 2000)
         result = _Result(ctypes.sizeof(_Result), file_size=size, report_size=27 * few + 18, finding_count=few, place_count=few,
@@ -828,13 +826,12 @@ class Session:
         """The map of what is there, with the program and what is reported: all by one link."""
         return link_map(self._objects(), options, self.entry, self.forced)
 
-    def text(self) -> str:
-        """What is there, as lines: the words, the names, and what the last addition overwrote."""
-        return self._shown(_LINES)
-
     def state(self) -> Dict[str, Any]:
-        """The same as a dict: of `objects`, `text`, `data`, `bss`, `externals`, `multiples` and `marks`, as v7(3) has them."""
-        return dict(json.loads(self._shown(_JSON)))
+        """What is there, as a dict of `objects`, `text`, `data`, `bss`, `externals`, `multiples` and `marks`, as v7(3) has them: the
+        words, the names, and what the last addition overwrote."""
+        state = _given("v7_session_state", ctypes.byref(self._handle), guess=self._size, library=_KEEPING)
+        self._size = len(state)
+        return dict(json.loads(state))
 
     def _edit(self, name: str, more: int, *words: Any) -> None:
         """Makes a call after which there are so many objects more."""
@@ -862,8 +859,3 @@ class Session:
     def _run(self, options: int, wants: int) -> _Run:
         call = functools.partial(_KEEPING.v7_session_link, ctypes.byref(self._handle))
         return _Run((), options, self.entry, self.forced, wants, call, sum(map(len, self._objects())))
-
-    def _shown(self, form: int) -> str:
-        state = _given("v7_session_state", ctypes.byref(self._handle), ctypes.c_uint32(form), guess=self._size, library=_KEEPING)
-        self._size = len(state)
-        return state.decode("latin-1")

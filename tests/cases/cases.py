@@ -9,16 +9,15 @@ Parts with `refuse memory` are skipped too for a program that tools/compiling.py
 The programs are in build/, or in the folder V7_BUILD. A command has 60 seconds, or V7_SECONDS.
 
 tier: text, 1 seconds; words: -s; for: tests/cases/data examples
-tier: test, 20 seconds; programs: v7 v7-explain v7-object v7-from-gnu library_uses; words: -b; for: tests/cases docs/CASES.md
-tier: check, 120 seconds; programs: v7 v7-explain v7-object v7-from-gnu library_uses;
+tier: test, 20 seconds; programs: v7 v7-explain v7-object v7-from-gnu libv7.so; words: -b; for: tests/cases docs/CASES.md
+tier: check, 120 seconds; programs: v7 v7-explain v7-object v7-from-gnu libv7.so;
  for: tests/cases docs/CASES.md tests/lib/faults
-tier: check, 20 seconds; programs: v7 v7-explain v7-object v7-from-gnu library_uses; words: -b; for: tests/cases docs/CASES.md
+tier: check, 20 seconds; programs: v7 v7-explain v7-object v7-from-gnu libv7.so; words: -b; for: tests/cases docs/CASES.md
 """
 import collections
 import glob
 import os
 import re
-import struct
 import subprocess
 import sys
 import tempfile
@@ -27,7 +26,7 @@ from tests.cases.case_files import SAMPLES, contents, make, sample, sample_path
 from tests.cases.case_format import Mistake, cases_in, encoded, read_case
 from tests.lib.compare import notices, same
 from tests.lib.files import TOP, read_bytes, write
-from tests.lib.programs import BUILD, ran
+from tests.lib.programs import BUILD, ran, v7
 from tests.lib.watching import NotWatched, Watch, is_memory
 
 # how long a command may take
@@ -183,44 +182,64 @@ def forced_in(words):
     return names, words
 
 
-def is_whole(data):
-    """Whether a file with relocation is as long as its header says."""
-    if len(data) < 16:
-        return False
-    _, text, of_data, _, symbols = struct.unpack("<5H", data[:10])
-    return len(data) == 16 + 2 * (text + of_data) + symbols
+def printable(name):
+    """A name as v7 prints it; the empty one is \\000."""
+    return "".join(char if "!" <= char <= "~" and char != "\\" else f"\\{ord(char):03o}" for char in name or "\0")
 
 
-def cannot_be_made(item, word):
-    return Mistake(item.line, f"this edit cannot be made: {shown(word)}")
+def word_line(word):
+    """A word, whether it is relative to pc, and what it refers to or waits for."""
+    target = {"number": "a number", "external": f"waits for {printable(word.get('name', ''))}"}.get(word["target"], word["target"])
+    return f"{word['value']:06o} {'pc' if word['pc'] else '  '}  {target}"
 
 
-def shown_after(item, names, edits, files):
-    """What `library_uses` prints of a session after these edits."""
-    for word in edits:
-        if word != b"-" and not (word[:1] == b"+" and is_whole(files.get(word[1:], b""))):
-            raise cannot_be_made(item, word)
-    objects = [files[word[1:]] for word in edits if word != b"-"]
-    letters = b"".join(b"w" if word == b"-" else b"a" for word in edits)
-    with tempfile.TemporaryDirectory() as directory:
-        for name, data in enumerate([b"".join(name[:8].ljust(8, b"\0") for name in names), *objects]):
-            write(os.path.join(directory, str(name)), data)
-        paths = [b"%d" % number for number in range(1, len(objects) + 1)]
-        return run(item.line, [b"library_uses", b"state", b"0", letters, *paths], directory)
+def external_line(external):
+    """What is known of an external."""
+    kind, value = external["state"], external["value"]
+    if kind == "common":
+        return f"a common of {value} bytes"
+    return kind if kind == "undefined" else f"{'the number' if kind == 'number' else kind} {value:06o}"
+
+
+def mark_line(mark):
+    if "name" in mark:
+        return f"mark {printable(mark['name'])} was {external_line(mark['was'])}"
+    return f"mark {mark['segment']} {mark['offset']:06o} was {word_line(mark['was'])}"
+
+
+def lines_of(state):
+    """What a session shows, as lines."""
+    lines = [] if state["objects"] else ["nothing"]
+    lines += [f"{part} {word['offset']:06o}  {word_line(word)}" for part in ("text", "data") for word in state[part]]
+    lines += [f"bss {state['bss']} bytes"] * (state["bss"] > 0)
+    lines += [f"name {printable(external['name'])}: {external_line(external)}" for external in state["externals"]]
+    lines += [f"name {printable(name)}: multiply defined" for name in state["multiples"]]
+    return lines + [mark_line(mark) for mark in state["marks"]]
+
+
+def edit(item, session, word, files):
+    """Makes an edit of a session. To withdraw from one without objects changes nothing."""
+    try:
+        if word == b"-":
+            session.withdraw()
+        elif word[:1] == b"+" and word[1:] in files:
+            session.add(files[word[1:]])
+        else:
+            raise Mistake(item.line, f"this edit cannot be made: {shown(word)}")
+    except v7.Fault as fault:
+        if word != b"-":
+            raise Mistake(item.line, f"this edit cannot be made: {shown(word)}: {fault}") from None
 
 
 def play_state(item, files):
-    """Compares what a session shows after the edits of a line."""
+    """Compares what a session of libv7 shows after the edits of a line."""
     names, edits = forced_in(item.arguments)
-    came = shown_after(item, names, edits, files)
-    if came.status or came.err:
-        raise differ(item.line, "state", "a state", shown(came.err))
-    replies, _, lines = came.out.partition(b"\n")
-    for word, reply in zip(edits, replies.decode().strip("[]").split(", ")):
-        if word != b"-" and reply != "0":
-            raise cannot_be_made(item, word)
+    with v7.Session(forced=[name[:8].decode("latin-1") for name in names]) as session:
+        for word in edits:
+            edit(item, session, word, files)
+        lines = lines_of(session.state())
     expected = [(line, encoded(line, text)) for line, text in item.block]
-    check_output(item.line, "state", expected, re.sub(b"(?m)^  ", b"", lines))
+    check_output(item.line, "state", expected, "".join(f"{line}\n" for line in lines).encode("latin-1"))
 
 
 def files_of(part):

@@ -26,12 +26,12 @@ from typing import NamedTuple
 
 from tests.lib.compare import same
 from tests.lib.files import TOP, read, write
-from tests.lib.programs import ran
+from tests.lib.programs import PROGRAMS, ran
 from tests.lib.rattle import below, crates_in
 from tests.lib.tally import Failed
 from tests.programs import largest
 from tests.wrong_bodies import edits
-from tools.compiling import CRATES, compile_program
+from tools.compiling import compile_program
 from tools.sketch import compile_library
 
 PAGE = "tests/cases/PLANTED.md"
@@ -42,7 +42,7 @@ EDITS = {os.path.basename(path)[:-len(".edit")]: path for path in sorted(glob.gl
 PRINTED = re.compile(
     r"^[01] of 1 answers .*\n\Z|^\d+ things of pages were compared|(?:CalledProcess|JSONDecode)Error|^at a terminal: |^  came ", re.M)
 # what is compiled, and the crate of each
-COMPILED = {**CRATES, "libv7": "v7_c"}
+COMPILED = {**PROGRAMS, "libv7": "libv7"}
 # the programs without a bug
 GOOD = os.path.join(TOP, "build", "test")
 # for a command of a case, on a machine with other work too
@@ -108,9 +108,9 @@ def there_are():
 
 
 def programs_of(text):
-    """The programs that a case runs. A state is shown by `library_uses`."""
+    """The programs that a case runs. A state is that of libv7."""
     found = set(re.findall(r"^\$ (\S+)", text, re.M))
-    return found | {"library_uses"} if re.search(r"^state\b", text, re.M) else found
+    return found | {"libv7"} if re.search(r"^state\b", text, re.M) else found
 
 
 def failed(folder, texts):
@@ -132,7 +132,7 @@ def cases_that_fail(folder, texts):
     with tempfile.NamedTemporaryFile("w", suffix=".case", encoding="ascii") as file:
         file.writelines(texts.values())
         file.flush()
-        environment = {**os.environ, "V7_BUILD": folder, "V7_SECONDS": SECONDS}
+        environment = {**os.environ, "LIBV7": os.path.join(folder, "libv7.so"), "V7_BUILD": folder, "V7_SECONDS": SECONDS}
         said = ran(sys.executable, "-m", "tests.cases.cases", file.name, cwd=TOP, env=environment).said()
     names = re.findall(r"^ok (\w+)", said, re.M) + re.findall(rf"^{file.name}:\d+: (\w+): ", said, re.M)
     if sorted(names) != sorted(texts) or re.search(r": build/\S+ is missing$", said, re.M):
@@ -212,7 +212,7 @@ def faults_of(row, there):
 def list_failing(bugs):
     """Prints all cases that fail with each bug."""
     there = cases()
-    programs(CRATES)
+    programs(COMPILED)
     for bug in bugs:
         print(f"{bug}: {' '.join(failing(bug, there, True))}", flush=True)
 

@@ -95,7 +95,7 @@ ALIKE = gnu_named([], [], [(b"_2345678a", 0o40, 0), (b"_2345678b", 0o40, 0)])
 MANY = gnu_object([], [], [symbol(0, 0o40, 0)] * 5462, b"")
 # objects in GNU's form: the fault, its word and its byte, and the options
 CONVERTED = [
-    ("no such option or form", 0, 0, 8, GNU),
+    ("no such option", 0, 0, 8, GNU),
     ("short header", 0, 15, 0, GNU[:15]),
     ("bad magic number", 0o410, 0, 0, poked(GNU, (0, 8))),
     ("odd size", v7.TEXT_PART, 2, 0, poked(GNU, (2, 5))),
@@ -132,7 +132,7 @@ PARTS = [
 OPTIONS = "options exclude each other"
 # what is asked of a link: the fault, the place, and the call
 ASKED = [
-    ("no such option or form", 0, {"options": 128}),
+    ("no such option", 0, {"options": 128}),
     (OPTIONS, 0, {"options": v7.RELOCATABLE | v7.STRIP}),
     (OPTIONS, 0, {"options": v7.RELOCATABLE | v7.PURE}),
     (OPTIONS, 0, {"options": v7.RELOCATABLE | v7.SPLIT}),
@@ -193,7 +193,7 @@ class Faults(unittest.TestCase):
         self.assertEqual(len(v7.make(WORDS[1:], WORDS[1:], 65534, NAMES[1:])), 16 + 4 * 2 * 32767 + 12 * 5461)
 
     def test_asked(self):
-        self.assertEqual(fault_of(v7.nm, OBJECT, 32), ("no such option or form", 0, 0))
+        self.assertEqual(fault_of(v7.nm, OBJECT, 32), ("no such option", 0, 0))
         for fault, place, asked in ASKED:
             for call in (v7.link, v7.link_findings, v7.link_map):
                 self.assertEqual(fault_of(call, [OBJECT], **asked), (fault, 0, place))
@@ -219,7 +219,7 @@ class Faults(unittest.TestCase):
         self.assertEqual(fault_of(session.withdraw), ("nothing to withdraw", 0, 0))
         self.assertEqual((session.link(), session._kept, session.state()["objects"]), (v7.link([]), [], 0))
         session.close()
-        for call in session.withdraw, session.link, session.link_places, session.map, session.text, lambda: session.add(OBJECT):
+        for call in session.withdraw, session.link, session.link_places, session.map, session.state, lambda: session.add(OBJECT):
             self.assertEqual(fault_of(call), ("no session", 0, 0))
 
     def test_interrupts(self):

@@ -8,7 +8,7 @@
 # usage: CC=cc CXX=c++ tests/libv7/library.sh
 #
 # tier: check, 90 seconds; programs: v7 v7-explain v7-object v7-from-gnu libv7.so;
-# for: Makefile crates/v7_c crates/library_calls include packaging docs/LIBRARY.md man/v7.3 tests/libv7 examples/c examples/python;
+# for: Makefile crates/libv7 include packaging docs/LIBRARY.md man/v7.3 tests/libv7 examples/c examples/python;
 # needs: cc c++ pkg-config valgrind mypy venv rustc cargo
 set -u
 cd "$(dirname "$0")/../.."
@@ -125,7 +125,7 @@ compile calls "$top/tests/libv7/c/calls.c" $wrapped "$archive"
 checks C "each call" ./calls
 # a compiler may leave out a read that the source has, so the calls are made of what is compiled at -O0 too, without proof
 if has rt; then
-    (cd "$top" && python3 -c 'import sys, tools.sketch; tools.sketch.make(*sys.argv[1:])' "$top" v7_c "$work/plain.a" -O0) || exit 1
+    (cd "$top" && python3 -c 'import sys, tools.sketch; tools.sketch.make(*sys.argv[1:])' "$top" libv7 "$work/plain.a" -O0) || exit 1
     compile calls "$top/tests/libv7/c/calls.c" $wrapped -Wl,--whole-archive plain.a -Wl,--no-whole-archive "$(dirname "$(rt doc)")/c/liblibc_c.a"
     checks "C at -O0" "each call" ./calls
 fi

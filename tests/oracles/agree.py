@@ -4,7 +4,7 @@ usage: python3 -m tests.oracles.agree [KIND NUMBER]       all cases, or one, as 
        python3 -m tests.oracles.agree -l LINKS SESSIONS
 tier: check, 60 seconds; programs: v7;
  for: crates/aout_core crates/link_session crates/link_out crates/symtools crates/command_words crates/v7tools docs/LINK.md
-tier: check, 20 seconds; programs: libv7.so; words: -l 500 1000; for: crates/library_calls crates/v7_c
+tier: check, 20 seconds; programs: libv7.so; words: -l 500 1000; for: crates/libv7
 
 A case is some files and some commands, which both run in a folder of their own. After each command the status, standard output,
 standard error and every byte of every file are compared. The number of a case gives its files and commands, so each run is the same.

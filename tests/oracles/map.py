@@ -1,7 +1,7 @@
 """Compares the maps of links with those of map_model.py: each record that libv7 gives, and all of the text of `v7-explain -m`.
 
 usage: python3 -m tests.oracles.map [LINKS]       all of 300 links; or only the records of this number of links
-tier: check, 60 seconds; programs: v7-explain libv7.so; for: crates/link_maps crates/v7_explain crates/library_calls crates/v7_c
+tier: check, 60 seconds; programs: v7-explain libv7.so; for: crates/link_maps crates/v7_explain crates/libv7
 
 The links are made, the same in each run: objects of some words that lead to names and to places of their own, or those of agree.py. In
 every fifth link there is one object too many, and in every tenth one is damaged. With -y each map is asked for some names, of which some

@@ -6,7 +6,7 @@ tests/oracles/notes.py; of rows and maps the words and the names are counted.
 
 usage: python3 -m tests.programs.largest [ROW ..]      all rows of the table, or these: 'v7-explain -m, objects'
 tier: check, 120 seconds; programs: v7 v7-explain v7-object v7-from-gnu libv7.so;
- for: crates/checks crates/link_maps crates/library_calls
+ for: crates/checks crates/link_maps crates/libv7
 """
 import dataclasses
 import multiprocessing
@@ -419,7 +419,7 @@ def edited(kind):
 
 
 def known(kind):
-    """What a session has of the objects, as a dict and as lines, and its link."""
+    """What a session has of the objects, and its link."""
     together, session = merged(kind), v7.Session(list(encoded(kind).values()))
     state = session.state()
     same("objects", state["objects"], len(KINDS[kind]))
@@ -428,8 +428,7 @@ def known(kind):
     same("names", [row["name"] for row in state["externals"]], [name.decode() for name in together.externals])
     same("multiples", state["multiples"], [name.decode() for name in together.multiples])
     same("marks", len(state["marks"]), MARKS.get(kind, 0))
-    count = sum(len(state[part]) for part in ("text", "data", "externals", "multiples", "marks")) + bool(together.sizes[model.BSS])
-    same("lines", session.text().count("\n"), count)
+    same("bss", state["bss"], together.sizes[model.BSS])
     same("the link", agree.by_library(session, v7.STRIP | v7.SPLIT), agree.by_model(together, model.Arguments({"s", "i"}, {}, [])))
 
 

@@ -2,15 +2,14 @@
 of `data/`, it has to print the bytes of `stdout`, and to end with the status of `status`. `rt ci` compares those of proved programs,
 once all is proved.
 
-tier: test, 3 seconds; programs: v7 v7-explain v7-object v7-from-gnu library_uses;
- for: crates/v7_explain crates/library_uses
+tier: test, 3 seconds; programs: v7 v7-explain v7-object v7-from-gnu;
+ for: crates/v7_explain
 """
 import os
 
 from tests.lib.compare import notices, same
 from tests.lib.files import TOP, new_folder, read_bytes
-from tests.lib.programs import program, ran
-from tools.compiling import CRATES
+from tests.lib.programs import PROGRAMS, program, ran
 
 
 def stored(crate, name):
@@ -25,14 +24,14 @@ def compare(crate, done):
 
 
 def main():
-    for name, crate in CRATES.items():
+    for name, crate in PROGRAMS.items():
         data = f"crates/{crate}/data"
         with new_folder(data if os.path.isdir(f"{TOP}/{data}") else ""):
             done = ran(program(name), *stored(crate, "args").decode().splitlines(), given=stored(crate, "stdin"))
         notices(compare, crate, done._replace(out=b"planted" + stored(crate, "stdout")))
         notices(compare, crate, done._replace(out=stored(crate, "stdout"), status=3))
         compare(crate, done)
-    print(f"{len(CRATES)} stored runs compared")
+    print(f"{len(PROGRAMS)} stored runs compared")
 
 
 if __name__ == "__main__":

@@ -1,7 +1,7 @@
 """Compares include/v7.h with the declarations of the code: the fields of each struct, which has `repr(C)`, each call's parameters, and the
 numbers of remarks; tests/libv7 has the other numbers. What tools/faces.py makes of the header has to be there.
 
-tier: text, 2 seconds; for: include/v7.h packaging/python packaging/rust man/v7.3 crates/v7_c crates/library_calls tools/faces.py
+tier: text, 2 seconds; for: include/v7.h packaging/python packaging/rust man/v7.3 crates/libv7 tools/faces.py
 """
 import glob
 import os
@@ -29,7 +29,7 @@ STRUCTS = dict(pair.split(":") for pair in """Answer:v7_answer Counts:v7_counts 
 
 def sources():
     """The files of the crates that declare what C sees, by their paths below crates."""
-    paths = [path for crate in ("v7_c", "library_calls", "link_maps") for path in glob.glob(f"{TOP}/crates/{crate}/src/*.rt")]
+    paths = [path for crate in ("libv7", "link_maps") for path in glob.glob(f"{TOP}/crates/{crate}/src/*.rt")]
     return {os.path.relpath(path, f"{TOP}/crates"): read(path) for path in paths}
 
 

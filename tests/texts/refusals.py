@@ -21,8 +21,8 @@ KNOWN = [
     "crates/surroundings/src/held.rt: let _ = match Refused::reported_by(&error) {",
     "crates/v7_explain/src/disk_folders.rt: match Refused::reported_by(error) {",
     "crates/command_words/src/fault.rt: ErrorKind::OutOfMemory => WordsFault::Memory(Refused::from(AllocError)),",
-    "crates/library_calls/src/written.rt: Err(_) => Err(AllocError),",
-    "crates/v7_c/src/loose.rt: unsafe { Box::from_raw(alloc, at) }",
+    "crates/libv7/src/encoding.rt: Err(_) => Err(AllocError),",
+    "crates/libv7/src/loose.rt: unsafe { Box::from_raw(alloc, at) }",
 ]
 # the lines that put a device on a wire, whose fault is then one of that device
 WIRES = [
@@ -33,8 +33,9 @@ WIRES = [
     "crates/v7tools/src/link/command.rt: inputs.push((path, Wire::new(source))).unwrap();",
     "crates/v7tools/src/program.rt: output: Wire::new(BlockWriter::new(io::writer(rt))),",
     "crates/v7tools/src/program.rt: error: Wire::new(StandardError::new(rt)),",
-    "crates/library_calls/src/written.rt: let mut wire = Wire::new(Vec::new(alloc));",
-    "crates/library_calls/src/file_calls.rt: let mut wire = Wire::new(Vec::new(alloc));",
+    "crates/libv7/src/encoding.rt: let mut wire = Wire::new(Vec::with_capacity(alloc, size)?);",
+    "crates/libv7/src/encoding.rt: let mut wire = Wire::new(Vec::new(alloc));",
+    "crates/libv7/src/file_calls.rt: let mut wire = Wire::new(Vec::new(alloc));",
     "crates/surroundings/src/disk.rt: let mut out = Wire::new(PieceWriter::new(device, replaces));",
     "crates/surroundings/src/disk.rt: Ok(device) => store_text_on(text, &mut Wire::new(PieceWriter::new(device, replaces))),",
     "crates/surroundings/src/shown.rt: output: Wire::new(io::writer(rt)),",

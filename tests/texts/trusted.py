@@ -44,7 +44,7 @@ INTERNAL = ["internal"]
 IDS = [("command_words", "words"), ("command_words", "link_words"), ("instructions", "table"), ("instructions", "call_table"),
        ("v7_object", "help"), ("v7_from_gnu", "help")]
 # crates whose definitions nobody has to trust: tests, and what a reader at a terminal sees
-OTHERS = ["v7", "library_uses", "device_tests"]
+OTHERS = ["v7", "device_tests"]
 LIBRARIES = [crate for crate in crates_in(".") if crate not in OTHERS]
 IMPORT = re.compile(r"^ *(?:pub )?(?:ghost )?use Rattle\.(\w+)\.(specs|proofs)(?:\.([\w.]+?))?(?:\.\{([^}]*)\}|(?: as (\w+))?);?$")
 # in a list of names those of one module: `Contents.{Fits, bss_end}`

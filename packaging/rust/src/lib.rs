@@ -82,11 +82,11 @@ fn lend<T: Clone + Default>(buffer: &mut Vec<T>, count: usize, records: &mut *mu
     (*records, *room) = (buffer.as_mut_ptr(), count);
 }
 
-/// Makes a call whose result has buffers of the sizes that they say, which outlive it: once, since `v7_most` bounds what a link gives. Of a
+/// Makes a call whose result has buffers of the sizes that they say, which outlive it: once, since a linked file
+/// has no more than its objects, a header, and a symbol for each forced name. Of a
 /// map an object has at least sixteen bytes, a name twelve, and a use four.
 fn run(request: &raw::Request, size: usize, forced: usize, mut call: impl FnMut(&mut raw::Result) -> u32) -> Result<(Program, Map), Fault> {
-    // SAFETY: it takes numbers
-    let file_size = unsafe { raw::v7_most(size, 8 * forced) };
+    let file_size = 16 + size + 12 * forced;
     let count = file_size / 12 + 3;
     let mut most =
         raw::Result { file_size, report_size: 27 * count + 18, finding_count: count, place_count: count, ..raw::Result::default() };

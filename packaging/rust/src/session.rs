@@ -49,10 +49,10 @@ impl Session {
         Ok(linked?.0)
     }
 
-    /// What the session shows, in the form `raw::V7_LINES` or `raw::V7_JSON`.
-    pub fn state(&mut self, form: u32) -> Result<Vec<u8>, Fault> {
+    /// What the session shows, as one JSON object.
+    pub fn state(&mut self) -> Result<Vec<u8>, Fault> {
         // SAFETY: as in `call`
-        filled(|room, size, answer| unsafe { raw::v7_session_state(&mut self.kept, form, room, size, answer) })
+        filled(|room, size, answer| unsafe { raw::v7_session_state(&mut self.kept, room, size, answer) })
     }
 
     /// Makes a call. SAFETY: the struct is 0 at first, only calls change it, and it is never copied.

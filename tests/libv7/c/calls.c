@@ -219,7 +219,7 @@ static uint32_t keep(const struct request *r, const struct v7_request *request, 
         answer.place += i;
     }
     if (status == 0)
-        status = r->call == SESSION ? run(r, request, session, room) : v7_session_state(session, r->option, room[0], r->room[0], &answer);
+        status = r->call == SESSION ? run(r, request, session, room) : v7_session_state(session, room[0], r->room[0], &answer);
     v7_session_free(session);
     return status;
 }
@@ -357,17 +357,17 @@ static const char listing[] = "text\n"
                               "end\n";
 static const char remark_text[] = "05 (5) bytes after the symbol table are not read";
 static const struct v7_remark remarks[] = {{56, 0, sizeof remark_text - 1, V7_REMARK_BYTES_AFTER_TABLE, 0, 0}};
-static const char state[] = "  text 000000  004767     a number\n"
-                            "  text 000002  000004 pc  text\n"
-                            "  text 000004  000207     a number\n"
-                            "  text 000006  000240     a number\n"
-                            "  text 000010  000207     a number\n"
-                            "  data 000000  000007     a number\n"
-                            "  bss 4 bytes\n"
-                            "  name _x: undefined\n"
-                            "  name _f: text 000010\n"
-                            "  mark _f was undefined\n"
-                            "  mark text 000002 was 177774 pc  waits for _f\n";
+static const char state[] = "{\"objects\":2,\"text\":[{\"offset\":0,\"value\":2551,\"pc\":false,\"target\":\"number\"},"
+                            "{\"offset\":2,\"value\":4,\"pc\":true,\"target\":\"text\"},"
+                            "{\"offset\":4,\"value\":135,\"pc\":false,\"target\":\"number\"},"
+                            "{\"offset\":6,\"value\":160,\"pc\":false,\"target\":\"number\"},"
+                            "{\"offset\":8,\"value\":135,\"pc\":false,\"target\":\"number\"}],"
+                            "\"data\":[{\"offset\":0,\"value\":7,\"pc\":false,\"target\":\"number\"}],\"bss\":4,"
+                            "\"externals\":[{\"name\":\"_x\",\"state\":\"undefined\",\"value\":0},"
+                            "{\"name\":\"_f\",\"state\":\"text\",\"value\":8}],\"multiples\":[],"
+                            "\"marks\":[{\"name\":\"_f\",\"was\":{\"state\":\"undefined\",\"value\":0}},"
+                            "{\"segment\":\"text\",\"offset\":2,\"was\":{\"value\":65532,\"pc\":true,"
+                            "\"target\":\"external\",\"name\":\"_f\"}}]}";
 
 #define STRING(s) {s, sizeof s - 1, 1}
 #define ITEMS(a) {a, sizeof a / sizeof *a, sizeof *a}
@@ -397,7 +397,7 @@ static const struct request good[CALLS] = {
     {"v7_run for findings", FINDINGS, V7_STRIP, {STRING("_f"), FORCED, ITEMS(twice)}, {24, 2, 2}, 1, .answer = {0, 0, 0, 24, 2},
      .out = {ITEMS(linked_twice), ITEMS(findings), ITEMS(places)}},
     {"v7_session_link", SESSION, V7_NOT_L, {STRING("_f"), FORCED, ITEMS(both)}, {52, 14}, 1, LINKED(14), .out = {ITEMS(linked), REPORT}},
-    {"v7_session_state", STATE, V7_LINES, {STRING(""), FORCED, ITEMS(both)}, LENGTH(state)},
+    {"v7_session_state", STATE, 0, {STRING(""), FORCED, ITEMS(both)}, LENGTH(state)},
 };
 
 /* a room that is too small by one, and rooms of size 0 */
@@ -535,7 +535,7 @@ static void check_session(void)
 
     is(v7_session_add(&session, object, sizeof object, &answer) == 2 && answer.fault == V7_NO_SESSION, name, "an addition before it");
     is(v7_session_withdraw(&session, &answer) == 2 && answer.fault == V7_NO_SESSION, name, "a withdrawal before it");
-    is(v7_session_state(&session, V7_LINES, NULL, 0, &answer) == 2 && answer.fault == V7_NO_SESSION, name, "a state before it");
+    is(v7_session_state(&session, NULL, 0, &answer) == 2 && answer.fault == V7_NO_SESSION, name, "a state before it");
     is(v7_session_link(&session, &request, &kept) == 2 && kept.fault == V7_NO_SESSION, name, "a link before it");
     is(v7_session_new(&session, NULL, 0, &answer) == 0 && session.is_open == 1, name, "its beginning");
     is(v7_session_new(&session, NULL, 0, &answer) == 2 && answer.fault == V7_SESSION_OPEN, name, "a second beginning");
@@ -547,10 +547,9 @@ static void check_session(void)
     is(v7_session_add(&session, definition, sizeof definition, &answer) == 0, name, "a second addition");
     is(v7_session_add(&session, object, 55, &answer) == 2 && answer.fault == V7_TRUNCATED && answer.place == 0, name, "an addition that is refused");
     is(v7_session_withdraw(&session, &answer) == 0, name, "a withdrawal");
-    v7_session_state(&session, V7_JSON, shown[0], PAGE, &answer);
-    v7_session_state(&other, V7_JSON, shown[1], PAGE, &answer);
+    v7_session_state(&session, shown[0], PAGE, &answer);
+    v7_session_state(&other, shown[1], PAGE, &answer);
     is(answer.fault == 0 && shown[0][0] == '{' && memcmp(shown[0], shown[1], PAGE) == 0, name, "the state after a withdrawal");
-    is(v7_session_state(&session, 2, shown[0], PAGE, &answer) == 2 && answer.fault == V7_NO_OPTION, name, "a form that there is not");
     kept.file = kept.report = files[0];
     left.file = left.report = files[1];
     kept.file_room = left.file_room = PAGE / 2;
@@ -605,12 +604,11 @@ static void check_most(void)
     struct v7_request request = {.size = sizeof request, .wants = V7_REPORT | V7_FINDINGS, .entry = {(const unsigned char *)"_missing", 8}};
     struct v7_result result = {.size = sizeof result};
 
-    is(v7_most(5, 17) == 16 + 5 + 24 && v7_most(SIZE_MAX - 16, 7) == SIZE_MAX && v7_most(SIZE_MAX, 0) == SIZE_MAX && v7_most(0, SIZE_MAX) == SIZE_MAX, "v7_most", "sizes");
-    is(v7_run(&request, &result) == 2 && result.fault == V7_NO_ROOM && result.finding_count == 1 && result.report_size == 34, "v7_most", "an entry point");
+    is(v7_run(&request, &result) == 2 && result.fault == V7_NO_ROOM && result.finding_count == 1 && result.report_size == 34, "bounds", "an entry point");
     request.forced = (struct v7_slice){(const unsigned char *)"_forced1_forced2", 16};
-    is(v7_run(&request, &result) == 2 && result.file_size <= v7_most(0, 16) && result.finding_count == 3 && result.finding_count <= v7_most(0, 16) / 12 + 3 &&
+    is(v7_run(&request, &result) == 2 && result.file_size == 16 + 12 * 2 && result.finding_count == 3 &&
            result.report_size == 34 + 11 + 2 * 9 && result.report_size <= 27 * result.finding_count + 18,
-       "v7_most", "undefined names");
+       "bounds", "undefined names");
 }
 
 int main(void)

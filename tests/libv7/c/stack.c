@@ -64,8 +64,7 @@ static void keep(void)
         if (v7_session_add(&session, slices[i].bytes, slices[i].size, &answer) != 0)
             exit(3);
     called(v7_session_link(&session, &request, &result));
-    called(v7_session_state(&session, V7_LINES, room, ROOM, &answer));
-    called(v7_session_state(&session, V7_JSON, room, ROOM, &answer));
+    called(v7_session_state(&session, room, ROOM, &answer));
     called(v7_session_withdraw(&session, &answer));
     called(v7_session_free(&session));
 }

@@ -56,8 +56,8 @@ pub const V7_TEXT_WORD: u32 = 5; pub const V7_DATA_WORD: u32 = 6;
 // enum v7_map_limit_kind
 pub const V7_LIMIT_TEXT: u32 = 1; pub const V7_LIMIT_DATA: u32 = 2; pub const V7_LIMIT_BSS: u32 = 3; pub const V7_LIMIT_END: u32 = 4;
 pub const V7_LIMIT_SYMBOLS: u32 = 5; pub const V7_LIMIT_NUMBER: u32 = 6; pub const V7_LIMIT_NAMES: u32 = 7;
-// enum v7_form
-pub const V7_LINES: u32 = 0; pub const V7_JSON: u32 = 1;
+// enum v7_limit
+pub const V7_MAX_FILE: u32 = 327684;
 // enum v7_relocation
 pub const V7_NUMBER: u16 = 0; pub const V7_IN_TEXT: u16 = 2; pub const V7_IN_DATA: u16 = 4; pub const V7_IN_BSS: u16 = 6;
 pub const V7_FROM_PC: u16 = 1;
@@ -155,12 +155,11 @@ extern "C" {
     pub fn v7_from_gnu(options: u32, bytes: *const u8, size: usize, room: *mut u8, room_size: usize, answer: *mut Answer) -> u32;
     pub fn v7_remarks(bytes: *const u8, size: usize, texts: *mut u8, text_room: usize, remarks: *mut Remark, remark_room: usize, answer: *mut Answer) -> u32;
     pub fn v7_run(request: *const Request, result: *mut Result) -> u32;
-    pub fn v7_most(bytes: usize, forced_size: usize) -> usize;
     pub fn v7_session_new(session: *mut Session, forced: *const u8, forced_size: usize, answer: *mut Answer) -> u32;
     pub fn v7_session_add(session: *mut Session, bytes: *const u8, size: usize, answer: *mut Answer) -> u32;
     pub fn v7_session_withdraw(session: *mut Session, answer: *mut Answer) -> u32;
     pub fn v7_session_link(session: *mut Session, request: *const Request, result: *mut Result) -> u32;
-    pub fn v7_session_state(session: *mut Session, form: u32, room: *mut u8, room_size: usize, answer: *mut Answer) -> u32;
+    pub fn v7_session_state(session: *mut Session, room: *mut u8, room_size: usize, answer: *mut Answer) -> u32;
     pub fn v7_session_free(session: *mut Session) -> u32;
     pub fn v7_make(text: *const Word, text_count: usize, data: *const Word, data_count: usize, bss: u32, symbols: *const Symbol, symbol_count: usize, room: *mut u8, room_size: usize, answer: *mut Answer) -> u32;
     pub fn v7_take_apart(bytes: *const u8, size: usize, text: *mut Word, text_room: usize, data: *mut Word, data_room: usize, symbols: *mut Symbol, symbol_room: usize, counts: *mut Counts, answer: *mut Answer) -> u32;
@@ -169,7 +168,7 @@ extern "C" {
 /// What a fault means, as `v7_strerror` of v7.h says it.
 pub(crate) fn text(fault: u32) -> &'static str {
     match fault {
-        1 => "no such option or form", 2 => "options exclude each other", 3 => "the name of the entry point has more than 8 bytes",
+        1 => "no such option", 2 => "options exclude each other", 3 => "the name of the entry point has more than 8 bytes",
         4 => "the size of the forced names is not a multiple of 8", 5 => "more than 64 names are forced",
         6 => "too many words, bytes of bss or symbols", 7 => "a struct is too short", 8 => "no session", 9 => "no such want",
         10 => "a session already", 11 => "short header", 12 => "bad magic number", 13 => "odd size", 14 => "truncated",

@@ -1,5 +1,0 @@
-pub mod Left
-pub mod MapLeft
-pub mod RunLeft
-pub mod Slots
-pub mod KeptLeft
