@@ -135,5 +135,5 @@ int main(void)
         append(150, 25, (unsigned)count);
     call_in_thread();
     printf("%u calls, %u with a result\n", calls, results);
-    return calls != 50 || results != calls;
+    return calls != 48 || results != calls;
 }
