@@ -41,7 +41,8 @@ CHANGES = [
     (r' "(?:target-cpu|target-features|tune-cpu|probe-stack|stack-probe-size)"="[^"]*"', ""),
     (r'^declare .*@rattle_alloc\(.*$', HEAP.format(name="alloc", arguments="i64 %new, i64 %align", call="malloc(i64 %size)")
      + "declare ptr @malloc(i64)\ndeclare ptr @realloc(ptr, i64)\ndeclare void @free(ptr)"),
-    (r'^declare .*@rattle_realloc\(.*$', HEAP.format(name="realloc", arguments="ptr %old, i64 %had, i64 %new, i64 %align", call="realloc(ptr %old, i64 %size)")),
+    (r'^declare .*@rattle_realloc\(.*$', HEAP.format(name="realloc", arguments="ptr %old, i64 %had, i64 %new, i64 %align",
+                                                     call="realloc(ptr %old, i64 %size)")),
     (r'^declare .*@rattle_dealloc\(.*$', "define internal void @rattle_dealloc(ptr %old) {\n  call void @free(ptr %old)\n  ret void\n}\n"),
     (r'^declare i64 @__sysv_signal.*$', "define internal i64 @__sysv_signal(i32 %a, i64 %b) {\n  ret i64 0\n}"),
 ]
@@ -95,8 +96,10 @@ def compiled(work, text):
     run(f"{bin_of}/clang", TARGET, "-x", "ir", "-O2", "-c", "-o", f"{work}/v7.o", f"{work}/v7.ll")
     run(f"{bin_of}/clang", TARGET, "-O2", "-ffreestanding", "-fno-builtin", "-c", "-o", f"{work}/heap.o", "packaging/heap.c")
     os.symlink(f"{bin_of}/ld.lld", f"{work}/wasm-ld")
-    run(f"{work}/wasm-ld", "-mwasm64", "--no-entry", *(f"--export={name}" for name in [*calls, "malloc", "realloc", "free", "heap_out", "heap_limit"]),
-        "--gc-sections", "--strip-all", "--stack-first", "-z", "stack-size=1048576", "-o", f"{work}/v7_64.wasm", f"{work}/v7.o", f"{work}/heap.o")
+    run(f"{work}/wasm-ld", "-mwasm64", "--no-entry",
+        *(f"--export={name}" for name in [*calls, "malloc", "realloc", "free", "heap_out", "heap_limit"]),
+        "--gc-sections", "--strip-all", "--stack-first", "-z", "stack-size=1048576", "-o", f"{work}/v7_64.wasm", f"{work}/v7.o",
+        f"{work}/heap.o")
     run("wasm-opt", *(f"--enable-{name}" for name in FEATURES), "--memory64-lowering", "-O2", f"{work}/v7_64.wasm", "-o", f"{work}/v7.wasm")
     return read_bytes(f"{work}/v7.wasm")
 

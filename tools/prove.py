@@ -182,7 +182,8 @@ class Proving:
         return verdict[0]
 
     def is_kept(self, crate):
-        """Whether the crate is proved already. What it left is unpacked; a program that was proved over that folder leaves only its file."""
+        """Whether the crate is proved already. What it left is unpacked; a program that was proved over that folder leaves only its
+        file."""
         kept = f"{KEPT}/{crate.name}"
         if not all(os.path.exists(f"{kept}.{kind}") for kind in ("stamp", "verdict")) or read(f"{kept}.stamp") != self.stamp(crate):
             return False

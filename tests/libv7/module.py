@@ -40,8 +40,10 @@ PLAY = r"""(jobs) => {
     const bytes = bytesOf;
     const names = ({ text, data, bss, symbols }) => [text, data, bss, symbols.map(({ name, type, value }) => [name, type, value])];
     const calls = {
-        check: (file) => LINKER.check(bytes(file)), disassemble: (file) => LINKER.disassemble(bytes(file)), list: (file) => LINKER.list(bytes(file)),
-        listing: (file) => latin(LINKER.fromListing(bytes(file))), gnu: (file) => latin(LINKER.fromGnu(bytes(file))), read: (file) => names(LINKER.read(bytes(file))),
+        check: (file) => LINKER.check(bytes(file)), disassemble: (file) => LINKER.disassemble(bytes(file)),
+        list: (file) => LINKER.list(bytes(file)),
+        listing: (file) => latin(LINKER.fromListing(bytes(file))), gnu: (file) => latin(LINKER.fromGnu(bytes(file))),
+        read: (file) => names(LINKER.read(bytes(file))),
         remarks: (file) => LINKER.remarks(bytes(file)).map(({ part, word, text }) => [part, word, text]),
         map: (files, options, forced) => LINKER.mapOf(files.map(bytes), { options, forced }),
         session: (forced, entry, acts) => {
@@ -90,7 +92,9 @@ HEAP = r"""(seed, count) => {
     const [blocks, faults] = [[], []];
     const bytes = ({ place, size }) => new Uint8Array(memory.buffer, place, size);
     const fill = (block) => { bytes(block).fill(block.mark); return block; };
-    const check = (block) => { if (bytes(block).some((byte) => byte !== block.mark)) faults.push(`${block.size} bytes at ${block.place}`); };
+    const check = (block) => {
+        if (bytes(block).some((byte) => byte !== block.mark)) faults.push(`${block.size} bytes at ${block.place}`);
+    };
     for (let i = 0; i < count; i++) {
         const size = 1 + random(1 << random(i % 50 ? 12 : 18));
         const at = random(blocks.length || 1);
@@ -118,7 +122,8 @@ def of_cases():
     for path in sorted(glob.glob(f"{TOP}/tests/cases/data/*.case")):
         for lines in cases_in(path):
             for part in read_case(lines).parts:
-                forced = {name.decode("latin-1")[:8] for item in part.plans if item.word == "state" for name in forced_in(item.arguments)[0]}
+                forced = {name.decode("latin-1")[:8] for item in part.plans if item.word == "state"
+                          for name in forced_in(item.arguments)[0]}
                 yield [data for data in files_of(part).values() if data is not None and len(data) <= 2048][:8], sorted(forced)
 
 
@@ -126,7 +131,8 @@ def of_library():
     """The files of the tests of libv7, and lists of objects."""
     v7.version()
     from tests.libv7 import library  # after it was said which library that is
-    files = [data for *_, data in library.DAMAGED] + [text.encode("latin-1") for *_, text in library.MISTAKES] + [data for *_, data in library.CONVERTED]
+    files = [data for *_, data in library.DAMAGED] + [text.encode("latin-1") for *_, text in library.MISTAKES]
+    files += [data for *_, data in library.CONVERTED]
     return files, [objects for _, _, objects, _ in library.LIMITS]
 
 
@@ -206,11 +212,13 @@ def in_session(forced, entry, acts):
 
 def parts_read(data):
     parts = v7.read(data)[1]
-    return [[*map(list, parts.text)], [*map(list, parts.data)], parts.bss, [[name.split("\0")[0], kind, value] for name, kind, value in parts.symbols]]
+    return [[*map(list, parts.text)], [*map(list, parts.data)], parts.bss,
+            [[name.split("\0")[0], kind, value] for name, kind, value in parts.symbols]]
 
 
 CALLS = {"check": lambda data: v7.check(data), "disassemble": lambda data: v7.disassemble(data), "list": lambda data: v7.listing(data),
-         "listing": lambda data: v7.from_listing(data.decode("latin-1")).decode("latin-1"), "gnu": lambda data: v7.from_gnu(data).decode("latin-1"),
+         "listing": lambda data: v7.from_listing(data.decode("latin-1")).decode("latin-1"),
+         "gnu": lambda data: v7.from_gnu(data).decode("latin-1"),
          "read": parts_read, "remarks": lambda data: [[one.part, one.word, one.text] for one in v7.remarks(data)]}
 
 
@@ -248,16 +256,19 @@ def check_heap(tools):
         scripts.run(BEGIN)
         came = scripts.run(HEAP, 7, 20_000)
         same("the heap", came if isinstance(came, dict) else (came[0], 5 <= came[1] <= 20, came[2] <= 40), ([], True, True))
-        same("blocks that are too large", scripts.run("() => [1n << 29n, 1n << 30n, 1n << 40n].map((size) => String(heap.malloc(size)))"), ["0"] * 3)
+        same("blocks that are too large", scripts.run("() => [1n << 29n, 1n << 30n, 1n << 40n].map((size) => String(heap.malloc(size)))"),
+             ["0"] * 3)
 
 
 # ---- random changes of the module
-SWAPS = {"add": "sub", "sub": "add", "lt_u": "le_u", "gt_u": "ge_u", "eq": "ne", "ne": "eq", "and": "or", "or": "xor", "shl": "shr_u", "shr_u": "shl", "store16": "store8", "load8_u": "load8_s", "load16_u": "load8_u"}
+SWAPS = {"add": "sub", "sub": "add", "lt_u": "le_u", "gt_u": "ge_u", "eq": "ne", "ne": "eq", "and": "or", "or": "xor", "shl": "shr_u",
+         "shr_u": "shl", "store16": "store8", "load8_u": "load8_s", "load16_u": "load8_u"}
 SPOT = re.compile(r"\((i32|i64)\.(?:const (-?\d+)\)|(" + "|".join(SWAPS) + r")\b)")
 
 
 def changed(line):
-    return SPOT.sub(lambda found: f"({found[1]}.const {int(found[2]) + 1})" if found[2] else f"({found[1]}.{SWAPS[found[3]]}", line, count=1)
+    return SPOT.sub(lambda found: f"({found[1]}.const {int(found[2]) + 1})" if found[2] else f"({found[1]}.{SWAPS[found[3]]}", line,
+                    count=1)
 
 
 def mutate(tools, count):

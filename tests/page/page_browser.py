@@ -146,7 +146,8 @@ class Chromium(Browser):
     def tree(self):
         """The accessibility tree: the nodes by their numbers, and of each its role and its name."""
         nodes = {node["nodeId"]: node for node in self.driver.execute_cdp_cmd("Accessibility.getFullAXTree", {})["nodes"]}
-        return nodes, {number: (node.get("role", {}).get("value", ""), node.get("name", {}).get("value", "")) for number, node in nodes.items()}
+        return nodes, {number: (node.get("role", {}).get("value", ""), node.get("name", {}).get("value", ""))
+                       for number, node in nodes.items()}
 
     def roles(self):
         """What is not ignored of the accessibility tree, as pairs of a role and a name."""
@@ -193,7 +194,8 @@ class Firefox(Browser):
             port = free.getsockname()[1]
         with open(os.path.join(self.home, "user.js"), "w", encoding="ascii") as out:
             out.write(f'user_pref("marionette.port", {port});\nuser_pref("layout.css.devPixelsPerPx", "{zoom}");\n')
-            out.write('user_pref("browser.shell.checkDefaultBrowser", false);\nuser_pref("security.fileuri.strict_origin_policy", false);\n')
+            out.write('user_pref("browser.shell.checkDefaultBrowser", false);\nuser_pref("security.fileuri.strict_origin_policy", '
+                      'false);\n')
         self.window, self.framed = (1366, 768), (0, 0)
         words = [firefox(), "--headless", "--marionette", "--no-remote", "--profile", self.home]
         self.process = subprocess.Popen(words, stdout=subprocess.DEVNULL, stderr=subprocess.DEVNULL, env={**os.environ, "HOME": self.home})
@@ -236,7 +238,8 @@ class Firefox(Browser):
         width, height = self.window
         path = os.path.join(self.home, "frame.html")
         with open(path, "w", encoding="ascii") as out:
-            out.write(f'<body style="margin: 0"><iframe src="{self.url}{address}" style="width: {width}px; height: {height}px; border: 0"></iframe>')
+            out.write(f'<body style="margin: 0"><iframe src="{self.url}{address}" style="width: {width}px; height: {height}px; '
+                      f'border: 0"></iframe>')
         if self.window != self.framed:
             self.send("WebDriver:SetWindowRect", {"width": max(width + 40, 500), "height": height + 120})
             self.framed = self.window

@@ -20,7 +20,9 @@ from tests.lib.programs import v7
 from tests.oracles.disassembly import decoded
 from tests.page.page_lessons import bad_lessons, lesson_answers, lessons_of_all_kinds, remarks
 from tests.page.page_state import Given, Session, Step
-from tests.page.page_tools import CLASS, FIVE, IN_C, LAYOUTS, OPEN, PARTS, SEGMENTS, SIXTEEN, TABLES, WORD, Tools, known_as, lessons_of, object_of, planted, report, same
+from tests.page.page_tools import (
+    CLASS, FIVE, IN_C, LAYOUTS, OPEN, PARTS, SEGMENTS, SIXTEEN, TABLES, WORD, Tools, known_as, lessons_of, object_of, planted, report, same,
+)
 
 # a state as the page has it: each word with its value, the pc bit, what it refers to and which place that is, in the image and in each
 # link, and its sum in each link; names, multiples, marks; and each link
@@ -29,16 +31,23 @@ STATE = """(list) => {
     const words = state.list.flatMap((number, place) => PARTS.flatMap((part) => DATA.objects[number][part].map((_, index) => {
         const { offset, value, pc, kind, name, to, at } = imageWord(state, place, part, index);
         const reference = DATA.objects[number].references[part].get(index);
-        const places = LAYOUTS.map((_, layout) => (at === undefined ? "" : placeOf(state, state.referenceStarts[place] + reference.number, layout)));
-        return [part, offset, value, pc, kind < 0 ? name : SEGMENTS[kind], to, places, LAYOUTS.map((_, layout) => sumOf(state, { own: ownWord(DATA.objects[number], part, index), at }, layout).final)];
+        const places = LAYOUTS.map((_, layout) => (at === undefined
+            ? "" : placeOf(state, state.referenceStarts[place] + reference.number, layout)));
+        return [part, offset, value, pc, kind < 0 ? name : SEGMENTS[kind], to, places,
+            LAYOUTS.map((_, layout) => sumOf(state, { own: ownWord(DATA.objects[number], part, index), at }, layout).final)];
     })));
-    const marks = state.marks.map(markOf).map((mark) => (mark.part ? [mark.part, mark.offset, mark.value, mark.name, mark.bound ?? null, mark.now ?? null] : [mark.name, mark.kind, mark.number]));
-    return { words, names: namesOf(state).map(({ name, kind, number }) => [name, kind, number]), multiples: state.multiples, marks, bss: state.sizes[2],
+    const marks = state.marks.map(markOf).map((mark) => (mark.part
+        ? [mark.part, mark.offset, mark.value, mark.name, mark.bound ?? null, mark.now ?? null] : [mark.name, mark.kind, mark.number]));
+    return { words, names: namesOf(state).map(({ name, kind, number }) => [name, kind, number]), multiples: state.multiples, marks,
+        bss: state.sizes[2],
         links: state.links.map((link, layout) => ({ ...link, table: link.refused ? "" : tableOf(state, layout) })) };
 }"""
-OBJECTS = """() => DATA.objects.map((one) => ({ text: one.text, data: one.data, bss: one.bss, symbols: one.symbols, texts: one.texts, operands: one.operands,
-    labels: PARTS.flatMap((part) => one.labels[part].map(({ index, isExternal, name }) => [part, index, isExternal, name])), branches: one.branches, instructions: one.instructions,
-    relocs: Object.fromEntries(PARTS.map((part) => [part, [...one.references[part]].map(([index, { group }]) => [index, one.groups[group].reloc])])) }))"""
+OBJECTS = """() => DATA.objects.map((one) => ({ text: one.text, data: one.data, bss: one.bss, symbols: one.symbols, texts: one.texts,
+    operands: one.operands,
+    labels: PARTS.flatMap((part) => one.labels[part].map(({ index, isExternal, name }) => [part, index, isExternal, name])),
+    branches: one.branches, instructions: one.instructions,
+    relocs: Object.fromEntries(PARTS.map((part) => [part,
+        [...one.references[part]].map(([index, { group }]) => [index, one.groups[group].reloc])])) }))"""
 
 
 # ---- states
@@ -48,21 +57,26 @@ def compare_image(shown, objects, what):
     wanted = [[part, offset, word.value, bool(word.pc), word.name if word.kind is None else word.kind or "a number", session.place_id(word)]
               for (part, offset), word in session.in_order()]
     same(f"{what}: words", sorted(one[:6] for one in shown["words"]), sorted(wanted))
-    same(f"{what}: names", {name: known_as(kind, number) for name, kind, number in shown["names"]}, {name: known_as(*known) for name, known in session.names.items()})
+    same(f"{what}: names", {name: known_as(kind, number) for name, kind, number in shown["names"]},
+         {name: known_as(*known) for name, known in session.names.items()})
     same(f"{what}: marks of words", sorted(mark[:4] for mark in shown["marks"] if len(mark) > 3),
          sorted([*key, step.before.words[key].value, step.before.words[key].name] for key in step.changed))
     for part, offset, value, name, bound, now in (mark for mark in shown["marks"] if len(mark) > 3):
-        same(f"{what}: {part} {offset:o} is bound", (bound, now, (value + bound) % WORD), (session.names[name][1], session.words[part, offset].value, now))
-    same(f"{what}: marks of names", sorted(mark for mark in shown["marks"] if len(mark) == 3), sorted([name, *step.before.names[name]] for name in step.renamed))
+        same(f"{what}: {part} {offset:o} is bound", (bound, now, (value + bound) % WORD),
+             (session.names[name][1], session.words[part, offset].value, now))
+    same(f"{what}: marks of names", sorted(mark for mark in shown["marks"] if len(mark) == 3),
+         sorted([name, *step.before.names[name]] for name in step.renamed))
     with v7.Session([read_bytes(one.path) for one in objects]) as other:
         state = other.state()
     same(f"{what}: libv7", (sorted(one[:3] for one in shown["words"]), shown["names"], shown["multiples"], shown["bss"]),
-         (sorted([part, one["offset"], one["value"]] for part in PARTS for one in state[part]), [[one["name"], one["state"], one["value"]] for one in state["externals"]],
+         (sorted([part, one["offset"], one["value"]] for part in PARTS for one in state[part]),
+          [[one["name"], one["state"], one["value"]] for one in state["externals"]],
           state["multiples"], state["bss"]))
 
 
 def place_in_link(linked, own, meant):
-    """The id of the place at an address of a link, of which the word names the segment `own`, or none: its end goes before what follows it."""
+    """The id of the place at an address of a link, of which the word names the segment `own`, or none: its end goes before what follows
+    it."""
     base, (magic, text, data, bss) = linked["base"], linked["header"][:4]
     bounds = {"text": (0, text), "data": (base, base + data), "common": (base + data, base + data + linked["commons"]),
               "bss": (base + data + linked["commons"], base + data + bss)}
@@ -94,7 +108,8 @@ def compare_link(shown, layout, name, linked, session, what):
         own = {"T": "text", "D": "data", "B": "bss"}.get(letters.get(word.name)) if word.kind is None else word.kind or ("" if pc else None)
         meant = (final + offset + (base if part == "data" else 0) + 2) % WORD if pc else final
         if word.reloc & 0o17:
-            same(f"{what}: {part} {offset:o}, which refers to {referent}, means", places[layout], "" if own is None else place_in_link(linked, own, meant))
+            same(f"{what}: {part} {offset:o}, which refers to {referent}, means", places[layout], "" if own is None
+                 else place_in_link(linked, own, meant))
     return None
 
 
@@ -151,7 +166,8 @@ def compare_objects(tools, scripts, files):
         same(f"{path}: texts", one["texts"], texts_of(file.data, relocs["data"]))
         same(f"{path}: operands", one["operands"], operands_of(decoded(read_bytes(path))))
         same(f"{path}: labels", sorted(one["labels"]), sorted(labels_of(file)))
-        same(f"{path}: relocation words", one["relocs"], {part: [[i, reloc] for i, reloc in enumerate(relocs[part]) if reloc & 0o17] for part in PARTS})
+        same(f"{path}: relocation words", one["relocs"],
+             {part: [[i, reloc] for i, reloc in enumerate(relocs[part]) if reloc & 0o17] for part in PARTS})
         same(f"{path}: instructions", one["instructions"], {str(index): text for index, text in given.instructions.items()})
         branches = {str(index): given.branch(index) for index in given.instructions if given.branch(index) is not None}
         same(f"{path}: branches", one["branches"], branches)
@@ -165,7 +181,8 @@ def refusals(tools, files):
             same(f"an object that is {fault}", scripts.run(OPEN), {"fault": fault})
     full = write(f"{tools.folder}/full.o", object_of([(0, 0)] * 32_767, []))
     with tools.scripts([full, files[0]])[0] as scripts:
-        same("refused", [scripts.run("(list, object) => refusalOf(list, object)", [one], 1 - one) for one in (0, 1)], ["text full", "text full"])
+        same("refused", [scripts.run("(list, object) => refusalOf(list, object)", [one], 1 - one) for one in (0, 1)],
+             ["text full", "text full"])
 
 
 def scripts_of(folder):

@@ -1,4 +1,5 @@
-"""Looks at where things are on the page of the lesson: arrows, text in its frames, badges. The pictures of docs/pictures are made here too."""
+"""Looks at where things are on the page of the lesson: arrows, text in its frames, badges. The pictures of docs/pictures are made here
+too."""
 import base64
 import re
 import tempfile
@@ -36,12 +37,14 @@ function crosses(path, name) {
     const total = path.getTotalLength();
     const [first, last] = [spot(path, 0), spot(path, total)];
     const box = path.getBoundingClientRect();
-    const near = words.filter((word) => word.box.bottom > box.top && word.box.top < box.bottom && word.box.right > box.left && word.box.left < box.right);
+    const near = words.filter((word) => word.box.bottom > box.top && word.box.top < box.bottom && word.box.right > box.left
+        && word.box.left < box.right);
     counts.crossings += 1;
     for (let at = 0; near.length > 0 && at <= total; at += 3) {
         const point = spot(path, at);
         for (const { box, text } of near) {
-            if (point.x > box.left + 1 && point.x < box.right - 1 && point.y > box.top + 1 && point.y < box.bottom - 1) return fault(`${name} crosses ${text}`);
+            if (point.x > box.left + 1 && point.x < box.right - 1 && point.y > box.top + 1 && point.y < box.bottom - 1)
+                return fault(`${name} crosses ${text}`);
         }
     }
 }
@@ -54,10 +57,13 @@ if (seen(image)) for (const arrow of document.querySelectorAll("g.arrow")) {
     const [from, to] = [rowBox(arrow.dataset.from), rowBox(arrow.dataset.to)];
     const [start, tip, end] = [spot(line, 0), spot(head, 0), spot(line, line.getTotalLength())];
     const name = `the arrow ${arrow.dataset.from} to ${arrow.dataset.to}`;
-    if (!near(start.y, middle(from)) || !near(start.x, from.right)) fault(`${name} starts at ${start.x},${start.y} and not at ${from.right},${middle(from)}`);
+    if (!near(start.y, middle(from)) || !near(start.x, from.right))
+        fault(`${name} starts at ${start.x},${start.y} and not at ${from.right},${middle(from)}`);
     const isDown = !/Q/.test(line.getAttribute("d"));
     const edge = tip.y < middle(to) ? to.top : to.bottom;
-    if (isDown ? !near(tip.y, edge) || !near(tip.x, end.x) || tip.x < from.right || tip.x > to.right : !near(tip.y, middle(to)) || !near(tip.x, to.right) || !near(end.y, middle(to))) fault(`${name} ends at ${tip.x},${tip.y} and not at ${to.right},${middle(to)}`);
+    if (isDown ? !near(tip.y, edge) || !near(tip.x, end.x) || tip.x < from.right || tip.x > to.right : !near(tip.y, middle(to))
+        || !near(tip.x, to.right)
+        || !near(end.y, middle(to))) fault(`${name} ends at ${tip.x},${tip.y} and not at ${to.right},${middle(to)}`);
     crosses(line, name);
     crosses(head, name);
     if (!isDown) lanes.add(Math.round(Number(line.getAttribute("d").match(/Q ([\d.]+)/)[1])));
@@ -72,7 +78,8 @@ for (const chain of document.querySelectorAll("g.chain")) {
         counts.lines += 1;
         const box = rowBox(id);
         const [start, end] = [spot(ticks[i], 0), spot(ticks[i], ticks[i].getTotalLength())];
-        if (!near(start.y, middle(box)) || !near(end.y, middle(box)) || end.x > box.left) fault(`the dashed line of ${id} is at ${end.x},${end.y}`);
+        if (!near(start.y, middle(box)) || !near(end.y, middle(box)) || end.x > box.left)
+            fault(`the dashed line of ${id} is at ${end.x},${end.y}`);
         crosses(ticks[i], `the dashed line of ${id}`);
     });
     crosses(line, "a dashed line");
@@ -90,7 +97,8 @@ for (const frame of document.querySelectorAll(FRAMES)) {
         counts.texts += 1;
         const scrolls = frame.scrollHeight > frame.clientHeight + 1 && getComputedStyle(frame).overflowY === "auto";
         if (box.left < outer.left - 1 || box.right > outer.right + 1) fault(`"${text}" leaves ${frame.id || frame.className} by the side`);
-        if (!scrolls && (box.top < outer.top - 1 || box.bottom > outer.bottom + 1)) fault(`"${text}" leaves ${frame.id || frame.className}`);
+        if (!scrolls && (box.top < outer.top - 1 || box.bottom > outer.bottom + 1))
+            fault(`"${text}" leaves ${frame.id || frame.className}`);
     }
 }
 function apart(boxes, what) {
@@ -98,7 +106,8 @@ function apart(boxes, what) {
     for (let i = 0; i < boxes.length; i++) {
         for (let j = i + 1; j < boxes.length && boxes[j].box.top < boxes[i].box.bottom - 2; j++) {
             const [one, other] = [boxes[i].box, boxes[j].box];
-            if (one.left < other.right - 1 && other.left < one.right - 1) fault(`${what} "${boxes[i].text}" and "${boxes[j].text}" overlap`);
+            if (one.left < other.right - 1 && other.left < one.right - 1)
+                fault(`${what} "${boxes[i].text}" and "${boxes[j].text}" overlap`);
         }
     }
 }
@@ -108,7 +117,8 @@ function isClipped(element) {
     const box = element.getBoundingClientRect();
     return room !== undefined && (box.top < room.top || box.bottom > room.bottom);
 }
-const badges = [...document.querySelectorAll(".page .tag, .page .badge, .page kbd, .page .label")].filter((badge) => seen(badge) && !isClipped(badge));
+const badges = [...document.querySelectorAll(".page .tag, .page .badge, .page kbd, .page .label")].filter((badge) => seen(badge)
+    && !isClipped(badge));
 counts.badges = badges.length;
 apart(badges.map((badge) => ({ box: badge.getBoundingClientRect(), text: badge.textContent })), "the badges");
 for (const row of document.querySelectorAll(".word, .name, .card .head, .mark")) if (seen(row)) apart(textBoxes(row), "the texts");
@@ -119,7 +129,8 @@ for (const button of document.querySelectorAll("button, summary, input, select")
     if (!seen(button) || isClipped(button) || button.closest(".adds") || x < 0 || y < 0 || x > innerWidth || y > innerHeight) continue;
     counts.pressed = (counts.pressed ?? 0) + 1;
     const above = document.elementFromPoint(x, y);
-    if (!above || !(button.contains(above) || above.contains(button) && !above.matches("#main, .page, body"))) fault(`${button.textContent.trim() || button.id} is covered by ${above?.id || above?.className}`);
+    if (!above || !(button.contains(above) || above.contains(button) && !above.matches("#main, .page, body")))
+        fault(`${button.textContent.trim() || button.id} is covered by ${above?.id || above?.className}`);
 }
 const root = document.documentElement;
 if (root.scrollWidth > root.clientWidth + 1) fault(`the page is ${root.scrollWidth} wide, and the window ${root.clientWidth}`);
@@ -139,7 +150,8 @@ FIREFOX_SIZES = [(width, 800, 1) for width in (390, 820, 1280, 1920)]
 
 # of each page the states that are looked at
 STATES = {
-    "the default page": ["", "objects=1", "objects=1,2", "objects=1&withdrawn=2", "objects=3,4", "objects=4,3,1,2,5&addresses=-n", "objects=3,4&withdrawn=1",
+    "the default page": ["", "objects=1", "objects=1,2", "objects=1&withdrawn=2", "objects=3,4", "objects=4,3,1,2,5&addresses=-n",
+                         "objects=3,4&withdrawn=1",
                          "objects=1,2&addresses=-r&numbers=decimal", "tour=1", "objects=1,2&tour=4", "objects=1&lesson=1&done=1",
                          "objects=1,2,5&addresses=plain&lesson=5&done=4"],
     "five objects": ["objects=1", "objects=1,2", "objects=1,2,3,4,5", "objects=1,2,3,4,5&addresses=-i", "objects=1,2,3,4&withdrawn=5"],
@@ -148,12 +160,14 @@ STATES = {
     + ["objects=1,2,3,4,5,6,7,8,9,10&addresses=-r", "objects=1,2,3,4,5,6,7,8,9&withdrawn=10"],
 }
 # names and words that are chosen besides, each in the last state but one of its page
-CHOSEN = {"the default page": ["name _count", "text-6"], "five objects": ["name left", "text-2", "text-46"], "five large objects": ["name csv", "name _say"],
+CHOSEN = {"the default page": ["name _count", "text-6"], "five objects": ["name left", "text-2", "text-46"],
+          "five large objects": ["name csv", "name _say"],
           "sixteen objects": ["name csv", "name _say", "text-0", "name _here"]}
 
 # gives each word of text an instruction, as long as they come; how many of them are shown
 INSTRUCTIONS = """
-for (const object of DATA.objects) object.instructions = object.text.map((_, index) => index % 3 === 1 ? "" : "movb *-177776(r5),*_longname+177776(r4)");
+for (const object of DATA.objects) object.instructions = object.text.map((_, index) => index % 3 === 1
+    ? "" : "movb *-177776(r5),*_longname+177776(r4)");
 document.querySelectorAll(".given").forEach((words, i) => { words.open = true; showListing(words, DATA.objects[i]); });
 showAll();
 return document.querySelectorAll(".instruction").length;
@@ -167,11 +181,13 @@ const drawn = [...document.querySelectorAll("#drawing")].filter((element) => ele
 if (drawn) faults.push("arrows are on the paper");
 for (const row of document.querySelectorAll(".word:not(.spot):not(.cut-off)")) {
     const word = wordAt(stateNow(), row.id.split("-")[0], Number(row.id.split("-")[1]));
-    const said = [...row.querySelectorAll(".target, .place")].filter((part) => part.checkVisibility()).map((part) => part.textContent).join("");
+    const saying = [...row.querySelectorAll(".target, .place")].filter((part) => part.checkVisibility());
+    const said = saying.map((part) => part.textContent).join("");
     const place = document.querySelector(`[id="${word.to}"].place-line`);
     const isBelow = place?.checkVisibility() && row.compareDocumentPosition(place) & Node.DOCUMENT_POSITION_FOLLOWING;
     if (word.kind > 0 && !isBelow && !said.startsWith(SEGMENTS[word.kind] + " ")) faults.push(`${row.id} says ${said}`);
-    if (word.kind < 0 && !said.includes(word.name) && !row.querySelector(".instruction")?.textContent.includes(word.name)) faults.push(`${row.id} says ${said}`);
+    if (word.kind < 0 && !said.includes(word.name) && !row.querySelector(".instruction")?.textContent.includes(word.name))
+        faults.push(`${row.id} says ${said}`);
 }
 return { faults, counts: { printed: document.querySelectorAll(".word").length } };
 """
@@ -278,4 +294,5 @@ def compare_pictures(page):
     with tempfile.TemporaryDirectory() as folder:
         make_pictures(page, folder)
         for name in STATES_SHOWN:
-            same(f"docs/pictures/{name}.png, as the part `pictures` makes it", difference(page, f"{folder}/{name}.png", f"{PICTURES}/{name}.png") <= LIMIT, True)
+            same(f"docs/pictures/{name}.png, as the part `pictures` makes it",
+                 difference(page, f"{folder}/{name}.png", f"{PICTURES}/{name}.png") <= LIMIT, True)

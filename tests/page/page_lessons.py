@@ -83,7 +83,8 @@ add main.o
 say <!-- </script> -->
 lesson Two
 add main.o
-say PDP-11, r0 and "15" are no numbers; {text 2 = 177774} {after text 2 = 4} {before text 2 = 0} {reloc text 2 = 51} {reloc text 0 = 0} {size text = 12} {_count = 2} {plain _count = 12} {-n data = 20000} are.
+say PDP-11, r0 and "15" are no numbers; {text 2 = 177774} {after text 2 = 4} {before text 2 = 0} {reloc text 2 = 51} \
+{reloc text 0 = 0} {size text = 12} {_count = 2} {plain _count = 12} {-n data = 20000} are.
 add twice.o
 say It was {was text 6 = 177770}, and is {at text 6 = 6} {text 6 = 2} {_twice = 12} {-n text 2 = 17774}.
 ask changes Which?
@@ -125,7 +126,8 @@ def lesson_answers(tools, scripts, files, lessons=10, answers=12):
             after, changed = after_step(here, word, rest)
             if asked:
                 said = answer_said(tools, asked, [files[number] for number in after], word, rest, [files[number] for number in changed])
-                same(f"the answer to {asked}, {word}", [asked[0], *sorted(said[1:])] if asked[0] == "changes" else said, [asked[0], *sorted(asked[1:])] if asked[0] == "changes" else asked)
+                same(f"the answer to {asked}, {word}", [asked[0], *sorted(said[1:])] if asked[0] == "changes" else said,
+                     [asked[0], *sorted(asked[1:])] if asked[0] == "changes" else asked)
                 compared_here += 1
             here, asked = after, None
     same("lessons", (sum(line[0] == "lesson" for line in lines), compared_here >= answers), (lessons, True))
@@ -134,7 +136,8 @@ def lesson_answers(tools, scripts, files, lessons=10, answers=12):
 def remarks(_, scripts, files):
     """What a lesson quotes of v7-explain is what libv7 remarks on the object that was added last, and on no other."""
     here, count = [], 0
-    odd = [[one["text"] for one in scripts.run("(number) => LINKER.remarks(DATA.objects[number].bytes)", number)] for number in range(len(files))]
+    odd = [[one["text"] for one in scripts.run("(number) => LINKER.remarks(DATA.objects[number].bytes)", number)]
+           for number in range(len(files))]
     for word, *rest in scripts.run("() => DATA.lessons"):
         here = {"lesson": [], "add": [*here, *rest], "withdraw": here[:-1]}.get(word, here)
         quoted = re.search(r'v7-explain has a remark: "(.*)"\.$', str(rest[-1])) if word == "say" else None
@@ -146,7 +149,8 @@ def remarks(_, scripts, files):
 
 
 def answer_said(tools, asked, files, word, rest, changed):
-    """A question with the answer that the model and the programs give; `changed` are the objects whose last one the step adds or withdraws."""
+    """A question with the answer that the model and the programs give; `changed` are the objects whose last one the step adds or
+    withdraws."""
     kind, *about = asked
     if kind == "changes":
         return ["changes", *(f"{part}-{offset}" for part, offset in (Step([Given(file) for file in changed]).changed if changed else []))]

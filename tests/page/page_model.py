@@ -23,7 +23,8 @@ BESIDES = re.compile(r" \d+ arrows? more: choose a word to see its own\.| Now ad
 def says(_, page, files, most=1000):
     """The sentence, the status, the names and what is struck out in each state, or so many, and all words and names."""
     objects, count = [Given(file) for file in files], len(files)
-    lists = [order for length in range(1, count + 1) for order in permutations(range(count), length)] if count <= 5 else [range(length) for length in range(1, count + 1)]
+    lists = [order for length in range(1, count + 1)
+             for order in permutations(range(count), length)] if count <= 5 else [range(length) for length in range(1, count + 1)]
     lists = lists[::max(1, len(lists) // most)]
     for order in lists:
         for is_gone in (False, True):
@@ -36,7 +37,8 @@ def says(_, page, files, most=1000):
             same(f"{what}: what is struck out", {word["id"]: word["was"] for word in shown["words"] if word["isOld"]}, step.struck())
             session = step.before if is_gone else step.after
             same(f"{what}: labels", {word["id"]: sorted(word["labels"]) for word in shown["words"] if word["labels"]}, step.after.labels())
-            same(f"{what}: headings", [head for head in shown["heads"] if not is_gone or " 00 (0.)" not in head and head.startswith(tuple(session.sizes))], session.heads())
+            same(f"{what}: headings", [head for head in shown["heads"] if not is_gone or " 00 (0.)" not in head
+                                       and head.startswith(tuple(session.sizes))], session.heads())
             same(f"{what}: lines", lines_on(shown), (step.before if is_gone else step.after).lines())
     return 2 * len(lists)
 
@@ -48,13 +50,15 @@ def in_decimal(_, page, files):
     """In decimal each number of six octal digits is the decimal one, and has no 0 before it."""
     decimal = lambda text: re.sub(r"\b[0-7]{6}\b", lambda found: str(int(found[0], 8)), text)
     for count, layout in ((2, -1), (len(files), -1), (len(files), 1)):
-        page.run("show({ ...START, list: DATA.objects.map(({ number }) => number).slice(0, arguments[0]), layout: arguments[1] })", count, layout)
+        page.run("show({ ...START, list: DATA.objects.map(({ number }) => number).slice(0, arguments[0]), layout: arguments[1] })", count,
+                 layout)
         both = []
         for is_decimal in (False, True):
             page.run(DECIMAL, is_decimal)
             shown = read(page, False)
             both.append([[word[key].strip(" \u2007") for key in ("id", "offset", "value", "sum", "given-word")] for word in shown["words"]]
-                        + [name[:3] for name in shown["names"]] + [[mark] for mark in shown["marks"] if not re.search("[+\u2212]", mark)] + [[shown["note"]]])
+                        + [name[:3] for name in shown["names"]] + [[mark] for mark in shown["marks"] if not re.search("[+\u2212]", mark)]
+                        + [[shown["note"]]])
         same(f"{count} objects in decimal, layout {layout}", both[1], [[*map(decimal, line)] for line in both[0]])
         page.run(DECIMAL, False)
 
@@ -67,7 +71,9 @@ def reloc_said(reloc):
 
 CARDS = """
 document.querySelectorAll(".given").forEach((words, i) => { words.open = true; showListing(words, DATA.objects[i]); });
-return [...document.querySelectorAll(".card")].map((card) => [[...card.querySelectorAll("[role=option]")].map((row) => [...row.children].map((cell) => cell.textContent)), card.querySelector(".symbols").textContent.split("\\n")]);
+const cells = (row) => [...row.children].map((cell) => cell.textContent);
+return [...document.querySelectorAll(".card")].map((card) => [[...card.querySelectorAll("[role=option]")].map(cells),
+    card.querySelector(".symbols").textContent.split("\\n")]);
 """
 # the description of a chosen row, whether it is shown (Firefox says of what attribute), and the sentence
 CHOSEN = """
@@ -78,16 +84,19 @@ return [said, after.includes(said) || after.includes("attr(aria-description)"), 
 
 
 def cards(_, page, files):
-    """Each line of a card: where the word is in its object, its value, and its relocation word; the chosen row has this too. The symbols have
-    the numbers that these words name."""
+    """Each line of a card: where the word is in its object, its value, and its relocation word; the chosen row has this too. The symbols
+    have the numbers that these words name."""
     shown = page.run(CARDS)
     for file, (rows, symbols) in zip(files, shown):
         one = Given(file)
-        same(f"symbols of the card of {one.name}", [(line.split()[0], line.split()[-1]) for line in symbols], [(str(number), name) for number, (name, _, _) in enumerate(one.symbols)])
+        same(f"symbols of the card of {one.name}", [(line.split()[0], line.split()[-1]) for line in symbols],
+             [(str(number), name) for number, (name, _, _) in enumerate(one.symbols)])
         words = Session([one]).words.values()
-        same(f"the card of {one.name}", [row[:2] for row in rows], [[f"{one.start(word.part) + 2 * word.index:06o}", f"{word.own:06o}"] for word in words])
+        same(f"the card of {one.name}", [row[:2] for row in rows],
+             [[f"{one.start(word.part) + 2 * word.index:06o}", f"{word.own:06o}"] for word in words])
         for word, (_, _, said) in zip(words, rows):
-            same(f"the relocation word of {one.name}, {word.part} {word.index}: {said}", said.startswith(reloc_said(word.reloc)) if word.reloc else " = " not in said, True)
+            same(f"the relocation word of {one.name}, {word.part} {word.index}: {said}", said.startswith(reloc_said(word.reloc))
+                 if word.reloc else " = " not in said, True)
     page.open("#objects=1,2")
     buttons = page.run("return [...document.querySelectorAll('.add > span')].map((one) => one.textContent)")
     same("the buttons of the cards", buttons, ["1 of 2", "2 of 2", *["Add"] * (len(files) - 2)])
@@ -105,7 +114,11 @@ def in_link(_, page, files):
         same(f"what {shown['id']} of a link refers to", shown["of"], f"{word.name}{addend_said(word.added)}" if word.name else word.kind)
 
 
-LEGEND = "return [...document.querySelectorAll('.legend li')].map((line) => [line.querySelector('.swatch')?.className ?? '', line.querySelector('b')?.textContent ?? '']).filter(([swatch]) => swatch);"
+LEGEND = """
+const lines = [...document.querySelectorAll(".legend li")];
+return lines.map((line) => [line.querySelector(".swatch")?.className ?? "", line.querySelector("b")?.textContent ?? ""])
+    .filter(([swatch]) => swatch);
+"""
 
 
 def counts_said(_, page, __):
@@ -117,8 +130,8 @@ def counts_said(_, page, __):
 
 
 def in_object(_, page, files):
-    """A word that refers to a segment has the number that it has in its object too, if that is another one. A branch of the image leads to its
-    place there, and has that of the object after it, if this is another one; the sentence says so."""
+    """A word that refers to a segment has the number that it has in its object too, if that is another one. A branch of the image leads to
+    its place there, and has that of the object after it, if this is another one; the sentence says so."""
     page.run("show({ ...START, list: DATA.objects.map(({ number }) => number).slice(0, arguments[0]) })", len(files))
     count, words = 0, Session([Given(file) for file in files]).rows()
     for shown in read(page)["words"]:
@@ -128,7 +141,8 @@ def in_object(_, page, files):
         own, front = branch_of(word.own, 2 * word.index), shown["number"] - 2 * word.index
         if word.part == "text" and not word.reloc & 0o17 and own is not None and re.match(r"(b\w+|sob \w+,) ?[0-7]+(,|$)", said):
             target = (own + front) % WORD
-            same(f"the branch {key}", re.search(r"[ ,]([0-7]+)(?:, in (\S+) ([0-7]+))?$", said).groups(), (f"{target:o}", word.of.name, f"{own:o}") if front else (f"{target:o}", None, None))
+            same(f"the branch {key}", re.search(r"[ ,]([0-7]+)(?:, in (\S+) ([0-7]+))?$", said).groups(),
+                 (f"{target:o}", word.of.name, f"{own:o}") if front else (f"{target:o}", None, None))
             note = page.run(CHOSEN, key)[2]
             same(f"the sentence of the branch {key}: {note}", f"branches to text {target:06o}" in note, True)
             count += front > 0
@@ -147,7 +161,8 @@ def owners(_, page, files):
     page.settle()
     chips, places = page.run(OWNERS)
     objects = [Given(file) for file in files]
-    same(f"{len(files)} objects in their order", chips, [f"{number} {one.name} {(one.text + one.data) // 2}" for number, one in enumerate(objects, 1)])
+    same(f"{len(files)} objects in their order", chips,
+         [f"{number} {one.name} {(one.text + one.data) // 2}" for number, one in enumerate(objects, 1)])
     words = Session(objects).rows()
     same(f"{len(files)} objects: the objects of places", [said for _, said in places], [words[key].of.name for key, _ in places])
     return len(places)
@@ -165,8 +180,10 @@ ON_SCREEN = SEEN + r"""
 const wait = nextStep(), found = [];
 const has = (row) => row && new RegExp(`\\b${octal(wait.number)}\\b`).test(row.textContent);
 if (wait.kind === "changes" && wait.act[0] === "withdraw" && wait.answers.length > 0) found.push("the marks have what is put back");
-if (wait.kind === "value" && [...document.querySelectorAll("#image .word, #marks .mark")].some((row) => row.dataset.key === wait.word && has(row))) found.push(`${wait.word} has ${octal(wait.number)}`);
-if (wait.kind === "where" && wait.number !== null && [...document.querySelectorAll("#names .name")].some((row) => row.dataset.key === `name ${wait.name}` && has(row))) found.push(`${wait.name} has ${octal(wait.number)}`);
+const says = (rows, key) => [...document.querySelectorAll(rows)].some((row) => row.dataset.key === key && has(row));
+if (wait.kind === "value" && says("#image .word, #marks .mark", wait.word)) found.push(`${wait.word} has ${octal(wait.number)}`);
+if (wait.kind === "where" && wait.number !== null && says("#names .name", `name ${wait.name}`))
+    found.push(`${wait.name} has ${octal(wait.number)}`);
 if (wait.act?.[0] === "link" && wait.act[1] === view.layout) found.push("the link is shown");
 if (wait.kind === "changes") {
     const out = wait.answers.filter((key) => !seen(byId(key)));
@@ -195,8 +212,8 @@ def asked(page):
 
 
 def questions(_, page, __):
-    """Under an open question nothing changes the session, its answer is not on the screen, and the right words are on the stage; a number in the
-    other base is reported."""
+    """Under an open question nothing changes the session, its answer is not on the screen, and the right words are on the stage; a number
+    in the other base is reported."""
     count, others = 0, 0
     for what in asked(page):
         before = page.run("return [view.list, view.gone, view.layout, view.guide, view.done]")
@@ -205,13 +222,16 @@ def questions(_, page, __):
         other = page.run(OTHER_BASE)
         if other:
             typed, number, reason, is_right = other
-            same(f"{what}: {typed} for {number:o}", (is_right, reason), (False, f"Read in decimal that is right, but {typed} is octal here: type 0{number:o}, or {number}. with the point."))
+            same(f"{what}: {typed} for {number:o}", (is_right, reason),
+                 (False, f"Read in decimal that is right, but {typed} is octal here: type 0{number:o}, or {number}. with the point."))
         count, others = count + 1, others + bool(other)
     done = page.run("return GUIDES[1].steps.findIndex(({ ask }) => ask) - 1")
     page.open(f"#objects=2&lesson=1&done={done}")
-    same("an address with other objects", page.run("return [view.list, isAsked()]"), [page.run("return guideView(1, arguments[0]).list", done), True])
+    same("an address with other objects", page.run("return [view.list, isAsked()]"),
+         [page.run("return guideView(1, arguments[0]).list", done), True])
     same("questions, and numbers in the other base", (count > 5, others > 0), (True, True))
 
 
 # the checks of this file, and those of pages.py's pages that each is for
-CHECKS = ((says, (0, 1, 2, 3)), (in_decimal, (0, 1, 2)), (cards, (0, 1, 2)), (in_link, (0, 1, 2, 3)), (in_object, (1, 3)), (counts_said, (0,)), (owners, (3,)), (questions, (0, 1, 2)))
+CHECKS = ((says, (0, 1, 2, 3)), (in_decimal, (0, 1, 2)), (cards, (0, 1, 2)), (in_link, (0, 1, 2, 3)), (in_object, (1, 3)),
+          (counts_said, (0,)), (owners, (3,)), (questions, (0, 1, 2)))

@@ -20,8 +20,15 @@ window.openedFiles = byId("live").textContent = "";
 document.body.dispatchEvent(new DragEvent("drop", { bubbles: true, cancelable: true, dataTransfer: given }));
 """
 # what is saved in place of a file
-SAVED = "window.saved = []; window.saveFile = (name, content) => saved.push([name, btoa(typeof content === 'string' ? unescape(encodeURIComponent(content)) : latin(content))]);"
-TYPE = "byId('own-text').value = byId('own-text').value.replace(arguments[0], arguments[1]); byId('own-text').dispatchEvent(new Event('input'));"
+SAVED = """
+window.saved = [];
+const coded = (content) => btoa(typeof content === "string" ? unescape(encodeURIComponent(content)) : latin(content));
+window.saveFile = (name, content) => saved.push([name, coded(content)]);
+"""
+TYPE = """
+byId("own-text").value = byId("own-text").value.replace(arguments[0], arguments[1]);
+byId("own-text").dispatchEvent(new Event("input"));
+"""
 OBJECTS = "return [DATA.objects.map(({ number }) => label(number)), byId('own-refused').textContent]"
 
 
@@ -37,11 +44,13 @@ def dropped(tools, page, files):
     names = [os.path.basename(file) for file in files]
     page.open("")
     squares, listed = read_bytes(f"{os.path.dirname(CLASS[0])}/squares.gnu"), read_bytes(f"{os.path.dirname(CLASS[0])}/k.lst")
-    same("dropped", drop(page, ("own.o", read_bytes(IN_C[0])), ("squares.gnu", squares), ("listed.lst", listed)), [[*names, "own.o", "squares.gnu", "listed.lst"], ""])
+    same("dropped", drop(page, ("own.o", read_bytes(IN_C[0])), ("squares.gnu", squares), ("listed.lst", listed)),
+         [[*names, "own.o", "squares.gnu", "listed.lst"], ""])
     same("lessons that stay", page.run("return GUIDES.length"), 12)
     made = [f"{tools.folder}/{name}" for name in ("own.o", "converted.o", "listed.o")]
     write(made[0], read_bytes(IN_C[0]))
-    same("v7-from-gnu", ran(tools.explain.replace("v7-explain", "v7-from-gnu"), f"{os.path.dirname(CLASS[0])}/squares.gnu", made[1]).status, 0)
+    same("v7-from-gnu", ran(tools.explain.replace("v7-explain", "v7-from-gnu"), f"{os.path.dirname(CLASS[0])}/squares.gnu", made[1]).status,
+         0)
     write(made[2], read_bytes(f"{os.path.dirname(CLASS[0])}/k.o"))
     page.run("for (const number of [5, 6, 7]) addObject(number)")
     session = Session([Given(path) for path in made])
@@ -49,26 +58,32 @@ def dropped(tools, page, files):
     same("the image of dropped objects", lines_on(page_states.read(page)), wanted)
     bad = read_bytes(IN_C[0])[:-3]
     for name, data, fault in (("cut.o", bad, "truncated"), ("odd.o", b"\7\1\3\0" + bytes(12), "odd size"), ("x.o", b"\1", "short header"),
-                              ("bad.lst", b"text\n000000 9 0\n", "line 2, column 8: not an octal number"), ("lessons.txt", b"lesson A\nadd no.o\n", "line 2: no step adds no.o")):
+                              ("bad.lst", b"text\n000000 9 0\n", "line 2, column 8: not an octal number"),
+                              ("lessons.txt", b"lesson A\nadd no.o\n", "line 2: no step adds no.o")):
         there, said = drop(page, (name, data))
         same(f"{name} is refused", (said, there[-1]), (f"{name}: {fault}", "listed.lst"))
     same("the list stays", page.run("return view.list"), [5, 6, 7])
 
 
 def edited(_, page, __):
-    """A listing that is edited makes its object again, and the image follows; a mistake is told with its line, and a remark with its word."""
+    """A listing that is edited makes its object again, and the image follows; a mistake is told with its line, and a remark with its
+    word."""
     page.open("#objects=1,2")
     page.run("editListing(1)")
     page.run(TYPE, "006300", "006301")
     page.wait("return DATA.objects[1].text[0] === 0o6301")
-    same("the image after an edit", page.run("return [view.list, wordAt(stateNow(), 'text', 10).value, byId('own-said').textContent]"), [[0, 1], 0o6301, ""])
+    same("the image after an edit", page.run("return [view.list, wordAt(stateNow(), 'text', 10).value, byId('own-said').textContent]"),
+         [[0, 1], 0o6301, ""])
     page.run(TYPE, "006301", "9")
     page.wait("return byId('own-said').textContent !== ''")
-    same("a mistake", page.run("return [byId('own-said').textContent.split('\\n')[0], DATA.objects[1].text[0]]"), ["twice.o: line 3, column 9: not an octal number", 0o6301])
+    same("a mistake", page.run("return [byId('own-said').textContent.split('\\n')[0], DATA.objects[1].text[0]]"),
+         ["twice.o: line 3, column 9: not an octal number", 0o6301])
     page.run("byId('own-name').value = 'odd.o'")
-    page.run("byId('own-text').value = 'text\\n000000 000207 0\\nsymbols\\n0 _x 40 0\\nend\\n'; byId('own-text').dispatchEvent(new Event('input'));")
+    page.run("byId('own-text').value = 'text\\n000000 000207 0\\nsymbols\\n0 _x 40 0\\nend\\n'; "
+             "byId('own-text').dispatchEvent(new Event('input'));")
     page.wait("return DATA.objects.length === 6")
-    same("a remark", page.run("return byId('own-said').textContent"), "symbol 0 _x is undefined, and no word refers to it: a mistake, if this is not meant")
+    same("a remark", page.run("return byId('own-said').textContent"),
+         "symbol 0 _x is undefined, and no word refers to it: a mistake, if this is not meant")
 
 
 def linked(tools, page, files):
@@ -82,19 +97,24 @@ def linked(tools, page, files):
             words = [*options, *(word for name in forced for word in ("-u", name)), *(["-e", entry] if entry else [])]
             ran(tools.v7, "ld", *words, "-o", f"{tools.folder}/wanted", *files[:3])
             wanted = read_bytes(f"{tools.folder}/wanted")
-            same(f"the link {words}", page.run("return saved.pop()"), ["linked.o" if number == 3 else "a.out", base64.b64encode(wanted).decode()])
+            same(f"the link {words}", page.run("return saved.pop()"),
+                 ["linked.o" if number == 3 else "a.out", base64.b64encode(wanted).decode()])
             if not forced:
-                same(f"the report of {words}", page.run("return byId('report').textContent + '\\n'"), tools.link(words, files[:3])["report"].rstrip("\n") + "\n")
+                same(f"the report of {words}", page.run("return byId('report').textContent + '\\n'"),
+                     tools.link(words, files[:3])["report"].rstrip("\n") + "\n")
     page.run("byId('own-add').click()")
-    same("the output of -r as an object", page.run("return [label(DATA.objects.length - 1), btoa(latin(DATA.objects[DATA.objects.length - 1].bytes))]"), ["linked.o", base64.b64encode(wanted).decode()])
+    same("the output of -r as an object", page.run("return [label(DATA.objects.length - 1), btoa(latin(DATA.objects.at(-1).bytes))]"),
+         ["linked.o", base64.b64encode(wanted).decode()])
 
 
 def kept(tools, page, _):
-    """The address keeps objects of one's own, what links are asked for, and how the page looks; a page that is saved keeps objects and lessons."""
+    """The address keeps objects of one's own, what links are asked for, and how the page looks; a page that is saved keeps objects and
+    lessons."""
     page.open("#objects=1,2&addresses=-n&entry=_main&forced=_a,_b&maps&large&chosen=text-6")
     look = "return [location.hash, view, areMapsShown, isLarge(), chosen, ASKED, DATA.objects.length]"
     before = page.run(look)
-    same("what an address keeps", (before[2:], before[1]["layout"]), ([True, True, "text-6", {"entry": "_main", "forced": ["_a", "_b"]}, 5], 1))
+    same("what an address keeps", (before[2:], before[1]["layout"]),
+         ([True, True, "text-6", {"entry": "_main", "forced": ["_a", "_b"]}, 5], 1))
     page.open("")
     drop(page, ("own.o", read_bytes(TABLES[0])))
     page.run("addObject(5); choose('text-2', true)")
@@ -111,17 +131,20 @@ def kept(tools, page, _):
     page.run("byId('own-page').click()")
     [[_, text]] = page.run("return saved")
     page.load(write(f"{tools.folder}/saved.html", base64.b64decode(text).decode("utf-8")))
-    same("a page that was saved", page.run("return [DATA.objects.length, GUIDES.map(({ title }) => title).slice(1, -1), byId('sets').length]"), [6, ["One"], 2])
+    same("a page that was saved", page.run("return [DATA.objects.length, GUIDES.map(({ title }) => title).slice(1, -1), "
+                                           "byId('sets').length]"), [6, ["One"], 2])
 
 
 def restarted(tools, page, files):
     """Without memory, or after a trap, a new linker shows the list that was there, and says so; then the step can be made."""
-    for fault, said in (("current.add = () => { throw new Fault({ fault: NO_MEMORY }); }", "There was no memory for that"), ("current.handle = 0xfffffff0", "The linker has stopped")):
+    for fault, said in (("current.add = () => { throw new Fault({ fault: NO_MEMORY }); }", "There was no memory for that"),
+                        ("current.handle = 0xfffffff0", "The linker has stopped")):
         page.load(tools.page_of(files))
         page.open("#objects=1")
         page.run(f"{fault}; document.querySelector('#add2').click()")
         page.wait("return byId('note').classList.contains('refused')")
-        same(f"after {fault}", page.run("return [view.list, location.hash, byId('note').textContent]"), [[0], "#objects=1", f"{said}: the page is as it was before this step."])
+        same(f"after {fault}", page.run("return [view.list, location.hash, byId('note').textContent]"),
+             [[0], "#objects=1", f"{said}: the page is as it was before this step."])
         page.run("byId('add2').click()")
         same(f"a step after {fault}", lines_on(page_states.read(page)), Session([Given(file) for file in files[:2]]).lines())
 
@@ -134,8 +157,10 @@ def sets(tools, page, _):
     seen = []
     for number in range(3):
         page.run("byId('sets').value = arguments[0]; byId('sets').dispatchEvent(new Event('change'))", str(number))
-        seen.append(page.run("return [DATA.objects.map(({ path }) => path), GUIDES.length - 2, byId('own-refused').textContent, location.hash]"))
-    wanted = [[[f"{folder}/{name}" for name in names], read(f"{folder}/lessons.txt").count("\nlesson "), "", f"#set={number}" if number > 1 else ""]
+        seen.append(page.run("return [DATA.objects.map(({ path }) => path), GUIDES.length - 2, byId('own-refused').textContent, "
+                             "location.hash]"))
+    wanted = [[[f"{folder}/{name}" for name in names], read(f"{folder}/lessons.txt").count("\nlesson "), "", f"#set={number}" if number > 1
+               else ""]
               for number, (_, folder, names) in enumerate(pages.SETS, 1)]
     same("the sets", seen, wanted)
     same("bytes of the page", os.path.getsize(path) < 500_000, True)

@@ -16,7 +16,8 @@ def first(count):
     return "objects=" + ",".join(str(number) for number in range(1, count + 1))
 
 
-# ---- arrows: for some words that refer to something the row at which the drawn arrow ends, its number, and whether the word is relative to the pc
+# ---- arrows: for some words that refer to something the row at which the drawn arrow ends, its number, and whether the word is relative
+# to the pc
 ENDS = r"""
 const [step, first] = arguments;
 const found = [];
@@ -29,8 +30,10 @@ allReferences(state).forEach((one, i) => {
     const row = document.getElementById(arrow.dataset.to);
     const head = arrow.querySelector(".head").getBoundingClientRect(), box = row.getBoundingClientRect();
     const [middle, near] = [(head.top + head.bottom) / 2, (one, other) => Math.abs(one - other) <= 2];
-    const isAt = (middle > box.top && middle < box.bottom) || (head.right <= box.right + 2 && (near(head.bottom, box.top) || near(head.top, box.bottom)));
-    found.push([one.id, isAt ? row.id : `not at ${row.id}`, row.querySelector(".offset")?.textContent.replace(/^[a-z]+ /, "") ?? "no row", isPc]);
+    const isAt = (middle > box.top && middle < box.bottom)
+        || (head.right <= box.right + 2 && (near(head.bottom, box.top) || near(head.top, box.bottom)));
+    found.push([one.id, isAt ? row.id : `not at ${row.id}`,
+        row.querySelector(".offset")?.textContent.replace(/^[a-z]+ /, "") ?? "no row", isPc]);
 });
 choose("", false);
 return found;
@@ -77,15 +80,17 @@ const isWholeArrow = (key) => {
     const to = wordOf(stateNow(), key)?.to;
     return Boolean(to) && arrowOf(key)?.dataset.to === to && seen(byId(key)) && seen(byId(to));
 };
-const more = [...document.querySelectorAll("#image .more-line")].filter(seen).reduce((sum, row) => sum + Number(row.textContent.match(/and (\d+) other/)?.[1] ?? 0), 0);
+const more = [...document.querySelectorAll("#image .more-line")].filter(seen)
+    .reduce((sum, row) => sum + Number(row.textContent.match(/and (\d+) other/)?.[1] ?? 0), 0);
 """
-# of a step: what is hidden of it; its changed words, how many have rows in view, and how many are counted there; those that lead somewhere, and
-# whole arrows of these; arrows with an end out of view; and where everything is
+# of a step: what is hidden of it; its changed words, how many have rows in view, and how many are counted there; those that lead somewhere,
+# and whole arrows of these; arrows with an end out of view; and where everything is
 STEP = SEEN + r"""
 const within = (element, room) => {
     if (!element || !element.checkVisibility()) return false;
     const [box, frame] = [element.getBoundingClientRect(), room.getBoundingClientRect()];
-    return box.top >= frame.top - 1 && box.bottom <= Math.min(frame.bottom, innerHeight) + 1 && box.left >= -1 && box.right <= innerWidth + 1;
+    return box.top >= frame.top - 1 && box.bottom <= Math.min(frame.bottom, innerHeight) + 1 && box.left >= -1
+        && box.right <= innerWidth + 1;
 };
 // whether a row shows the instruction that its word belongs to, if it belongs to one
 const showsInstruction = (one) => {
@@ -98,38 +103,47 @@ const showsInstruction = (one) => {
 };
 // whether a row has the name for which its word waited, and what the word was; the row of the place has the name too, if it is a word
 const isNamed = (row) => {
-    const [word, names] = [wordOf(stateNow(), row.id), [...row.querySelectorAll(".instruction, .bound-name, .target")].map((part) => part.textContent).join(" ")];
-    const labels = byId(word.to)?.matches(".place-line") && word.own.meant === 0 ? [...byId(word.to).querySelectorAll(".label")].map((part) => part.textContent) : [`${word.own.name}:`];
+    const [word, names] = [wordOf(stateNow(), row.id),
+        [...row.querySelectorAll(".instruction, .bound-name, .target")].map((part) => part.textContent).join(" ")];
+    const labels = byId(word.to)?.matches(".place-line")
+        && word.own.meant === 0 ? [...byId(word.to).querySelectorAll(".label")].map((part) => part.textContent) : [`${word.own.name}:`];
     return names.includes(word.own.name) && labels.includes(`${word.own.name}:`) && Boolean(row.querySelector(".was"));
 };
 const places = {};
 for (const row of document.querySelectorAll("#image .word, #image .fold, #image .owner, #image h3, #names .name, button")) {
     if (!row.checkVisibility() || row.closest("#guide")) continue;
     const box = row.getBoundingClientRect();
-    const key = row.id || (row.closest(".segment") ?? row.parentElement).id + " " + (row.dataset.key ?? [...row.parentElement.children].indexOf(row));
+    const among = () => row.dataset.key ?? [...row.parentElement.children].indexOf(row);
+    const key = row.id || `${(row.closest(".segment") ?? row.parentElement).id} ${among()}`;
     places[key] = [Math.round(10 * box.left) / 10, Math.round(10 * box.top) / 10];
 }
 const [note, status] = [byId("note"), byId("status")];
-const changedRows = [...document.querySelectorAll(".word:is(.bound, .put-back)")], changedNames = [...document.querySelectorAll(".name:is(.changed, .put-back)")];
+const changedRows = [...document.querySelectorAll(".word:is(.bound, .put-back)")],
+    changedNames = [...document.querySelectorAll(".name:is(.changed, .put-back)")];
 const isHidden = {
     sentence: !(note.textContent.length > 20 && within(note, document.body) && note.scrollHeight <= note.clientHeight + 1),
     status: !(status.textContent.length > 5 && within(status, document.body)),
-    row: changedRows.length > 0 && !within(changedRows[0], byId("stage")), name: changedNames.length > 0 && !within(changedNames[0], byId("known")),
+    row: changedRows.length > 0 && !within(changedRows[0], byId("stage")), name: changedNames.length > 0
+    && !within(changedNames[0], byId("known")),
     instruction: !changedRows.every(showsInstruction), "name of a word": !changedRows.every(isNamed) };
 const changed = [...changesOf(view)].filter(([key, how]) => isWordKey(key) && how !== "new").map(([key]) => key);
 const lead = changed.filter((key) => wordOf(stateNow(), key)?.to);
-return { hidden: Object.keys(isHidden).filter((name) => isHidden[name]), rows: changedRows.length, names: changedNames.length, named: changedNames.filter((row) => within(row, byId("names")) && within(row, document.body)).length,
-    words: changed.length, there: changed.filter((key) => seen(byId(key))).length, more, leading: lead.length, whole: lead.filter(isWholeArrow).length, places,
-    cut: [...document.querySelectorAll("g.arrow")].filter((arrow) => ![arrow.dataset.from, arrow.dataset.to].every((id) => seen(byId(id)))).length };
+return { hidden: Object.keys(isHidden).filter((name) => isHidden[name]), rows: changedRows.length, names: changedNames.length,
+    named: changedNames.filter((row) => within(row, byId("names")) && within(row, document.body)).length,
+    words: changed.length, there: changed.filter((key) => seen(byId(key))).length, more, leading: lead.length,
+    whole: lead.filter(isWholeArrow).length, places,
+    cut: [...document.querySelectorAll("g.arrow")].filter((arrow) => ![arrow.dataset.from,
+        arrow.dataset.to].every((id) => seen(byId(id)))).length };
 """
 
 # a step that changes more words may count those that do not fit, and one that changes more names may have the last ones below
 MOST, MOST_NAMES = 108, 4
 
 def one_step(page, what, is_large=True):
-    """The step that is shown, and its withdrawal: the sentence, the status, the first changed row and name are in view, and nothing moves. In a
-    large window each changed word is, or is counted in its group, and both ends of each arrow are. Returns how many rows had changed, how many
-    of the two are whole in view, with all words, arrows and changed names, and how many of the others change more of them than may be asked."""
+    """The step that is shown, and its withdrawal: the sentence, the status, the first changed row and name are in view, and nothing moves.
+    In a large window each changed word is, or is counted in its group, and both ends of each arrow are. Returns how many rows had changed,
+    how many of the two are whole in view, with all words, arrows and changed names, and how many of the others change more of them than
+    may be asked."""
     rows, whole, large, before = 0, 0, 0, {}
     for act in ("add", "withdraw"):
         if before:
@@ -141,7 +155,8 @@ def one_step(page, what, is_large=True):
             same(f"{what}, {act}: changed words in view, or counted", seen["there"] + seen["more"], seen["words"])
             same(f"{what}, {act}: arrows with an end out of view", seen["cut"], 0)
         is_whole = (seen["there"], seen["whole"], seen["named"]) == (seen["words"], seen["leading"], seen["names"])
-        rows, whole, large = rows + seen["rows"], whole + is_whole, large + (not is_whole and (seen["words"] > MOST or seen["names"] > MOST_NAMES))
+        rows, whole, large = rows + seen["rows"], whole + is_whole, large + (not is_whole
+                                                                             and (seen["words"] > MOST or seen["names"] > MOST_NAMES))
         if before:
             gone = [f"{key}: {place} to {seen['places'].get(key)}" for key, place in before.items() if seen["places"].get(key) != place]
             same(f"{what}: what the withdrawal moves", gone[:3], [])
@@ -150,7 +165,8 @@ def one_step(page, what, is_large=True):
 
 
 def steps(page, count, sizes, what, script=""):
-    """Each step in each size of window; a script comes first. Returns the sums of what `one_step` does, but for the rows only at 1366 x 768."""
+    """Each step in each size of window; a script comes first. Returns the sums of what `one_step` does, but for the rows only at 1366 x
+    768."""
     rows, whole, large = 0, 0, 0
     for width, height, scale in sizes:
         page.size(width, height, scale)
@@ -167,14 +183,17 @@ CHOICE = SEEN + r"""
 const [key] = arguments;
 choose(key, true);
 const arrows = drawn.arrows.flatMap(({ key: target, rows }) => rows.map((row) => [row, target]));
-const faults = arrows.filter((ends) => byId("image").matches(".scene") && !ends.every(seen)).map(([row, target]) => `${row.id} to ${target.id}: an end is out of view`);
+const faults = arrows.filter((ends) => byId("image").matches(".scene")
+    && !ends.every(seen)).map(([row, target]) => `${row.id} to ${target.id}: an end is out of view`);
 const without = drawn.references.filter((one) => !byId(one.id));
 const groups = new Set(drawn.references.map((one) => byId(one.id)?.closest(".group")));
-const left = without.length === 0 ? 0 : [...groups].reduce((sum, group) => sum + Number(group?.querySelector(".more-line")?.textContent.match(/and (\d+) other/)?.[1] ?? 0), 0);
+const left = without.length === 0 ? 0 : [...groups].map((group) => group?.querySelector(".more-line")?.textContent)
+    .reduce((sum, text) => sum + Number(text?.match(/and (\d+) other/)?.[1] ?? 0), 0);
 const shown = new Set(arrows.map(([row]) => row));
 const nowhere = drawn.references.filter((one) => one.to && byId(one.id) && !shown.has(byId(one.id))).length;
 const counted = drawn.references.filter((one) => byId(one.id)).length + left;
-return { faults, ends: arrows.length, all: drawn.references.length, counted, nowhere, isWhole: !wordOf(stateNow(), key)?.to || isWholeArrow(key), said: byId("note").textContent };
+return { faults, ends: arrows.length, all: drawn.references.length, counted, nowhere, isWhole: !wordOf(stateNow(), key)?.to
+    || isWholeArrow(key), said: byId("note").textContent };
 """
 # all names, and so many of the words that refer to something
 CHOOSE_FROM = """
@@ -184,8 +203,8 @@ return [...names, ...words.filter((_, i) => i % Math.ceil(words.length / argumen
 
 
 def choices(page, what, keys, uses):
-    """Both ends of each arrow of a choice are seen, and of nine of ten words the own arrow; all references have a row or are counted, and they are
-    no fewer than those of the map."""
+    """Both ends of each arrow of a choice are seen, and of nine of ten words the own arrow; all references have a row or are counted, and
+    they are no fewer than those of the map."""
     ends, wholly = 0, []
     for key in keys:
         seen = page.run(CHOICE, key)
@@ -209,7 +228,8 @@ def whole_and_back(page):
     pressed = page.run("return document.getElementById('whole').getAttribute('aria-pressed')")
     for wanted in ("true", "false") if pressed == "false" else ("false", "true"):
         page.type("o")
-        same(f"key o: {wanted}", page.run("return [byId('whole').getAttribute('aria-pressed'), String(!byId('image').matches('.scene')), chosen, Boolean(byId(chosen))]"), [wanted, wanted, word, True])
+        same(f"key o: {wanted}", page.run("return [byId('whole').getAttribute('aria-pressed'), String(!byId('image').matches('.scene')), "
+                                          "chosen, Boolean(byId(chosen))]"), [wanted, wanted, word, True])
     page.type(Keys.ESCAPE)
     same("Escape", page.run("return [chosen, [...document.querySelectorAll('#image .word')].map((row) => row.id).join()]"), ["", step])
 
@@ -228,11 +248,13 @@ def search(tools, page, files):
     # the search begins 150 milliseconds after the last key
     time.sleep(0.5)
     page.settle()
-    same("what /jsr pc, finds", (page.run("return document.getElementById('found').textContent"), len(wanted) > 0), (f"1 of {len(wanted)}", True))
+    same("what /jsr pc, finds", (page.run("return document.getElementById('found').textContent"), len(wanted) > 0),
+         (f"1 of {len(wanted)}", True))
     page.type(Keys.ENTER)
     page.settle()
     second = f"{min(2, len(wanted))} of {len(wanted)}"
-    same("the next one", page.run("return [document.getElementById('found').textContent, document.querySelector('#image [aria-selected=true]') !== null]"), [second, True])
+    same("the next one", page.run("return [document.getElementById('found').textContent, "
+                                  "document.querySelector('#image [aria-selected=true]') !== null]"), [second, True])
     page.type(Keys.ESCAPE)
     found = page.run(FIND, "jsr pc,")
     same("the places that /jsr pc, finds", found, wanted)
@@ -243,7 +265,8 @@ def search(tools, page, files):
 
 
 # what is clicked with so many objects, or with one fewer
-CLICKED = {"an object": "#add{count}", "Withdraw": "#withdraw", "a word": ".word.bound", "a name": ".name", "a fold": ".fold", "Addresses": "#addresses"}
+CLICKED = {"an object": "#add{count}", "Withdraw": "#withdraw", "a word": ".word.bound", "a name": ".name", "a fold": ".fold",
+           "Addresses": "#addresses"}
 CLICK = """
 const element = document.querySelector(arguments[0]);
 if (element.matches("select")) element.value = "0";
@@ -285,11 +308,13 @@ def stage(tools, page, path, files, what, sizes=SIZES):
         page.size(width, height, scale)
         for number in {5, len(files)} if width == 1366 else {len(files)}:
             page.open("#" + first(number))
-            counts["arrows of choices"] += choices(page, f"{what}, {number} objects, {width} wide", page.run(CHOOSE_FROM, 20), uses if number == len(files) else {})
+            counts["arrows of choices"] += choices(page, f"{what}, {number} objects, {width} wide", page.run(CHOOSE_FROM, 20), uses
+                                                   if number == len(files) else {})
         whole_and_back(page)
     page.size(1366, 768)
     page.open("#" + first(len(files)))
     counts["found calls"], counts["calls in the map"] = search(tools, page, files)
     same("nothing was measured of", [name for name, count in counts.items() if count == 0], [])
-    print(f"on the stage, {what}, {page.name}: {whole} of {2 * len(files)} steps whole, " + ", ".join(f"{count} {name}" for name, count in counts.items()) + f", in {time.monotonic() - began:.0f} s", flush=True)
+    print(f"on the stage, {what}, {page.name}: {whole} of {2 * len(files)} steps whole, "
+          + ", ".join(f"{count} {name}" for name, count in counts.items()) + f", in {time.monotonic() - began:.0f} s", flush=True)
     return whole, large

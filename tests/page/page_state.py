@@ -94,7 +94,8 @@ class Session:
         else:
             name, added = one.symbols[reloc >> 4][0], meant
             segment, place = self.names[name]
-            segment, meant = (None, added) if segment in ("undefined", "common") else ("" if segment == "number" else segment, (place + added) % WORD)
+            segment, meant = (None, added) if segment in ("undefined", "common") else ("" if segment == "number" else segment,
+                                                                                       (place + added) % WORD)
         return Word((meant - next_one) % WORD if pc else meant, pc, segment, name, added, meant)
 
     def waiting(self):
@@ -172,14 +173,16 @@ class Step:
         self.one, self.is_gone = objects[-1], is_gone
         self.before, self.after = Session(objects[:-1]), Session(objects)
         old, new = self.before.words, self.after.words
-        self.changed = sorted((key for key in old if old[key].kind is None and new[key].kind is not None), key=lambda key: (PARTS.index(key[0]), key[1]))
+        self.changed = sorted((key for key in old if old[key].kind is None and new[key].kind is not None),
+                              key=lambda key: (PARTS.index(key[0]), key[1]))
         self.renamed = [name for name, known in self.before.names.items() if known != self.after.names[name]]
 
     def marks(self):
         """What the addition overwrote, in no order."""
         words = [(key, self.before.words[key]) for key in self.changed]
         return sorted([*(f"{name} was {known_as(*self.before.names[name])}" for name in self.renamed),
-                       *(f"{part} {offset:06o} was {word.value:06o} {'pc ' * word.pc}{self.before.place(word)}" for (part, offset), word in words)])
+                       *(f"{part} {offset:06o} was {word.value:06o} {'pc ' * word.pc}{self.before.place(word)}"
+                         for (part, offset), word in words)])
 
     def status(self):
         words = f": {counted(len(self.changed), 'word')} {'put back' if self.is_gone else 'bound'}" if self.changed else ""
@@ -198,7 +201,8 @@ class Step:
         sign = lambda number: str(number if number < WORD // 2 else number - WORD).replace("-", "\u2212")
         decimal = f", in decimal {sign(old.value)} + {sign(at)} = {sign(new.value)}" if new.pc and old.value >= WORD // 2 else ""
         distance = f", the distance from {offset + 2:06o} to {new.meant:06o}" if new.pc and new.kind == part else ""
-        said = f"{where} waited for {old.name}. This is at {at:06o} now, so the linker added it: {old.value:06o} + {at:06o} = {new.value:06o}{decimal}{distance}."
+        said = (f"{where} waited for {old.name}. This is at {at:06o} now, so the linker added it: "
+                f"{old.value:06o} + {at:06o} = {new.value:06o}{decimal}{distance}.")
         return " ".join([said, *more, *self.doubled()])
 
     def doubled(self):
@@ -208,14 +212,17 @@ class Step:
 
     def brought(self):
         names = len(self.after.names) - len(self.before.names)
-        parts = [(self.one.text, f"{counted(self.one.text // 2, 'word')} of text"), (self.one.data, f"{counted(self.one.data // 2, 'word')} of data"),
+        parts = [(self.one.text, f"{counted(self.one.text // 2, 'word')} of text"),
+                 (self.one.data, f"{counted(self.one.data // 2, 'word')} of data"),
                  (self.one.bss, f"{size_said(self.one.bss)} of bss"), (names, counted(names, "name"))]
         said = ", ".join(text for number, text in parts if number)
         if self.is_gone:
             return f"{said or 'Nothing'} of {self.one.name} cut off."
         waiting = self.after.waiting()
         names = [*dict.fromkeys(waiting)]
-        waits = f"{counted(len(waiting), 'word')} wait{'s' if len(waiting) == 1 else ''} for {counted(len(names), 'name') if len(names) > 3 else ', '.join(names)}." if waiting else "No word waits for a name."
+        awaited = counted(len(names), "name") if len(names) > 3 else ", ".join(names)
+        waits = f"{counted(len(waiting), 'word')} wait{'s' if len(waiting) == 1 else ''} for {awaited}."
+        waits = waits if waiting else "No word waits for a name."
         return f"{self.one.name} brought {said or 'nothing'}. {waits}"
 
     def names(self):
@@ -239,6 +246,6 @@ class Step:
         found = {}
         for part, offset in self.changed:
             old, new = self.before.words[part, offset], self.after.words[part, offset]
-            said = f"{new.value:06o} {new.name}{addend_said(new.added)} = {self.after.place(new)}" if self.is_gone else f"{old.value:06o} {self.before.place(old)}"
-            found[f"{part}-{offset}"] = said
+            bound = f"{new.value:06o} {new.name}{addend_said(new.added)} = {self.after.place(new)}"
+            found[f"{part}-{offset}"] = bound if self.is_gone else f"{old.value:06o} {self.before.place(old)}"
         return found

@@ -24,14 +24,19 @@ const all = (selector, of) => [...document.querySelectorAll(selector)].map(of);
 const one = (id) => { const element = document.getElementById(id); return element.checkVisibility() ? element.textContent : ""; };
 return {
     words: all("#image .word:not(.spot)", (row) => ({
-        id: row.id, segment: row.id.split("-")[0], number: Number(row.id.split("-")[1]), isCut: row.classList.contains("cut-off"), isOld: row.matches(".bound, .put-back"),
-        ...Object.fromEntries(["offset", "value", "pc", "place", "instruction", "bound-name", "sum", "of", "was", "tag", "given-word"].map((name) => [name, part(row, name)])),
+        id: row.id, segment: row.id.split("-")[0], number: Number(row.id.split("-")[1]), isCut: row.classList.contains("cut-off"),
+        isOld: row.matches(".bound, .put-back"),
+        ...Object.fromEntries(["offset", "value", "pc", "place", "instruction", "bound-name", "sum", "of", "was", "tag",
+            "given-word"].map((name) => [name, part(row, name)])),
         labels: [...row.querySelectorAll(".label")].map((one) => [one.textContent, one.tagName]),
-        target: part(row, "target") || (part(row, "instruction") || part(row, "string") || row.classList.contains("inside") ? "a number" : "") })),
+        target: part(row, "target")
+        || (part(row, "instruction") || part(row, "string") || row.classList.contains("inside") ? "a number" : "") })),
     bss: text(document.querySelector("#bss .size")), heads: all("#image .segment h3", text),
-    names: all("#names .name", (row) => [...["b", ".state", ".was", ".tag", ".address"].map((name) => text(row.querySelector(name))), row.classList.contains("cut")]),
+    names: all("#names .name", (row) => [...["b", ".state", ".was", ".tag", ".address"].map((name) => text(row.querySelector(name))),
+        row.classList.contains("cut")]),
     marks: all(".overwrote .was", text), done: all(".undone .was", text),
-    table: one("table"), report: one("report"), step: one("status"), refused: document.querySelector("#note.refused") ? one("note") : "", note: one("note"),
+    table: one("table"), report: one("report"), step: one("status"), refused: document.querySelector("#note.refused") ? one("note") : "",
+    note: one("note"),
     hash: location.hash, focus: document.activeElement.id };
 """
 
@@ -87,8 +92,10 @@ def compare_heads(heads, linked, what):
     """The headings of a link: each segment with its bytes, from one address to another. Commons and bss are one in a file."""
     (_, text, data, bss), base = linked["header"][:4], linked["base"]
     wanted = [(part, start, end) for part, start, end in (("text", 0, text), ("data", base, base + data)) if end > start]
-    same(f"{what}: headings", [head for head in heads if head.startswith(PARTS)], [f"{part} {size_said(end - start)} {start:06o} to {end:06o}" for part, start, end in wanted])
-    rest = [re.fullmatch(r"(?:commons|bss) 0([0-7]+) \((\d+)\.\) bytes ([0-7]{6}) to ([0-7]{6})", head) for head in heads if head.startswith(("commons", "bss"))]
+    same(f"{what}: headings", [head for head in heads if head.startswith(PARTS)],
+         [f"{part} {size_said(end - start)} {start:06o} to {end:06o}" for part, start, end in wanted])
+    rest = [re.fullmatch(r"(?:commons|bss) 0([0-7]+) \((\d+)\.\) bytes ([0-7]{6}) to ([0-7]{6})", head) for head in heads
+            if head.startswith(("commons", "bss"))]
     sizes = [(int(one[1], 8), int(one[2]), int(one[4], 8) - int(one[3], 8)) for one in rest]
     same(f"{what}: headings of commons and bss", ([*map(len, map(set, sizes))], sum(size for size, _, _ in sizes)), ([1] * len(sizes), bss))
 
@@ -167,12 +174,14 @@ def large(tools, page, given, path):
         here = [given[int(number) - 1] for number in order.split(",")]
         page.open(f"#objects={order}")
         bound = {word["id"] for word in read(page, False)["words"] if word["tag"] == "bound"}
-        counted = page.run("return [...document.querySelectorAll('.more-line')].reduce((sum, row) => sum + Number(row.textContent.match(/and (\\d+) other/)?.[1] ?? 0), 0)")
+        counted = page.run("return [...document.querySelectorAll('.more-line')].reduce((sum, "
+                           "row) => sum + Number(row.textContent.match(/and (\\d+) other/)?.[1] ?? 0), 0)")
         page.run("document.querySelector('#rest .fold').click()")
         sizes = [len(one.text) + len(one.data) for one in (unpack(read_bytes(file)) for file in here)]
         same(f"{order}: a click on a fold shows the words of its object", len(read(page, False)["words"]) >= sizes[0], True)
         shown = compare_state(page, f"five objects, {order}", here)
-        changed = {f"{mark[0]}-{int(mark[1], 8)}" for mark in map(str.split, shown["marks"]) if mark[0] in ("text", "data") and mark[2] == "was"}
+        changed = {f"{mark[0]}-{int(mark[1], 8)}" for mark in map(str.split, shown["marks"]) if mark[0] in ("text", "data")
+                   and mark[2] == "was"}
         same(f"{order}: what changed is shown, or counted", (bound <= changed, len(bound) + counted), (True, len(changed)))
         same(f"{order}: words", len(shown["words"]), sum(sizes))
         compare_addresses(tools, page, f"five objects, {order}", here)

@@ -101,7 +101,8 @@ class Scripts:
     """The scripts of a page that need no browser, in node."""
 
     def __init__(self, path, *flags):
-        self.node = subprocess.Popen(["node", *flags, f"{TOP}/tests/page/dump.mjs", path], stdin=subprocess.PIPE, stdout=subprocess.PIPE, text=True)
+        self.node = subprocess.Popen(["node", *flags, f"{TOP}/tests/page/dump.mjs", path], stdin=subprocess.PIPE, stdout=subprocess.PIPE,
+                                     text=True)
 
     def run(self, script, *words):
         """What a function of JavaScript gives; a fault as {"fault": its message}."""

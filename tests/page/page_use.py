@@ -1,5 +1,5 @@
-"""Uses the page of the lesson as a student does: the first view, the tour and the lessons by keys, steps back, marks, folds. A check has the
-programs, the page as it was loaded, at 1366 x 768, and the objects; it returns how many things it has counted, if it counts some."""
+"""Uses the page of the lesson as a student does: the first view, the tour and the lessons by keys, steps back, marks, folds. A check has
+the programs, the page as it was loaded, at 1366 x 768, and the objects; it returns how many things it has counted, if it counts some."""
 import os
 import re
 
@@ -17,13 +17,16 @@ const text = (selector) => {
     const element = document.querySelector(selector);
     return element?.checkVisibility() ? element.textContent.trim() : "";
 };
-return { title: text("h1"), titles: document.querySelectorAll("h1").length, lead: text(".lead"), legend: document.querySelectorAll(".legend li").length,
-    action: text("#first"), tour: text("#menu button"), status: text("#status"), border: getComputedStyle(document.getElementById("status")).borderStyle };
+return { title: text("h1"), titles: document.querySelectorAll("h1").length, lead: text(".lead"),
+    legend: document.querySelectorAll(".legend li").length,
+    action: text("#first"), tour: text("#menu button"), status: text("#status"),
+    border: getComputedStyle(document.getElementById("status")).borderStyle };
 """
 # how far texts differ from their background: the smallest contrast, and where
 CONTRAST = r"""
 const rgb = (text) => text.match(/[\d.]+/g).map(Number);
-const light = (rgb) => rgb.slice(0, 3).map((c) => c / 255).map((c) => c <= 0.03928 ? c / 12.92 : ((c + 0.055) / 1.055) ** 2.4).reduce((s, c, i) => s + c * [0.2126, 0.7152, 0.0722][i], 0);
+const light = (rgb) => rgb.slice(0, 3).map((c) => c / 255).map((c) => c <= 0.03928
+    ? c / 12.92 : ((c + 0.055) / 1.055) ** 2.4).reduce((s, c, i) => s + c * [0.2126, 0.7152, 0.0722][i], 0);
 function paper(element) {
     for (let at = element; at; at = at.parentElement) {
         const color = rgb(getComputedStyle(at).backgroundColor);
@@ -33,7 +36,8 @@ function paper(element) {
 }
 let least = [99, ""], count = 0;
 for (const element of document.querySelectorAll("body *")) {
-    if (![...element.childNodes].some((node) => node.nodeType === 3 && node.data.trim()) || !element.checkVisibility() || element.closest("svg, script")) continue;
+    if (![...element.childNodes].some((node) => node.nodeType === 3 && node.data.trim()) || !element.checkVisibility()
+        || element.closest("svg, script")) continue;
     const [one, other] = [light(rgb(getComputedStyle(element).color)), light(paper(element))];
     const contrast = (Math.max(one, other) + 0.05) / (Math.min(one, other) + 0.05);
     count += 1;
@@ -58,7 +62,8 @@ def first_view(_, page, __):
     same("the status does not look like a button", seen["border"], "none")
     same("the words of the page are not nothing", page.run("return document.body.innerText.includes('nothing\\n')"), False)
     page.click("first")
-    same("the first action adds main.o", page.run("return [location.hash, document.getElementById('status').textContent]"), ["#objects=1", "Added main.o"])
+    same("the first action adds main.o", page.run("return [location.hash, document.getElementById('status').textContent]"),
+         ["#objects=1", "Added main.o"])
     page.type("2")
     same("the legend after the first step", page.run("return document.getElementById('legend').checkVisibility()"), False)
 
@@ -67,17 +72,24 @@ def roles(_, page, __):
     """Names and roles, as the browser tells them to a reader of the screen."""
     page.open("#objects=1,2")
     tree = page.roles()
-    for role, name in (("heading", "What a linker does"), ("heading", "Objects"), ("heading", "Names"), ("heading", "Marks"), ("combobox", "Addresses of a link"), ("listbox", "Words of main.o"),
-                       ("button", "Decimal numbers"), ("button", "Shortcut keys"), ("region", "Objects"), ("main", ""), ("region", "Names and marks"),
+    for role, name in (("heading", "What a linker does"), ("heading", "Objects"), ("heading", "Names"), ("heading", "Marks"),
+                       ("combobox", "Addresses of a link"), ("listbox", "Words of main.o"),
+                       ("button", "Decimal numbers"), ("button", "Shortcut keys"), ("region", "Objects"), ("main", ""),
+                       ("region", "Names and marks"),
                        ("listbox", "Merged image"), ("listbox", "Names"), ("listbox", "Marks"), ("region", "main.o"), ("region", "twice.o"),
                        ("option", "_twice text 000012 undefined changed"), ("group", "text 016 (14.) bytes"), ("status", "")):
         same(f"the {role} {name}", (role, name) in tree, True)
-    same("the option of a word", [name for role, name in tree if role == "option" and name == "text 000006 000002 pc _twice = text 000012 , was 177770 waits for _twice, bound"] != [], True)
-    same("buttons without a name", [pair for pair in tree if pair[0] in ("button", "option", "listbox", "region") and not pair[1].strip()], [])
-    same("one place that is announced", page.run("return document.querySelectorAll('[aria-live], [role=status], [role=alert], [role=log]').length"), 1)
+    same("the option of a word", [name for role, name in tree if role == "option"
+                                  and name == "text 000006 000002 pc _twice = text 000012 , was 177770 waits for _twice, bound"] != [],
+         True)
+    same("buttons without a name", [pair for pair in tree if pair[0] in ("button", "option", "listbox", "region") and not pair[1].strip()],
+         [])
+    same("one place that is announced", page.run("return document.querySelectorAll('[aria-live], [role=status], [role=alert], "
+                                                 "[role=log]').length"), 1)
     page.run("window.kept = document.getElementById('live')")
     page.type("w")
-    same("what is announced", page.run("return [kept === document.getElementById('live'), kept.isConnected, kept.textContent.slice(0, 33)]"), [True, True, "Withdrew twice.o: 1 word put back"])
+    same("what is announced", page.run("return [kept === document.getElementById('live'), kept.isConnected, kept.textContent.slice(0, "
+                                       "33)]"), [True, True, "Withdrew twice.o: 1 word put back"])
     page.open("")
     page.run("document.getElementById('first').focus()")
     page.type(Keys.ENTER)
@@ -89,7 +101,8 @@ def stops(_, page, files):
     page.open("#" + first(len(files)))
     same("stops of sixteen objects", page.run(STOPS) < 60, True)
     same("stops in the image", page.run("return document.querySelectorAll('#image [tabindex], #image button').length"), 0)
-    same("a tenth object has no key", page.run("return [...document.querySelectorAll('.card')].map((card) => card.querySelectorAll('kbd').length)"), [1] * 9 + [0] * 7)
+    same("a tenth object has no key", page.run("return [...document.querySelectorAll('.card')].map((card) => "
+                                               "card.querySelectorAll('kbd').length)"), [1] * 9 + [0] * 7)
     page.run("document.getElementById('image').focus()")
     rows = page.run("return [...document.querySelectorAll('#image [role=option]')].map((row) => row.id)")
     page.type(Keys.HOME)
@@ -100,7 +113,8 @@ def stops(_, page, files):
     page.type(Keys.HOME, *[Keys.ARROW_DOWN] * word)
     same("arrow down chooses", page.run("return document.querySelector('#image [aria-selected=true]').id"), rows[word])
     page.run("choose('', false)")
-    page.run("const rows = rowsIn('image'); active.image = rows[rows.findIndex((row) => row.className.includes('fold')) - 1].id; setActive();")
+    page.run("const rows = rowsIn('image'); active.image = rows[rows.findIndex((row) => row.className.includes('fold')) - 1].id; "
+             "setActive();")
     page.type(Keys.ARROW_DOWN)
     before = page.run("return document.querySelectorAll('.word').length")
     page.type(Keys.ENTER)
@@ -109,7 +123,8 @@ def stops(_, page, files):
 
 def keys(_, page, __):
     """Keys with Caps Lock, and switched off."""
-    event = "document.dispatchEvent(new KeyboardEvent('keydown', { key: arguments[0], shiftKey: arguments[1], ctrlKey: arguments[2], bubbles: true }));"
+    event = ("document.dispatchEvent(new KeyboardEvent('keydown', "
+             "{ key: arguments[0], shiftKey: arguments[1], ctrlKey: arguments[2], bubbles: true }));")
     page.type("1", "2")
     page.run(event, "W", False, False)
     same("w with Caps Lock", page.run("return location.hash"), "#objects=1&withdrawn=2")
@@ -118,7 +133,8 @@ def keys(_, page, __):
     same("W with Shift, and w with Control", page.run("return location.hash"), "#objects=1&withdrawn=2")
     page.click("keys")
     page.type("w")
-    same("keys that are off", page.run("return [location.hash, document.getElementById('keys').getAttribute('aria-pressed')]"), ["#objects=1&withdrawn=2", "false"])
+    same("keys that are off", page.run("return [location.hash, document.getElementById('keys').getAttribute('aria-pressed')]"),
+         ["#objects=1&withdrawn=2", "false"])
     page.click("keys")
     page.type("w")
     same("keys that are on again", page.run("return location.hash"), "#withdrawn=1")
@@ -162,13 +178,14 @@ WRONG = "return choicesOf(nextStep()).findIndex((choice) => !choice.isRight) + 1
 # what a lesson has to say at a step: what comes before the answer, and whether a question is open
 SENTENCES = """
 const wait = nextStep();
-return [[...GUIDES[view.guide].steps[view.done].says.map(prose), ...(wait?.ask ? [prose(wait.ask), ...choicesOf(wait).map(givenText)] : [])], Boolean(wait?.ask), view.done];
+return [[...GUIDES[view.guide].steps[view.done].says.map(prose),
+    ...(wait?.ask ? [prose(wait.ask), ...choicesOf(wait).map(givenText)] : [])], Boolean(wait?.ask), view.done];
 """
 
 
 def by_keys(page, number):
-    """A lesson by keys, with the right answers, each with at most three: the place that is announced, as the accessibility tree has it, has each
-    sentence in order, with choices, answers and verdicts. Returns how many questions and sentences it has."""
+    """A lesson by keys, with the right answers, each with at most three: the place that is announced, as the accessibility tree has it,
+    has each sentence in order, with choices, answers and verdicts. Returns how many questions and sentences it has."""
     page.open(f"#lesson={number}&done=0")
     log, wanted, count = [page.live()], [], 0
     for _ in range(page.run("return GUIDES[view.guide].steps.length - 1")):
@@ -185,7 +202,8 @@ def by_keys(page, number):
         wanted += ["You chose ", "Right: "] if is_asked else []
         count += is_asked
         if is_asked:
-            same(f"lesson {number}, step {done + 1}: the answer", page.run("return document.querySelector('#guide .is-right')?.textContent.slice(0, 5)"), "Right")
+            same(f"lesson {number}, step {done + 1}: the answer",
+                 page.run("return document.querySelector('#guide .is-right')?.textContent.slice(0, 5)"), "Right")
     wanted += page.run(SENTENCES)[0]
     text, at, missing = " ".join(log), 0, []
     for sentence in wanted:
@@ -210,7 +228,8 @@ def wrong_answer(_, page, __):
     """The reason of a wrong answer, and what the next step says of it."""
     page.open("#objects=1&lesson=1&done=1")
     page.type(str(page.run(WRONG)))
-    same("the reason of a wrong answer", page.run("const reason = document.querySelector('#guide .reason').textContent; return [reason.length > 20, byId('live').textContent.includes(reason)]"), [True, True])
+    same("the reason of a wrong answer", page.run("const reason = document.querySelector('#guide .reason').textContent; "
+                                                  "return [reason.length > 20, byId('live').textContent.includes(reason)]"), [True, True])
     page.type("q")
     same("q, from the question", page.run(FOCUS), "image")
     page.type("q")
@@ -219,7 +238,8 @@ def wrong_answer(_, page, __):
     same("a wrong answer", page.run("return document.querySelector('#guide .is-wrong').textContent").startswith("You chose"), True)
     page.back()
     page.wait("return view.done === 1")
-    same("Back in a lesson", page.run("return [view.list, document.querySelector('#guide .ask').textContent.slice(0, 10)]"), [[0], "Why does t"])
+    same("Back in a lesson", page.run("return [view.list, document.querySelector('#guide .ask').textContent.slice(0, 10)]"),
+         [[0], "Why does t"])
 
 
 # the wrong answers of the open question, each with the reason that the page gives, and the list that is there
@@ -227,11 +247,13 @@ WRONG_ANSWERS = """
 const wait = nextStep();
 const wrong = choicesOf(wait).filter((one) => !one.isRight);
 const known = namesOf(stateNow()).find(({ name }) => name === wait.name);
-const numbers = { value: [wait.before, wait.number + 2], where: [known?.number ?? 2, (wait.number ?? 0) + 2, 0, ...(known ? LAYOUTS.map((_, i) => symbolOf(stateNow(), known.i, i).value) : [])] }[wait.kind] ?? [];
+const numbers = { value: [wait.before, wait.number + 2], where: [known?.number ?? 2, (wait.number ?? 0) + 2, 0,
+    ...(known ? LAYOUTS.map((_, i) => symbolOf(stateNow(), known.i, i).value) : [])] }[wait.kind] ?? [];
 for (const number of new Set(numbers)) if (number !== wait.number) wrong.push({ number, isRight: false });
 const word = wait.kind === "value" ? wordOf(stateNow(), wait.word) : null;
 const adds = wait.act?.[0] === "add" ? [label(wait.act[1]), word?.kind < 0 && defines(wait.act[1], word.name) ? word.name : ""] : ["", ""];
-return wrong.map((given) => [wait.kind, wait.act?.[0] ?? "", givenText(given), reasonOf(given, wait), view.list, known ? [known.kind, known.number] : null, wait, adds]);
+return wrong.map((given) => [wait.kind, wait.act?.[0] ?? "", givenText(given), reasonOf(given, wait), view.list,
+    known ? [known.kind, known.number] : null, wait, adds]);
 """
 
 
@@ -257,7 +279,8 @@ def reason_wanted(kind, act, text, known, wait, adds, session, addresses):
         if adds[1]:
             return f"{adds[0]} defines {adds[1]}: add the place of {adds[1]} to the word, modulo 200000."
         if act == "link" and words[key].pc:
-            return f"Take the address of {words[key].name + addend_said(words[key].added) if words[key].name else session.place(words[key])} in this link, and subtract that of the place after the word."
+            meant = words[key].name + addend_said(words[key].added) if words[key].name else session.place(words[key])
+            return f"Take the address of {meant} in this link, and subtract that of the place after the word."
         return word_wanted(words[key], session) if act == "link" else "subtract" if act == "withdraw" else "the word"
     if kind == "where" and text == "no address":
         return {"common": "lays the common out", "undefined": "but the linker does"}.get(known[0], "An object defines it")
@@ -275,7 +298,8 @@ def where_wanted(number, known, wait, addresses):
     if other:
         return f"That is its address {'in a plain link' if other[0] == 'plain' else f'with {other[0]}'}."
     if known[0] == "data" and layout in (1, 2):
-        return ("With -n data begins at the next multiple of 20000 after text.", "With -i data has addresses of its own, which begin at 0.")[layout - 1]
+        return ("With -n data begins at the next multiple of 20000 after text.",
+                "With -i data has addresses of its own, which begin at 0.")[layout - 1]
     return f"Its offset is {known[1]:06o}. " if known[0] in segments else ""
 
 
@@ -296,13 +320,15 @@ def reasons(tools, page, files):
             given = [files[number] for number in here]
             addresses = addresses_of(tools, wait["name"], given) if kind == "where" and given else []
             wanted = reason_wanted(kind, act, text, known, wait, adds, Session([Given(file) for file in given]), addresses)
-            same(f"{question}, {text}: {reason}", (len(reason) > 15, wanted in reason, "undefined" in reason and kind != "choice"), (True, True, False))
+            same(f"{question}, {text}: {reason}", (len(reason) > 15, wanted in reason, "undefined" in reason and kind != "choice"),
+                 (True, True, False))
         count += len(wrong)
     return count
 
 
 # questions for an address in each layout, of a name in data and of a common
-HINTS = "lesson Hints\nadd k.o\nadd l.o\nadd main.o\n" + "".join(f"ask where {name} Where?\nlink {layout}\n" for layout in LAYOUTS for name in ("_x", "_count"))
+HINTS = "lesson Hints\nadd k.o\nadd l.o\nadd main.o\n" + "".join(f"ask where {name} Where?\nlink {layout}\n" for layout in LAYOUTS
+                                                                 for name in ("_x", "_count"))
 
 
 def hints(tools, page, files):
@@ -323,7 +349,8 @@ def numbers(_, page, __):
     same("numbers of a page in decimal", page.run("return ['016', '16', '16.'].map(numberOf)"), [14, 16, 16])
     page.open("#objects=1&numbers=decimal&lesson=1&done=1")
     asked = "Why does the word at 2 hold 65532?"
-    same("a lesson in decimal", page.run("return [prose(nextStep().ask), document.querySelector('#guide .ask').textContent.slice(0, arguments[0]), numberOf('16')]", len(asked)), [asked, asked, 16])
+    same("a lesson in decimal", page.run("return [prose(nextStep().ask), document.querySelector('#guide .ask').textContent.slice(0, "
+                                         "arguments[0]), numberOf('16')]", len(asked)), [asked, asked, 16])
 
 
 def leads(_, page, __):
@@ -331,8 +358,10 @@ def leads(_, page, __):
     page.size(1280, 300)
     page.open("#objects=1,2")
     page.run("document.getElementById('main').scrollTop = 10000; document.querySelector('#marks [data-key=text-6]').click()")
-    seen = page.run("const box = document.getElementById('text-6').getBoundingClientRect(); const bar = document.getElementById('top').getBoundingClientRect();"
-                    "return [document.querySelector('#image [aria-selected=true]').id, box.top >= bar.bottom - 1 && box.bottom <= innerHeight + 1]")
+    seen = page.run("const box = document.getElementById('text-6').getBoundingClientRect(); "
+                    "const bar = document.getElementById('top').getBoundingClientRect();"
+                    "return [document.querySelector('#image [aria-selected=true]').id, "
+                    "box.top >= bar.bottom - 1 && box.bottom <= innerHeight + 1]")
     same("a mark leads to its word", seen, ["text-6", True])
     same("and shows its arrow", page.run("return [...document.querySelectorAll('g.arrow')].map((arrow) => arrow.dataset.from)"), ["text-6"])
     page.run("document.querySelector('#names [data-key=\"name _count\"]').click()")
@@ -341,19 +370,26 @@ def leads(_, page, __):
         page.size(width, height)
         page.open("#objects=1,2,3,4,5")
         page.run("window.scrollTo(0, 400); document.getElementById('main').scrollTop = 400;")
-        top = page.run("return ['h1', '#status', '#withdraw', '#flick'].map((s) => document.querySelector(s).getBoundingClientRect()).every((b) => b.top >= 0 && b.bottom <= innerHeight)")
+        top = page.run("return ['h1', '#status', '#withdraw', "
+                       "'#flick'].map((s) => document.querySelector(s).getBoundingClientRect()).every((b) => b.top >= 0 && b.bottom <= "
+                       "innerHeight)")
         same(f"the bar stays, {width} wide", top, True)
     page.size(390, 844)
     page.open("")
-    same("on a phone the objects are folded", page.run("return [...document.querySelectorAll('.card')].filter((card) => card.checkVisibility()).length"), 0)
+    same("on a phone the objects are folded",
+         page.run("return [...document.querySelectorAll('.card')].filter((card) => card.checkVisibility()).length"), 0)
     page.click("first")
     for number in (2, 3, 4):
-        seen = page.run("const button = document.querySelector('#adds button:not([aria-disabled=true])'), box = button.getBoundingClientRect(); button.click(); return box.top >= 0 && box.bottom <= innerHeight")
+        seen = page.run("const button = document.querySelector('#adds button:not([aria-disabled=true])'), "
+                        "box = button.getBoundingClientRect(); button.click(); return box.top >= 0 && box.bottom <= innerHeight")
         same(f"on a phone the buttons stay, {number}", (seen, page.run("return view.list.length")), (True, number))
-        same(f"on a phone the image is seen, {number}", page.run("const box = document.querySelector('.word.new, .word.bound').getBoundingClientRect(); return box.top < innerHeight && box.bottom > 0"), True)
+        same(f"on a phone the image is seen, {number}",
+             page.run("const box = document.querySelector('.word.new, .word.bound').getBoundingClientRect(); "
+                      "return box.top < innerHeight && box.bottom > 0"), True)
     page.size(1366, 768)
     page.open("#objects=1,2,3,4")
-    fill = page.run("const row = document.querySelector('.word').getBoundingClientRect(), main = document.getElementById('main').getBoundingClientRect(); return row.width / main.width")
+    fill = page.run("const row = document.querySelector('.word').getBoundingClientRect(), "
+                    "main = document.getElementById('main').getBoundingClientRect(); return row.width / main.width")
     same("the image fills its column", fill > 0.6, True)
 
 
@@ -374,13 +410,15 @@ def texts(_, page, __):
         for state in ("", "#objects=1,2", "#objects=1&withdrawn=2", "#objects=1&lesson=1&done=1"):
             page.open(state)
             seen = page.run(CONTRAST)
-            same(f"contrast, {scheme}, {state}: {seen['where']}", (seen["contrast"] >= 4.5, seen["count"] > 30, max(seen["paper"][:3]) < 60), (True, True, scheme == "dark"))
+            same(f"contrast, {scheme}, {state}: {seen['where']}",
+                 (seen["contrast"] >= 4.5, seen["count"] > 30, max(seen["paper"][:3]) < 60), (True, True, scheme == "dark"))
     page.media("", "light")
 
 
 # takes away what Firefox ESR 102 or Chromium 100 lack, of all that a script could call; roles and labels are not properties then
 OLD = r"""
-for (const name of ["toSorted", "toReversed", "toSpliced", "with", "group", "groupToMap", "fromAsync"]) { delete Array.prototype[name]; delete Array[name]; }
+for (const name of ["toSorted", "toReversed", "toSpliced", "with", "group", "groupToMap", "fromAsync"]) { delete Array.prototype[name];
+    delete Array[name]; }
 for (const name of ["findLast", "findLastIndex"]) delete Array.prototype[name];
 delete Element.prototype.checkVisibility;
 for (const name of Object.getOwnPropertyNames(Element.prototype)) if (/^(aria[A-Z]|role$)/.test(name)) delete Element.prototype[name];
@@ -392,7 +430,8 @@ OLD_SEEN = """
 const rows = [...document.querySelectorAll("#image .word")];
 choose("text-6", true);
 return { rows: rows.length, roles: rows.filter((row) => row.getAttribute("role") === "option" && row.getAttribute("aria-label")).length,
-    chosen: document.querySelectorAll("#image [aria-selected=true]").length, groups: document.querySelectorAll("#image [role=group][aria-label]").length,
+    chosen: document.querySelectorAll("#image [aria-selected=true]").length,
+    groups: document.querySelectorAll("#image [role=group][aria-label]").length,
     arrows: document.querySelectorAll("g.arrow").length, sentence: document.getElementById("note").textContent.length > 20 };
 """
 
@@ -422,8 +461,10 @@ def projector(_, page, __):
     page.open("#objects=1,2")
     page.type("l")
     page.settle()
-    seen = page.run("const size = (name) => parseFloat(getComputedStyle(document.querySelector(name)).fontSize); const stage = document.getElementById('stage').getBoundingClientRect();"
-                    "return [size('#image .word'), size('#note'), document.getElementById('legend').checkVisibility(), [...document.querySelectorAll('#image .word')].every((row) => row.getBoundingClientRect().bottom <= stage.bottom)]")
+    seen = page.run("const size = (name) => parseFloat(getComputedStyle(document.querySelector(name)).fontSize); "
+                    "const stage = document.getElementById('stage').getBoundingClientRect();"
+                    "return [size('#image .word'), size('#note'), document.getElementById('legend').checkVisibility(), "
+                    "[...document.querySelectorAll('#image .word')].every((row) => row.getBoundingClientRect().bottom <= stage.bottom)]")
     same("words for a projector", (seen[0] >= 28, seen[1] >= 24, seen[2:]), (True, True, [False, True]))
 
 
@@ -435,8 +476,10 @@ def paper(_, page, __):
     page.click("handout")
     texts = page.run("return [...document.querySelectorAll('#paper > div')].map((part) => part.textContent)")
     asked = page.run("return GUIDES[2].steps.filter((step) => step.ask).map((step) => prose(step.ask))")
-    same("the handout is printed", page.run("return [window.printed, document.body.classList.contains('handout'), view.guide, view.done]"), [True, False, 2, 0])
-    same("questions on paper, without answers and with them", (len(texts), [ask for ask in asked for text in texts if ask not in text]), (2, []))
+    same("the handout is printed", page.run("return [window.printed, document.body.classList.contains('handout'), view.guide, view.done]"),
+         [True, False, 2, 0])
+    same("questions on paper, without answers and with them", (len(texts), [ask for ask in asked for text in texts if ask not in text]),
+         (2, []))
     same("answers on paper", ["Answer: text 000006" in text for text in texts], [False, True])
     page.open("#lesson=2&done=0&numbers=decimal")
     page.run("window.print = () => {}")
@@ -447,17 +490,19 @@ def paper(_, page, __):
     same("one handout of a lesson", page.run("return document.getElementById('handout')"), None)
 
 
-# of each lesson the objects that it adds, and of its sheet without answers the headings and the lines of objects, what is marked, and what follows
-# `Answer: `; then the answers, as text, with the sheet's steps
+# of each lesson the objects that it adds, and of its sheet without answers the headings and the lines of objects, what is marked, and what
+# follows `Answer: `; then the answers, as text, with the sheet's steps
 HANDOUTS = """
 window.print = () => {};
 return GUIDES.slice(1).map(({ steps }, i) => {
     view = guideView(i + 1, 0);
     printHandout();
-    const sheet = document.querySelector("#paper > div"), all = (selector) => [...sheet.querySelectorAll(selector)].map((one) => one.textContent);
+    const sheet = document.querySelector("#paper > div"),
+        all = (selector) => [...sheet.querySelectorAll(selector)].map((one) => one.textContent);
     const added = [...new Set(steps.filter(({ act }) => act?.[0] === "add").map(({ act }) => act[1]))];
     const asked = steps.filter(({ ask, kind }) => ask && ["value", "where"].includes(kind)).map(rightText);
-    return [added, all("h2"), all(".paper-object tr").length, all("table").length - all(".paper-object").length, sheet.textContent.includes("\u2612"), all(".line"), asked, all(".paper-step").join(" ")];
+    return [added, all("h2"), all(".paper-object tr").length, all("table").length - all(".paper-object").length,
+        sheet.textContent.includes("\u2612"), all(".line"), asked, all(".paper-step").join(" ")];
 });
 """
 
@@ -467,8 +512,11 @@ def handouts(_, page, files):
     page.open("")
     objects, count = [Given(file) for file in files], 0
     for number, (added, heads, rows, tables, is_marked, lines, answers, steps) in enumerate(page.run(HANDOUTS), 1):
-        same(f"the objects of handout {number}", (heads, rows), ([objects[one].name for one in added], sum((objects[one].text + objects[one].data) // 2 for one in added)))
-        same(f"the answers of handout {number}", (tables, is_marked, {*lines} - {"Answer: ______________________"}, [one for one in answers if re.search(rf"\b{one}\b", steps)]), (0, False, set(), []))
+        same(f"the objects of handout {number}", (heads, rows),
+             ([objects[one].name for one in added], sum((objects[one].text + objects[one].data) // 2 for one in added)))
+        same(f"the answers of handout {number}",
+             (tables, is_marked, {*lines} - {"Answer: ______________________"},
+              [one for one in answers if re.search(rf"\b{one}\b", steps)]), (0, False, set(), []))
         count += len(lines)
     return count
 
@@ -477,8 +525,10 @@ def handouts(_, page, files):
 MAPS = """
 areMapsShown = true;
 showMaps(stateNow());
-return [...document.querySelectorAll("#mapped .map")].map((map) => [map.querySelector("h3").textContent, [...map.querySelectorAll(".piece:not(.gap)")].map((piece) => piece.title),
-    [...map.querySelectorAll(".piece:is(.text, .data, .bss)")].map((piece) => [...piece.querySelectorAll("i")].map((share) => [Number(share.textContent), Number(share.style.flexGrow)]))]);
+return [...document.querySelectorAll("#mapped .map")].map((map) => [map.querySelector("h3").textContent,
+    [...map.querySelectorAll(".piece:not(.gap)")].map((piece) => piece.title),
+    [...map.querySelectorAll(".piece:is(.text, .data, .bss)")].map((piece) => [...piece.querySelectorAll("i")]
+        .map((share) => [Number(share.textContent), Number(share.style.flexGrow)]))]);
 """
 
 
@@ -510,7 +560,8 @@ def maps(tools, page, files):
 
 # the steps of the practice: what is asked, in the form of the lessons of a page, and the act
 PRACTICE = """
-const askedBy = ({ kind, answers, word, name, number, before }) => ({ changes: [kind, ...answers], value: [kind, word, number, before], where: [kind, name, number] })[kind];
+const askedBy = ({ kind, answers, word, name, number, before }) => ({ changes: [kind, ...answers], value: [kind, word, number, before],
+    where: [kind, name, number] })[kind];
 return GUIDES[GUIDES.length - 1].steps.filter(({ act }) => act).map((one) => [askedBy(one) ?? null, one.act]);
 """
 
@@ -546,14 +597,16 @@ def result(_, page, __):
         if page.run("return isAsked()") and len(given) < 3:
             given.append(page.run(ANSWER, len(given) != 1))
         page.run("goTo(7, arguments[0])", done + 1)
-    same("the result of a lesson", (given, page.run("return document.querySelector('#guide .result')?.textContent")), ([True, False, True], "Your first answers: 2 right, 1 wrong, 1 open."))
+    same("the result of a lesson", (given, page.run("return document.querySelector('#guide .result')?.textContent")),
+         ([True, False, True], "Your first answers: 2 right, 1 wrong, 1 open."))
 
 
 def distances(_, page, __):
     """A distance is one within a segment, or in a link; elsewhere the page says that a link makes it."""
     page.size(1366, 768)
     page.open("#objects=1,2,3,5")
-    words = page.run("return allReferences(stateNow()).filter((one) => one.to).map((one) => [one.id, wordOf(stateNow(), one.id)]).filter(([, word]) => word.pc).map(([id, word]) => [id, SEGMENTS[word.kind] === word.part])")
+    words = page.run("return allReferences(stateNow()).filter((one) => one.to).map((one) => [one.id, wordOf(stateNow(), "
+                     "one.id)]).filter(([, word]) => word.pc).map(([id, word]) => [id, SEGMENTS[word.kind] === word.part])")
     for word, is_one in words:
         for key, isTold in (("a", True), ("a", is_one)):
             page.type(key)
@@ -566,14 +619,19 @@ def distances(_, page, __):
 # ---- the object beside the image
 # the lines of cards that are marked, and what is chosen
 MARKED = "return [chosen, [...document.querySelectorAll('#cards [aria-selected=true]')].map((row) => row.textContent)];"
-SEEN_LINE = "const row = document.querySelector('#cards [aria-selected=true]')?.getBoundingClientRect(); return Boolean(row) && row.height > 0 && row.top >= 0 && row.bottom <= innerHeight;"
+SEEN_LINE = """
+const row = document.querySelector("#cards [aria-selected=true]")?.getBoundingClientRect();
+return Boolean(row) && row.height > 0 && row.top >= 0 && row.bottom <= innerHeight;
+"""
 
 
 def beside(_, page, files):
-    """A word that is chosen has its line marked in the card of its object, which can be seen; a line leads to the word that it has become."""
+    """A word that is chosen has its line marked in the card of its object, which can be seen; a line leads to the word that it has
+    become."""
     page.open("#" + first(len(files) - 1))
     objects = [Given(file) for file in files[:-1]]
-    wanted = {key: (f"line-{objects.index(word.of)}-{word.part}-{word.index}", f"{word.of.start(word.part) + 2 * word.index:06o}{word.own:06o}") for key, word in Session(objects).rows().items()}
+    wanted = {key: (f"line-{objects.index(word.of)}-{word.part}-{word.index}",
+                    f"{word.of.start(word.part) + 2 * word.index:06o}{word.own:06o}") for key, word in Session(objects).rows().items()}
     keys = list(wanted)[::max(1, len(wanted) // 20)]
     for key in keys:
         line, start = wanted[key]
@@ -590,9 +648,11 @@ def beside(_, page, files):
     page.wait("return document.querySelectorAll('#cards [role=listbox]').length === arguments[0]", len(files))
     page.run("document.querySelector('#given-0').focus()")
     page.type(Keys.END)
-    same("the last line of an object, by keys", [text[:12] for text in page.run(MARKED)[1]], [[start for line, start in wanted.values() if line.startswith("line-0-")][-1]])
+    same("the last line of an object, by keys", [text[:12] for text in page.run(MARKED)[1]],
+         [[start for line, start in wanted.values() if line.startswith("line-0-")][-1]])
     page.run("document.querySelector('#cards .card:last-child [role=option]').click()")
-    same("a line of an object that is not there", page.run("return chosen !== 'none' && document.querySelector('#cards .card:last-child [aria-selected=true]') === null"), True)
+    same("a line of an object that is not there",
+         page.run("return chosen !== 'none' && document.querySelector('#cards .card:last-child [aria-selected=true]') === null"), True)
     return len(keys)
 
 
@@ -601,19 +661,25 @@ END = "choose(`name ${arguments[0]}`, true); const row = byId(arguments[1]); ret
 
 
 def ends(tools, page, _):
-    """A name at the end of a segment leads to the end, in the image and in a link, and so does a word that means the end: not to what follows."""
-    given = write(f"{tools.folder}/ends.o", object_of([(4, 0o2), (6, 0o4)], [("_after", 0o42, 4), ("_past", 0o43, 6), ("_room", 0o40, 2)], [1]))
+    """A name at the end of a segment leads to the end, in the image and in a link, and so does a word that means the end: not to what
+    follows."""
+    given = write(f"{tools.folder}/ends.o",
+                  object_of([(4, 0o2), (6, 0o4)], [("_after", 0o42, 4), ("_past", 0o43, 6), ("_room", 0o40, 2)], [1]))
     page.load(tools.page_of([given], "ends.html"))
     page.open("#objects=1")
     for key, (text, data) in (("", ("000004", "000002")), ("p", ("000004", "000006")), ("n", ("000004", "020002"))):
         page.type(*key)
-        for name, row, said in (("_after", "text-end", f"{text} _after: the end of text"), ("_past", "data-end", f"{data} _past: the end of data")):
+        for name, row, said in (("_after", "text-end", f"{text} _after: the end of text"),
+                                ("_past", "data-end", f"{data} _past: the end of data")):
             same(f"the end {name}, {key or 'the image'}", page.run(END, name, row), said)
-        same(f"what words mean, {key or 'the image'}", page.run("return allReferences(stateNow()).map((one) => one.to)"), ["text-end", "data-end"])
+        same(f"what words mean, {key or 'the image'}", page.run("return allReferences(stateNow()).map((one) => one.to)"),
+             ["text-end", "data-end"])
 
 
 # the checks of this file, and the pages that each is for: the class example, a program in C, pointers and bss, sixteen objects
 CHECKS = (
-    (first_view, (0,)), (roles, (0,)), (stops, (3,)), (keys, (0,)), (history, (0,)), (tour, (0,)), (lessons, (0, 1, 2)), (wrong_answer, (0,)), (numbers, (0,)), (leads, (0,)),
-    (texts, (0,)), (presenter, (3,)), (projector, (0,)), (paper, (0,)), (handouts, (0, 1, 2)), (maps, (0, 1, 2)), (practice, (0, 1, 2)), (result, (0,)), (beside, (0, 3)), (old_browser, (0,)),
+    (first_view, (0,)), (roles, (0,)), (stops, (3,)), (keys, (0,)), (history, (0,)), (tour, (0,)), (lessons, (0, 1, 2)),
+    (wrong_answer, (0,)), (numbers, (0,)), (leads, (0,)),
+    (texts, (0,)), (presenter, (3,)), (projector, (0,)), (paper, (0,)), (handouts, (0, 1, 2)), (maps, (0, 1, 2)), (practice, (0, 1, 2)),
+    (result, (0,)), (beside, (0, 3)), (old_browser, (0,)),
     (distances, (1,)), (ends, (0,)), (reasons, (0, 1, 2)), (hints, (0,)))
