@@ -33,6 +33,8 @@ endif
 
 # tools/prove.py uses all processors by itself
 .NOTPARALLEL:
+# no built-in rule: the host's `as` would make objects of examples/*.s
+.SUFFIXES:
 .SECONDEXPANSION:
 .PHONY: all quick lib wheel dist page install install-lib uninstall clean help which check-text test gate check check-all \
 	check-wrong-bodies planted demo recheck bench build/quick/liblibv7.a
@@ -128,17 +130,19 @@ demo: build/v7
 	@python3 -m tests.programs.demo
 	@echo 'Each function of build/v7 is proved. next: make, which proves the other programs; docs/TUTORIAL.md'
 
-# the page: one file with the linker, compiled for WebAssembly from the module of the proved libv7, and the objects and lessons of examples/.
-# `make build/quick/v7.html` makes it of what `make quick` compiles. It takes Debian's binaryen: without it the rest is built
+# the page: one file with the linker, compiled for WebAssembly from the module of the proved libv7, and the objects and lessons of
+# examples/. `make build/quick/v7.html` makes it of what `make quick` compiles. It takes Debian's binaryen: without it the rest is built
 PAGE := $(if $(shell command -v wasm-opt),v7.html)
-page: build/v7.html
+page: $(PAGE:%=build/%)
+	$(if $(PAGE),,@echo 'make page needs wasm-opt, of the Debian package binaryen'; exit 1)
 
 build/v7.wasm: crates/libv7/out/liblibv7.a
 	python3 -m tools.module $@
 build/quick/v7.wasm: build/quick/liblibv7.a
 	python3 -m tools.module --quick $@
 $(PLACES:=/v7.wasm): tools/module.py packaging/heap.c page/session.js
-$(PLACES:=/v7.html): %/v7.html: %/v7.wasm packaging/page.py include/v7.h $(wildcard page/* examples/*.o examples/*/*.o examples/lessons.txt examples/*/lessons.txt)
+$(PLACES:=/v7.html): %/v7.html: %/v7.wasm packaging/page.py include/v7.h \
+		$(wildcard page/* examples/*.o examples/*/*.o examples/lessons.txt examples/*/lessons.txt)
 	python3 packaging/page.py $< $@
 
 help:

@@ -33,7 +33,8 @@ def coded(data):
 
 
 def set_of(title, lessons, paths):
-    return {"title": title, "objects": [{"path": path, "bytes": coded(read_bytes(path))} for path in paths], "lessons": read(lessons) if lessons else ""}
+    objects = [{"path": path, "bytes": coded(read_bytes(path))} for path in paths]
+    return {"title": title, "objects": objects, "lessons": read(lessons) if lessons else ""}
 
 
 def page_of(module, sets):
@@ -42,7 +43,8 @@ def page_of(module, sets):
     faults = json.dumps(faces.texts_of(read(f"{TOP}/include/v7.h")))
     linker = coded(gzip.compress(read_bytes(module), mtime=0))
     parts = [HEAD, read(f"{TOP}/page/lesson.css"), "</style>\n</head>\n<body>\n", read(f"{TOP}/page/body.html")]
-    parts.append(f'<script type="application/json" id="data">\n{data}\n</script>\n<script type="application/wasm" id="linker">{linker}</script>\n')
+    parts.append(f'<script type="application/json" id="data">\n{data}\n</script>\n')
+    parts.append(f'<script type="application/wasm" id="linker">{linker}</script>\n')
     parts.append(f'<script>\n"use strict";\nconst FAULTS = {faults};\n</script>\n')
     parts += [f"<script>\n{read(f'{TOP}/page/{name}.js')}</script>\n" for name in SCRIPTS]
     return "".join([*parts, "</body>\n</html>\n"])

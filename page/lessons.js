@@ -205,7 +205,7 @@ function readLine(reader, number, word, rest) {
     return [];
 }
 
-// the lines of a file, as lesson.js takes them; a mistake tells its line
+// the lines of a file, as lesson.js takes them; a mistake has its line
 function lessonLines(text) {
     const reader = { list: [], begun: { kind: "nothing" }, asked: { kind: "" } };
     const lines = [];

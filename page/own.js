@@ -149,7 +149,7 @@ function editListing(number) {
     byId("own-text").focus();
 }
 
-// makes the object anew of its listing, while one types; a mistake is told with its line, and the object stays as it was
+// makes the object anew of its listing, while one types; at a mistake it shows the line, and the object stays as it was
 function takeListing() {
     const [text, path] = [byId("own-text").value, byId("own-name").value.trim() || "own.o"];
     const made = attempt(() => LINKER.fromListing(new TextEncoder().encode(text.endsWith("\n") ? text : `${text}\n`)));

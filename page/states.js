@@ -269,7 +269,7 @@ async function beginLinker() {
     [current, currentList] = [null, []];
 }
 
-// takes objects and lessons in place of those that are there; a mistake in the lessons is told, and the page has none then
+// takes objects and lessons in place of those that are there; why the page has no lessons then, or nothing
 function takeObjects(objects, lessons) {
     forgetStates();
     DATA.objects = [];

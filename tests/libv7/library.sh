@@ -126,7 +126,8 @@ checks C "each call" ./calls
 # a compiler may leave out a read that the source has, so the calls are made of what is compiled at -O0 too, without proof
 if has rt; then
     (cd "$top" && python3 -c 'import sys, tools.sketch; tools.sketch.make(*sys.argv[1:])' "$top" libv7 "$work/plain.a" -O0) || exit 1
-    compile calls "$top/tests/libv7/c/calls.c" $wrapped -Wl,--whole-archive plain.a -Wl,--no-whole-archive "$(dirname "$(rt doc)")/c/liblibc_c.a"
+    compile calls "$top/tests/libv7/c/calls.c" $wrapped -Wl,--whole-archive plain.a -Wl,--no-whole-archive \
+        "$(dirname "$(rt doc)")/c/liblibc_c.a"
     checks "C at -O0" "each call" ./calls
 fi
 compile stack "$top/tests/libv7/c/stack.c" -pthread "$archive"

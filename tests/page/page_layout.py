@@ -1,5 +1,4 @@
-"""Looks at where things are on the page of the lesson: arrows, text in its frames, badges. The pictures of docs/pictures are made here
-too."""
+"""Looks at where things are on the page: arrows, text in its frames, badges. The pictures of docs/pictures are made here too."""
 import base64
 import re
 import tempfile

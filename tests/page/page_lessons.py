@@ -75,7 +75,7 @@ def bad_lessons(tools, files):
             same(f"lessons that are left: {text}", scripts.run("() => DATA.lessons"), [])
 
 
-# a file of questions that has to be accepted: objects that come again, and texts that could end the script of the page
+# a file of lessons that has to be accepted: objects that come again, and texts that could end the script of the page
 ACCEPTED = """lesson </script><b>
 add main.o
 withdraw

@@ -66,8 +66,8 @@ def dropped(tools, page, files):
 
 
 def edited(_, page, __):
-    """A listing that is edited makes its object again, and the image follows; a mistake is told with its line, and a remark with its
-    word."""
+    """A listing that is edited makes its object again, and the image follows; a mistake is shown with its line, and a remark with
+    its word."""
     page.open("#objects=1,2")
     page.run("editListing(1)")
     page.run(TYPE, "006300", "006301")

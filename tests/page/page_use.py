@@ -1,4 +1,4 @@
-"""Uses the page of the lesson as a student does: the first view, the tour and the lessons by keys, steps back, marks, folds. A check has
+"""Uses the page as a student does: the first view, the tour and the lessons by keys, steps back, marks, folds. A check has
 the programs, the page as it was loaded, at 1366 x 768, and the objects; it returns how many things it has counted, if it counts some."""
 import os
 import re

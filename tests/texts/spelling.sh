@@ -14,9 +14,9 @@ spell() {
 }
 # what is a word here in prose, beside those of English: of programmers, and names
 known='alloc allocator alsc antt aout aspell backend bhis binaryen binutils callee callgrind cmark codespell comparer config ctypes debian
-    debootstrap destructor disassembler disassemblies dmov dpkg edata encoding enum etext fadd faketime fdiv fixup glibc groff hasher indir libc liblibc
-    liblibv libiberty libv linksem lintian makefile malloc mandoc manylinux mdoc mfps mfpt mtps mypy nasl prover realloc reimplements relinker rustc
-    simh soname stderr stdin stdint stdout strace struct subcommand tstset usize valgrind venv wrtlck xffffffff zlib
+    debootstrap destructor disassembler disassemblies dpkg edata encoding enum etext fadd faketime fdiv fixup glibc groff hasher indir libc
+    liblibc liblibv libiberty libv linksem lintian makefile malloc mandoc manylinux mdoc mfps mfpt mtps mypy prover realloc reimplements
+    relinker rustc simh soname stderr stdin stdint stdout strace struct subcommand tstset usize valgrind venv wrtlck xffffffff zlib
     coq dafny kell kumar myreen norrish sewell shao wilke toolchain wasm'
 # documents and manuals without code, and lines of comments
 prose() {
