@@ -1,6 +1,6 @@
 # v7: see README.md. The command `rt` of the Rattle kit has to be on the PATH, but for what needs no kit.
 #
-#: make                       proves and builds the five programs into build/                              kit          20 minutes
+#: make                       proves and builds the four programs into build/                              kit          20 minutes
 #: make quick                 compiles them and libv7 without proof into build/quick, shows a session       kit, cc      3 minutes
 #: make lib wheel             proves and builds libv7, and makes its wheel of Python                       kit          20 minutes
 #: make dist                  makes the packages of a release in dist/                                     kit          25 minutes
