@@ -21,7 +21,7 @@
 #: make help                  shows this. `python3 -m tests list` names each test of a tier, `python3 -m tests NAME` runs it
 PREFIX ?= /usr/local
 
-# the kits that the gate has passed with; `any` is for another one
+# the kit, and before it one that proved earlier sources; `any` is for another one
 KITS ?= rattle-kit-13b rattle-kit-13f
 # what proves and compiles nothing
 LIGHT := check-text clean help uninstall which
