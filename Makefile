@@ -1,6 +1,6 @@
 # v7: see README.md. The command `rt` of the Rattle kit has to be on the PATH, but for what needs no kit.
 #
-#: make                       proves and builds the four programs into build/                              kit          20 minutes
+#: make                       proves and builds the five programs into build/                              kit          20 minutes
 #: make quick                 compiles them and libv7 without proof into build/quick, shows a session       kit, cc      3 minutes
 #: make lib wheel             proves and builds libv7, and makes its wheel of Python                       kit          20 minutes
 #: make dist                  makes the packages of a release in dist/                                     kit          25 minutes
@@ -39,7 +39,7 @@ endif
 .PHONY: all quick lib wheel dist page install install-lib uninstall clean help which check-text test gate check check-all \
 	check-wrong-bodies planted demo recheck bench build/quick/liblibv7.a
 
-PROGRAMS := $(addprefix build/,v7 v7-from-gnu v7-object v7-explain)
+PROGRAMS := $(addprefix build/,v7 v7-from-gnu v7-object v7-explain v7-origin)
 all: $(PROGRAMS)
 
 # a proved program, which `make gate` leaves too, at the same place
@@ -50,7 +50,7 @@ $(PROGRAMS): build/%: crates/$$(subst -,_,$$*)/out/$$(subst -,_,$$*)
 # tools/prove.py proves a crate with the libraries under it, side by side where none waits for another, and builds it
 ifneq ($(filter-out $(LIGHT),$(or $(MAKECMDGOALS),all)),)
 crate_of = $(word 2,$(subst /, ,$@))
-PROVED := $(foreach crate,v7 v7_from_gnu v7_object v7_explain,crates/$(crate)/out/$(crate)) crates/libv7/out/liblibv7.a
+PROVED := $(foreach crate,v7 v7_from_gnu v7_object v7_explain v7_origin,crates/$(crate)/out/$(crate)) crates/libv7/out/liblibv7.a
 $(PROVED): crates.txt $$(shell python3 -m tools.prove --sources $$(crate_of))
 	python3 -m tools.prove $(crate_of) $@
 	touch $@

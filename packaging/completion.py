@@ -13,10 +13,10 @@ from tests.lib.files import TOP, read, write  # noqa: E402
 
 # the source of the help of each program but v7
 HELP = {"v7-explain": "v7_explain/src/help.rt", "v7-from-gnu": "v7_from_gnu/src/help.rt",
-        "v7-object": "v7_object/src/help.rt"}
+        "v7-object": "v7_object/src/help.rt", "v7-origin": "v7_origin/src/help.rt"}
 SHOWN = {"--help": (None, "Shows how to call it"), "--version": (None, "Shows the version")}
 # the files that a program takes, and what the values of options are; anything else is a file
-TAKES = {"v7 ld": "*.o", "v7-object": "*.lst", "v7 session": "none", "v7 help": "none"}
+TAKES = {"v7 ld": "*.o", "v7-object": "*.lst", "v7-origin": "*.o", "v7 session": "none", "v7 help": "none"}
 VALUES = {None: "-", "NAME": "none", "STEP": "none", "FOLDER": "folder", "LISTING": "*.lst"}
 
 

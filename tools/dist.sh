@@ -185,7 +185,7 @@ manual() {
     cp tests/programs/manual.sh "$debian/tmp/manual/tests/programs"
     cp -r "$debian$share/doc/v7/examples" "$debian/tmp/manual"
     inside sh -euc 'cd /tmp/manual && cp "$1"/man/man[157]/v7* man && { gunzip -q man/*.gz 2>/dev/null || :; }
-        for program in v7 v7-from-gnu v7-object v7-explain; do ln -s "$(command -v $program)" build; done
+        for program in v7 v7-from-gnu v7-object v7-explain v7-origin; do ln -s "$(command -v $program)" build; done
         sh tests/programs/manual.sh man/* "$1/doc/v7/README.md" "$1/doc/v7/docs/RESTORING.md"' sh "$share" ||
         fail "an example of the manual differs"
     # the folder has no Python
@@ -199,7 +199,7 @@ cases() {
     mkdir -p "$work/cases/build"
     cp -r tests "$work/cases"
     cp -r examples "$work/cases"
-    for program in v7 v7-from-gnu v7-object v7-explain; do
+    for program in v7 v7-from-gnu v7-object v7-explain v7-origin; do
         path=$(inside sh -c 'command -v "$0"' $program)
         cat >"$work/cases/build/$program" <<END
 #!/bin/sh

@@ -9,10 +9,10 @@ Parts with `refuse memory` are skipped too for a program that tools/compiling.py
 The programs are in build/, or in the folder V7_BUILD. A command has 60 seconds, or V7_SECONDS.
 
 tier: text, 1 seconds; words: -s; for: tests/cases/data examples
-tier: test, 20 seconds; programs: v7 v7-explain v7-object v7-from-gnu libv7.so; words: -b; for: tests/cases docs/CASES.md
-tier: check, 120 seconds; programs: v7 v7-explain v7-object v7-from-gnu libv7.so;
+tier: test, 20 seconds; programs: v7 v7-explain v7-object v7-from-gnu v7-origin libv7.so; words: -b; for: tests/cases docs/CASES.md
+tier: check, 120 seconds; programs: v7 v7-explain v7-object v7-from-gnu v7-origin libv7.so;
  for: tests/cases docs/CASES.md tests/lib/faults
-tier: check, 20 seconds; programs: v7 v7-explain v7-object v7-from-gnu libv7.so; words: -b; for: tests/cases docs/CASES.md
+tier: check, 20 seconds; programs: v7 v7-explain v7-object v7-from-gnu v7-origin libv7.so; words: -b; for: tests/cases docs/CASES.md
 """
 import collections
 import glob

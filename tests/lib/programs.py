@@ -9,7 +9,7 @@ from tests.lib.files import TOP, read
 
 BUILD = os.environ.get("V7_BUILD") or os.path.join(TOP, "build")
 # the programs of a release, each with its crate
-PROGRAMS = {name: name.replace("-", "_") for name in ("v7", "v7-explain", "v7-from-gnu", "v7-object")}
+PROGRAMS = {name: name.replace("-", "_") for name in ("v7", "v7-explain", "v7-from-gnu", "v7-object", "v7-origin")}
 # the words of the faults that every program has, by the names by which cases cite them
 FAULTS = dict(line.split(" ", 1) for line in read(f"{TOP}/tests/lib/faults").splitlines())
 

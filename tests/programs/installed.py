@@ -4,7 +4,7 @@ usage: python3 -m tests.programs.installed look FOLDER      what is below this f
        python3 -m tests.programs.installed            installs the programs by packaging/installed.py, as `make install` does, into a new
                                            folder, with the mask 077; looks, calls a program as another user, and uninstalls
 
-tier: check, 10 seconds; programs: v7 v7-explain v7-object v7-from-gnu; for: packaging/installed.py docs man examples;
+tier: check, 10 seconds; programs: v7 v7-explain v7-object v7-from-gnu v7-origin; for: packaging/installed.py docs man examples;
  needs: cmark-gfm mandoc
 
 A file FOO.gz may be in place of FOO, as on Debian.

@@ -8,13 +8,13 @@
 #
 # usage: tests/programs/manual.sh [FILE...]       the programs are in build/, or in the folder V7_BUILD
 #
-# tier: check, 30 seconds; programs: v7 v7-explain v7-object v7-from-gnu;
+# tier: check, 30 seconds; programs: v7 v7-explain v7-object v7-from-gnu v7-origin;
 # for: man docs examples README.md; needs: groff man mandoc pdp11
 set -u
 cd "$(dirname "$0")/../.."
 top=$PWD
 build=$(realpath "${V7_BUILD:-build}")
-for program in v7 v7-from-gnu v7-object v7-explain; do
+for program in v7 v7-from-gnu v7-object v7-explain v7-origin; do
     [ -x "$build/$program" ] || { echo "$build/$program is missing: make build/$program makes it"; exit 2; }
 done
 [ $# -gt 0 ] || set -- man/*.1 man/*.5 man/*.7 README.md CONTRIBUTING.md examples/*.md docs/*.md docs/*/*.md

@@ -2,7 +2,7 @@
 of `data/`, it has to print the bytes of `stdout`, and to end with the status of `status`. `rt ci` compares those of proved programs,
 once all is proved.
 
-tier: test, 3 seconds; programs: v7 v7-explain v7-object v7-from-gnu;
+tier: test, 3 seconds; programs: v7 v7-explain v7-object v7-from-gnu v7-origin;
  for: crates/v7_explain
 """
 import os

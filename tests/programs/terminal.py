@@ -5,7 +5,7 @@ The terminal is a pseudo-terminal, by the module `pty`. What is expected here is
 v7-session(1). Options are those of the manual pages. Random command lines, always the same, show that a reason is given for those
 that v7 refuses, and for no others.
 
-tier: check, 25 seconds; programs: v7 v7-explain v7-from-gnu v7-object;
+tier: check, 25 seconds; programs: v7 v7-explain v7-from-gnu v7-object v7-origin;
  for: crates/v7 crates/command_words crates/surroundings man
 """
 import os
@@ -76,6 +76,9 @@ BESIDE = {
         ("-", "it takes two files"), ("-x a b", "there is no option -x"), ("a b -yx", "there is no option -y"),
         ("a -\u00e9 b", "there is no option -\\303"), ("a --x b", "an option has one letter, but for --help and --version"),
         ("--- a b", "an option has one letter, but for --help and --version")],
+    "v7-origin": [
+        ("", "it needs a file"), ("-a a b", "-a needs -o"), ("-z a", "there is no option -z"), ("a -o", "-o needs the next argument as its value"),
+        ("-o a -o b c", "-o takes one value"), ("a --x", "an option has one letter, but for --help and --version")],
     "v7-from-gnu": [
         ("", "it takes two files"), ("a", "it takes two files"), ("-S a b c", "it takes two files"), ("-o a", "it needs a file"),
         ("-o", "-o needs the next argument as its value"), ("-oq a b", "-o needs the next argument as its value"),

@@ -64,6 +64,9 @@ LIMITS = [
     ("v7_object/src/making.rt", "MOST_BYTES", {
         "man/v7-object.1": "The listing has more than {} bytes.",
     }),
+    ("v7_origin/src/reading.rt", "MOST_BYTES", {
+        "man/v7-origin.1": "A file has more than {} bytes.",
+    }),
     ("v7_from_gnu/src/reading.rt", "MOST_BYTES", {
         "man/v7-from-gnu.1": "The file has more than {} bytes.",
     }),

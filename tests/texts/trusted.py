@@ -42,7 +42,7 @@ INTERNAL = ["internal"]
 # definitions name no constants of the code, but for the ids by which `command_words` knows its options, the rows of `instructions`, in the
 # laws that compare them with the definitions' tables, and the help of a program, of which no definition says what it says
 IDS = [("command_words", "words"), ("command_words", "link_words"), ("instructions", "table"), ("instructions", "call_table"),
-       ("v7_object", "help"), ("v7_from_gnu", "help")]
+       ("v7_object", "help"), ("v7_origin", "help"), ("v7_from_gnu", "help")]
 # crates whose definitions nobody has to trust: tests, and what a reader at a terminal sees
 OTHERS = ["v7", "device_tests"]
 LIBRARIES = [crate for crate in crates_in(".") if crate not in OTHERS]

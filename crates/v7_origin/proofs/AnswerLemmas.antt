@@ -1,0 +1,33 @@
+-- The answer with what was found, and the file that is stored.
+use Rattle.std.proofs.Common.{arith, ◌≡◌, ℕ, ◌⊎◌, Bool, true, false, if◌then◌else◌, List, [], Some, None, refl, sym, ap, subst, inl, inr}
+use Rattle.std.specs.Prelude.{Option, Result}
+use Rattle.aout_core.specs.{Contents.Contents, declared.symbol.Symbol.Symbol}
+use Rattle.surroundings.specs.{Answer.Answer, Events.History, Events.stored, Programs.Stores, declared.answer.Fault.Fault}
+use Rattle.v7_origin.specs.{Calls.Call, Files.Source, Files.with_symbols, Runs.Ends, Runs.IsFound, Whole.IsWhole, internal.Lists.IfStored}
+
+abbrev status_by : Bool → ℕ
+status_by is_whole = if is_whole then 0 else 1
+
+is_status : (is_whole : Bool) → (status_by is_whole ≡ 0) ⊎ (status_by is_whole ≡ 1)
+is_status true = inl refl
+is_status false = inr refl
+
+whole_by_status : (is_whole : Bool) → status_by is_whole ≡ 0 → is_whole ≡ true
+whole_by_status true e = refl
+whole_by_status false e = absurd (omega (arith, e))
+
+pub found_answer : (call : Call) (program : Contents) (sources : List Source) (lines : List ℕ) (is_whole : Bool) (a : Answer) →
+    (is_whole ≡ true → IsWhole program sources) →
+    a ≡ record { output = if call.is_quiet then [] else lines; errors = []; status = if is_whole then 0 else 1 } → IsFound call program sources a
+found_answer call program sources lines is_whole a whole e = subst (IsFound call program sources) (sym e)
+    (record {
+      ends = is_status is_whole;
+      whole = λ z. whole (whole_by_status is_whole z);
+      quiet = ap (λ (b : Bool). if b then [] else lines);
+      no_errors = refl;
+    })
+
+pub ends_stored : (out : Option (List ℕ)) (program file : Contents) (rows : List Symbol) (a : Answer) (old new : History) (result : Result Answer Fault) →
+    file ≡ with_symbols program rows → IfStored out file a old new result → Ends out program a old new result
+ends_stored None program file rows a old new result e h = h
+ends_stored (Some out) program file rows a old new result e h = (rows, subst (λ f. Stores (stored out f) a old new result) e h)

@@ -1,0 +1,4 @@
+pub mod ReadingLemmas
+pub mod FileLemmas
+pub mod LinkLemmas
+pub mod AnswerLemmas

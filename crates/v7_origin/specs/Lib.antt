@@ -1,0 +1,5 @@
+pub mod Files
+pub mod Whole
+pub mod Calls
+pub mod Runs
+pub mod internal
