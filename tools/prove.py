@@ -201,7 +201,8 @@ class Proving:
         if not all(map(os.path.exists, (GATED, f"{left}/format"))):
             return False
         last = max(os.path.getmtime(file) for file in ("crates.txt", *(file for it in (crate, *crate.below) for file in it.files)))
-        if not last < os.path.getmtime(f"{left}/format") < os.path.getmtime(GATED):
+        # one that an earlier gate proved of the same files has its old time, and is put there by this one
+        if not last < os.path.getctime(f"{left}/format") < os.path.getmtime(GATED):
             return False
         pairs = [(f"crates/{it.name}/out/rlib/{it.left}/format", f"{self.kit.place}/{it.left}/format") for it in crate.below]
         if not all(os.path.exists(gated) and read(gated) == read(own) for gated, own in pairs):
