@@ -581,7 +581,7 @@ class _Run:
         """Links objects, or by another call what has this size: once, if it reports at most 2,000 names."""
         parts, call = _list(objects), call or _LIBRARY.v7_run
         request, size = _asked(parts, options, entry, forced, wants), size + sum(map(len, parts))
-        # a linked file has no more than its objects, a header, and a symbol for each forced name
+        # first there is room for what a link of such objects should give: no more than them, a header, and a symbol for each forced name
         size += 16 + request.forced.size // 8 * 12
         # of a file each symbol has twelve bytes, a word with what it refers to four, and a line of the report at most 27
         symbols, few = size // 12, min(size // 12, 2000)

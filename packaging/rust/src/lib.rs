@@ -82,9 +82,9 @@ fn lend<T: Clone + Default>(buffer: &mut Vec<T>, count: usize, records: &mut *mu
     (*records, *room) = (buffer.as_mut_ptr(), count);
 }
 
-/// Makes a call whose result has buffers of the sizes that they say, which outlive it: once, since a linked file
-/// has no more than its objects, a header, and a symbol for each forced name. Of a
-/// map an object has at least sixteen bytes, a name twelve, and a use four.
+/// Makes a call whose result has buffers of the sizes that they say, which outlive it: first with room for what a
+/// link of such objects should give, and again if it needs more. Of a map an object should have at least sixteen
+/// bytes, a name twelve, and a use four.
 fn run(request: &raw::Request, size: usize, forced: usize, mut call: impl FnMut(&mut raw::Result) -> u32) -> Result<(Program, Map), Fault> {
     let file_size = 16 + size + 12 * forced;
     let count = file_size / 12 + 3;
