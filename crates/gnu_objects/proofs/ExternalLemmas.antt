@@ -1,11 +1,11 @@
 -- Externals of several files, and what a map finds for their names.
-use Rattle.std.proofs.Common.{◌≡◌, ℕ, ◌+◌, ◌<◌, ◌||◌, Bool, true, false, if◌then◌else◌, List, [], ◌∷◌, ◌++◌, drop, take, length, Option}
-use Rattle.std.proofs.{Common.{Some, None, get_or, sym, ap, ◌∙◌, subst, rules}, lemmas.List.{drop_more, map_more}}
+use Rattle.std.proofs.Common.{◌≡◌, ℕ, ◌+◌, ◌<◌, ◌||◌, Bool, false, if◌then◌else◌, List, [], ◌∷◌, ◌++◌, drop, take, length, Option}
+use Rattle.std.proofs.{Common.{Some, None, get_or, append_assoc, sym, ap, ◌∙◌, subst, rules}, lemmas.List.{drop_more, map_more}}
 use Rattle.std.proofs.lemmas.List.Folds.{list_any-append}
 use Rattle.std.specs.{List.list_any, Option.is_some}
 use Rattle.indexmap.specs.IndexMap.{IndexMap}
 use Rattle.gnu_objects.specs.{Staying.are_alike, internal.AlikeNames.{found, PutsName}, internal.Externals.{HasNames, names_in}}
-use Rattle.gnu_objects.specs.{Clashes.alike_after, declared.alike.Equals.Equals, declared.external.External.External}
+use Rattle.gnu_objects.specs.{Clashes.{alike_after, clashing}, declared.alike.Equals.Equals, declared.external.External.External}
 
 last_first : (a b : Bool) → (a || (b || false)) ≡ (b || a)
 last_first a b = search rules
@@ -28,21 +28,18 @@ names_left all i e within at =
     ap names_in (drop_more all i e within) ∙ ap (λ (x : External). x.name.now ∷ names_in (drop (i + 1) all)) (sym at)
 
 module _ (all : List External) (i : ℕ) (e : External) where
-  -- it is alike with an earlier one
-  pub is_clash : i < length all → e ≡ get_or all i e → list_any (are_alike e.name.now) (names_in (take i all)) ≡ true →
-      alike_after [] (names_in all) ≡ alike_after (names_in (take i all)) (names_in (drop i all)) → alike_after [] (names_in all) ≡ true
-  is_clash within at alike so_far =
-      so_far ∙ ap (alike_after (names_in (take i all))) (names_left all i e within at)
-      ∙ ap (λ (b : Bool). b || alike_after (names_in (take i all) ++ e.name.now ∷ []) (names_in (drop (i + 1) all))) alike
+  abbrev adds : List (List ℕ)
+  adds = clashing (names_in (take i all)) e.name.now
 
-  -- it is not
-  pub is_apart : i < length all → e ≡ get_or all i e → list_any (are_alike e.name.now) (names_in (take i all)) ≡ false →
-      alike_after [] (names_in all) ≡ alike_after (names_in (take i all)) (names_in (drop i all)) →
-      alike_after [] (names_in all) ≡ alike_after (names_in (take (i + 1) all)) (names_in (drop (i + 1) all))
-  is_apart within at apart so_far =
-      so_far ∙ ap (alike_after (names_in (take i all))) (names_left all i e within at)
-      ∙ ap (λ (b : Bool). b || alike_after (names_in (take i all) ++ e.name.now ∷ []) (names_in (drop (i + 1) all))) apart
-      ∙ ap (λ (l : List (List ℕ)). alike_after l (names_in (drop (i + 1) all))) (sym (names_done all i e within at))
+  -- what it adds to the names that were found
+  pub found_more : (so_far found : List (List ℕ)) → i < length all → e ≡ get_or all i e → found ≡ so_far ++ adds →
+      alike_after [] (names_in all) ≡ so_far ++ alike_after (names_in (take i all)) (names_in (drop i all)) →
+      alike_after [] (names_in all) ≡ found ++ alike_after (names_in (take (i + 1) all)) (names_in (drop (i + 1) all))
+  found_more so_far found within at is left =
+      left ∙ ap (λ (l : List (List ℕ)). so_far ++ alike_after (names_in (take i all)) l) (names_left all i e within at)
+      ∙ ap (λ (l : List (List ℕ)). so_far ++ (adds ++ alike_after l (names_in (drop (i + 1) all)))) (sym (names_done all i e within at))
+      ∙ sym (append_assoc so_far adds (alike_after (names_in (take (i + 1) all)) (names_in (drop (i + 1) all))))
+      ∙ ap (λ (l : List (List ℕ)). l ++ alike_after (names_in (take (i + 1) all)) (names_in (drop (i + 1) all))) (sym is)
 
 module _ {S : Type 0} where
   pub no_names : (names : IndexMap (List ℕ) Equals S) → ((q : List ℕ) → found names q ≡ None) → HasNames [] names

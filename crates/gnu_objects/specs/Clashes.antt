@@ -1,9 +1,9 @@
 -- Externals whose names differ, and are equal in eight bytes. (own choice)
-use Rattle.std.specs.Prelude.{ℕ, Bool, true, false, ◌||◌, if◌then◌else◌, List, [], ◌∷◌, ◌++◌, take, Option, Some, None}
+use Rattle.std.specs.Prelude.{ℕ, Bool, true, not, ◌==◌, if◌then◌else◌, List, [], ◌∷◌, ◌++◌, length, map, take, Option, Some, None}
 use Rattle.std.specs.List.{flat_map, list_any}
 use Rattle.aout_core.specs.{declared.header.Header.Header, Decoding.header_in}
 use Rattle.gnu_objects.specs.{declared.refusal.Refusal.Refusal, declared.symbols.GnuSymbol.GnuSymbol, GnuForm.name_at, GnuForm.strings_of}
-use Rattle.gnu_objects.specs.{GnuForm.symbols_of, GnuRefusals.sizes_refusal, Staying.are_alike, Staying.counts}
+use Rattle.gnu_objects.specs.{declared.clash.Clash.Clash, GnuForm.symbols_of, GnuRefusals.sizes_refusal, Staying.are_alike, Staying.counts}
 
 -- the names of the externals among these symbols
 abbrev pub externals_in : List ℕ → List GnuSymbol → List (List ℕ)
@@ -19,11 +19,22 @@ externals_unless (Some refusal) bytes h = []
 abbrev pub externals_of : List ℕ → List (List ℕ)
 externals_of bytes = externals_unless (sizes_refusal bytes) bytes (header_in (take 16 bytes))
 
--- one of these names differs from an earlier one, and is equal to it in eight bytes
-abbrev pub alike_after : List (List ℕ) → List (List ℕ) → Bool
-alike_after before [] = false
-alike_after before (name ∷ names) = list_any (are_alike name) before || alike_after (before ++ name ∷ []) names
+-- a name, if it differs from one of these before it, and is equal to that in eight bytes
+abbrev pub clashing : List (List ℕ) → List ℕ → List (List ℕ)
+clashing before name = if list_any (are_alike name) before then name ∷ [] else []
 
--- two externals of these files do
+-- those of these names that do, after others
+abbrev pub alike_after : List (List ℕ) → List (List ℕ) → List (List ℕ)
+alike_after before [] = []
+alike_after before (name ∷ names) = clashing before name ++ alike_after (before ++ name ∷ []) names
+
+-- the names of the externals of these files that do
+abbrev pub clashes_of : List (List ℕ) → List (List ℕ)
+clashes_of files = alike_after [] (flat_map externals_of files)
+
 abbrev pub has_clash : List (List ℕ) → Bool
-has_clash files = alike_after [] (flat_map externals_of files)
+has_clash files = not (length (clashes_of files) == 0)
+
+-- the names of the externals that clash with earlier ones
+abbrev pub names_of : List Clash → List (List ℕ)
+names_of clashes = map (λ (c : Clash). c.second.now) clashes

@@ -1,9 +1,9 @@
 //! Names of several files that a linker would take for one.
-ghost use Rattle.std.specs.{Prelude.{◌≡◌, ◌++◌, [], map, OnOk, IfOk}, Option.is_some, List.{flat_map, list_any}};
-ghost use Rattle.gnu_objects.specs.{Clashes.{alike_after, externals_in, externals_of, has_clash}, Staying.are_alike};
-ghost use Rattle.gnu_objects.specs.internal.Externals.{names_in};
+ghost use Rattle.std.specs.{Prelude.{◌≡◌, ◌++◌, [], map, OnOk, IfOk, IfSome}, Option.is_some, List.{flat_map, list_any}};
+ghost use Rattle.gnu_objects.specs.{Clashes.{alike_after, clashes_of, clashing, externals_in, externals_of, names_of}, Staying.are_alike};
+ghost use Rattle.gnu_objects.specs.internal.Externals.{HasNames, names_in};
 
-use crate::alike::{found, put_name};
+use crate::alike::{AlikeNames, found, put_name};
 use crate::external::External;
 use crate::names::{are_alike, name_at};
 use crate::staying::counts;
@@ -12,7 +12,7 @@ use crate::whole::{strings_of, symbols_of, whole_header};
 use indexmap::IndexMap;
 use std::alloc::{AllocError, Global};
 
-/// Two externals whose names differ, and are equal in their first eight bytes. (own choice)
+/// Two externals whose names differ, and are equal in their first eight bytes: one, and an earlier one. (own choice)
 #[derive(Clone, Copy)]
 pub struct Clash<'a> {
     /// The number of the file that has the first, counted from 0.
@@ -72,9 +72,10 @@ fn all_externals<'a>(alloc: Global, files: &[&'a [u8]]) -> Result<Vec<External<'
     Ok(all)
 }
 
-/// The first of these externals whose name is alike with that of another one.
+/// The clash of an external with the first of these whose name is alike with its own.
 fn clash_with<'a>(before: &[External<'a>], external: &External<'a>) -> Option<Clash<'a>>
-    ensures { is_some result ≡ list_any (are_alike external.now.name.now) (names_in before.now) }
+    ensures name { IfSome result (λ clash. clash.second.now ≡ external.now.name.now) }
+    ensures found { is_some result ≡ list_any (are_alike external.now.name.now) (names_in before.now) }
 {
     for first in before {
         if are_alike(external.name, first.name) {
@@ -89,28 +90,48 @@ fn clash_with<'a>(before: &[External<'a>], external: &External<'a>) -> Option<Cl
     None
 }
 
-/// The first of these externals whose name is alike with that of an earlier one.
-fn first_clash<'a>(alloc: Global, all: &[External<'a>]) -> Result<Option<Clash<'a>>, AllocError>
-    ensures { IfOk result (λ clash. is_some clash ≡ alike_after [] (names_in all.now)) }
+/// Adds the clash of an external with one before it, if it has one. The names before it are put in.
+fn push_clash<'a>(
+    clashes: &mut Vec<Clash<'a>>,
+    names: &AlikeNames,
+    before: &[External<'a>],
+    external: &External<'a>,
+) -> Result<(), AllocError>
+    requires { HasNames (names_in before.now) names.now }
+    ensures { OnOk result (names_of clashes.new.items
+        ≡ names_of clashes.old.items ++ clashing (names_in before.now) external.now.name.now) }
 {
-    let mut names = IndexMap::new(alloc);
-    for (n, external) in all.iter().enumerate() {
-        if found(&names, external.name).is_some() {
-            return Ok(clash_with(&all[..n], external));
-        }
-        put_name(&mut names, external.name, 0)?;
+    if found(names, external.name).is_none() {
+        return Ok(());
     }
-    Ok(None)
+    match clash_with(before, external) {
+        Some(clash) => clashes.push(clash)?,
+        None => {}
+    }
+    Ok(())
 }
 
-/// Two externals of these files whose names differ, and are equal in their first eight bytes, since a link would take these for
-/// one name. A file that `convert` refuses for its header, its sizes or its strings has no externals here. The time grows with
-/// the files. (own choice)
+/// The clashes of these externals, each with the first one before it whose name is alike.
+fn clashes_in<'a>(alloc: Global, all: &[External<'a>]) -> Result<Vec<Clash<'a>>, AllocError>
+    ensures { IfOk result (λ clashes. names_of clashes.items ≡ alike_after [] (names_in all.now)) }
+{
+    let mut names = IndexMap::new(alloc);
+    let mut clashes = Vec::new(alloc);
+    for (n, external) in all.iter().enumerate() {
+        push_clash(&mut clashes, &names, &all[..n], external)?;
+        put_name(&mut names, external.name, 0)?;
+    }
+    Ok(clashes)
+}
+
+/// The externals of these files whose names differ from that of an earlier one, and are equal to it in their first eight bytes, since
+/// a link would take these for one name. A file that `convert` refuses for its header, its sizes or its strings has no externals here.
+/// The time grows with the files, and for each clash with the externals before it. (own choice)
 ///
 /// Errors: `AllocError` if memory runs out.
-pub fn clash_among<'a>(alloc: Global, files: &[&'a [u8]]) -> Result<Option<Clash<'a>>, AllocError>
-    ensures { IfOk result (λ clash. is_some clash ≡ has_clash (map (λ f. f.now) files.now)) }
+pub fn clashes_among<'a>(alloc: Global, files: &[&'a [u8]]) -> Result<Vec<Clash<'a>>, AllocError>
+    ensures { IfOk result (λ clashes. names_of clashes.items ≡ clashes_of (map (λ f. f.now) files.now)) }
 {
     let all = all_externals(alloc, files)?;
-    first_clash(alloc, &all)
+    clashes_in(alloc, &all)
 }

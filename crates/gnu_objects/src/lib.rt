@@ -19,7 +19,7 @@
 //! Functions:
 //!
 //! - `convert`: the object of the Seventh Edition
-//! - `clash_among`: two externals of several files whose names would be one
+//! - `clashes_among`: the externals of several files whose names would be those of earlier ones
 //! - `remarks`: the external names that are cut, and the locals that go because of their names
 //! - `place_of`: the byte of the file that a refusal names
 //! - `whole_name`: the whole name of a symbol
@@ -28,7 +28,7 @@
 //!
 //! - `laws`: a theorem about conversions
 //!
-//! Only tested: what `remarks` and `whole_name` find for a person, and which names `clash_among` finds of those that clash.
+//! Only tested: what `remarks` and `whole_name` find for a person, and with which earlier name `clashes_among` finds that one clashes.
 //!
 //! Header, text, data and relocation words are the same in both. A symbol of GNU's form has 8 bytes, of which a word is the place
 //! of its name in a table of strings after the symbols. docs/OBJECTS.md explains how such objects are made.
@@ -52,7 +52,7 @@ mod tables;
 mod whole;
 mod words;
 
-pub use clash::{Clash, clash_among};
+pub use clash::{Clash, clashes_among};
 pub use conversion::convert;
 pub use options::{Locals, Options};
 pub use places::{place_of, whole_name};

@@ -1,9 +1,10 @@
 -- Files that are converted one after another, and why one is refused.
-use Rattle.std.proofs.Common.{◌≡◌, ◌≢◌, ℕ, Bool, true, false, List, [], ◌∷◌, Some, None, refl, sym, ap, ◌∙◌, subst}
-use Rattle.std.proofs.lemmas.Bool.{false≢true}
+use Rattle.std.proofs.Common.{◌≡◌, ◌≢◌, ℕ, ◌==◌, Bool, true, false, not, List, [], ◌∷◌, length, Some, None, refl, sym, ap, ◌∙◌, subst}
+use Rattle.std.proofs.lemmas.{Bool.false≢true, List.length-map}
 use Rattle.std.specs.Prelude.{if◌then◌else◌, Option, Result, Ok, Err}
 use Rattle.aout_core.specs.{Contents.Contents, Refusals.refused}
-use Rattle.gnu_objects.specs.{Clashes.has_clash, Converted.converted, declared.options.Options.Options, declared.refusal.Refusal.Refusal}
+use Rattle.gnu_objects.specs.{Clashes.{clashes_of, has_clash, names_of}, declared.clash.Clash.Clash, Converted.converted}
+use Rattle.gnu_objects.specs.{declared.options.Options.Options, declared.refusal.Refusal.Refusal}
 use Rattle.gnu_objects.specs.declared.refusal.Refusal.TheVariants as refusals
 use Rattle.surroundings.specs.{declared.answer.Fault.Fault, declared.answer.Fault.TheVariants.{Answered, Memory}, Answers.{Stops, is_none}}
 use Rattle.v7_from_gnu.specs.Converting.{and_then, converted_from, outcome, target_of, target_with, with_names}
@@ -47,6 +48,13 @@ found_by t targets is = ap (λ (b : Bool). if b then None else Some targets) is
 clash_by : (t : Bool) (targets : List Target) (fault : Fault) → Stops t 1 fault → Stops (is_none (if t then None else Some targets)) 1 fault
 clash_by true targets fault h = h
 clash_by false targets fault h = h
+
+-- there is a clash if any is found
+pub clash_told : (clashes : List Clash) (files : List (List ℕ)) → names_of clashes ≡ clashes_of files →
+    has_clash files ≡ not (length clashes == 0)
+clash_told clashes files e =
+    ap (λ (names : List (List ℕ)). not (length names == 0)) (sym e)
+    ∙ ap (λ (n : ℕ). not (n == 0)) (length-map clashes (λ (c : Clash). c.second.now))
 
 module _ (options : Options) (sources : List Source) where
   -- one is not converted

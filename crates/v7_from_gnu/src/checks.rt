@@ -8,7 +8,7 @@ ghost use Rattle.v7_from_gnu.specs.internal.Lists.{listed};
 use crate::arguments::Job;
 use crate::converting::Target;
 use crate::program::NAME;
-use gnu_objects::clash_among;
+use gnu_objects::{Clash, clashes_among};
 use std::alloc::{AllocError, Global};
 use surroundings::{
     Fault, Nodes, Office, Path, error_answer, fault_at, is_refused, nodes_at, refused_output,
@@ -108,19 +108,28 @@ fn path_of(targets: &[Target], number: usize) -> Path<'_> {
         .map_or(Path(""), |target| Path(target.source.from.as_str()))
 }
 
+/// Puts the line of an external that clashes with an earlier one.
+fn put_clash(lines: &mut Text, targets: &[Target], clash: &Clash<'_>) {
+    let (path, name) = (path_of(targets, clash.second_file), Printable(clash.second));
+    let (other, first) = (path_of(targets, clash.first_file), Printable(clash.first));
+    lines.say(format_args!(
+        "{NAME}: {path}: {name} is equal in eight bytes to {first} of {other}\n"
+    ));
+}
+
 /// Checks the names of files that are converted together: no two externals would become one.
+#[tactic(auto, using(crate::proofs::ConvertingLemmas::clash_told))]
 pub(crate) fn check_names(alloc: Global, targets: &[Target]) -> Result<(), Fault>
     ensures { Refuses 1 (has_clash (bytes_of targets.now)) result }
 {
     let files = bytes_of(alloc, targets)?;
-    let Some(clash) = clash_among(alloc, &files)? else {
+    let clashes = clashes_among(alloc, &files)?;
+    if clashes.as_slice().is_empty() {
         return Ok(());
-    };
-    let (path, name) = (path_of(targets, clash.second_file), Printable(clash.second));
-    let (other, first) = (path_of(targets, clash.first_file), Printable(clash.first));
-    let mut line = Text::new(alloc);
-    line.say(format_args!(
-        "{NAME}: {path}: {name} is equal in eight bytes to {first} of {other}\n"
-    ));
-    Err(Fault::Answered(error_answer(alloc, line, 1)?))
+    }
+    let mut lines = Text::new(alloc);
+    for clash in &clashes {
+        put_clash(&mut lines, targets, clash);
+    }
+    Err(Fault::Answered(error_answer(alloc, lines, 1)?))
 }
