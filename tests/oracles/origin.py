@@ -5,8 +5,10 @@ tier: check, 60 seconds; programs: v7 v7-origin; for: crates/origins crates/v7_o
 
 The lists are made, the same in each run: objects that call each other and refer to data, bss and commons, in each layout, stripped and not.
 Then one word of an object is another, and has to be shown alone; and one object is missing, and each other that is placed has to fit there
-by the definition. `fits` is that definition, written again: a link moves each segment of an object, and gives each name an address. To a
-word the move or the address is added that its relocation word asks for, and a word relative to the pc loses the move of its own segment.
+by the definition. At last 65,534 bytes of text are found among 1,000 objects, and such programs are searched for objects that fit nearly
+everywhere: the seconds of a processor and the memory have bounds. `fits` is that definition, written again: a link moves each segment of an
+object, and gives each name an address. To a word the move or the address is added that its relocation word asks for, and a word relative to
+the pc loses the move of its own segment.
 """
 import os
 import random
@@ -147,6 +149,45 @@ def find_changed(what, stored, objects, paths, dice, every):
     same(what, found and int(found[1], 8), start)
 
 
+def measured(what, words, seconds, megabytes):
+    """The status for these arguments; it may take so many seconds of a processor, and so much memory."""
+    out = [(os.POSIX_SPAWN_OPEN, 1, "said", os.O_WRONLY | os.O_CREAT | os.O_TRUNC, 0o600)]
+    _, status, used = os.wait4(os.posix_spawn(ORIGIN, [ORIGIN, *words], os.environ, file_actions=out), 0)
+    took, kept = used.ru_utime + used.ru_stime, used.ru_maxrss // 1024
+    notes = f"{what}: {took:.1f} of {seconds} seconds, {kept} of {megabytes} MB"
+    print(notes)
+    same(notes, (took < seconds, kept < megabytes), (True, True))
+    return os.waitstatus_to_exitcode(status)
+
+
+def store_each(folder, texts, count):
+    """The paths of objects with these texts. Each refers to one of so many names, and defines one, if it is longer than that word."""
+    os.mkdir(folder)
+    paths = [f"{folder}/{number}.o" for number in range(len(texts))]
+    for number, (path, text) in enumerate(zip(paths, texts)):
+        symbols = [(b"_%d" % ((number + 1) % count), 0o40, 0), (b"_%d" % number, 0o42, 0)]
+        write(path, pack(text, symbols=symbols[:len(text)]))
+    return paths
+
+
+def find_large(dice):
+    """The most text, among the most objects."""
+    texts = [[*((dice.randrange(65536), 0) for _ in range(199)), (0, 0o10)] for _ in range(1000)]
+    paths = store_each("large", texts, 150)
+    same("a large link", ran(V7, "ld", "-i", "-s", "-o", "first", *paths[:163]).texts(), (0, "", ""))
+    same("a large program", measured("a large program", ["first", *dice.sample(paths, len(paths))], 2, 50), 0)
+
+
+def search_long(dice):
+    """Objects that fit at most places, and lead to many orders."""
+    zeros, few = [(0, 0)] * 32767, [(dice.randrange(4), 0) for _ in range(32767)]
+    one = [[(0, 0o10)]] * 1000
+    short = [[*few[number:number + 1 + number % 6], (1, 0o10)] for number in range(1000)]
+    for folder, text, texts, count in (("one", zeros, one, 1000), ("short", few, short, 40)):
+        write("first", pack(text, magic=0o411, flag=1))
+        same(folder, measured(folder, ["first", *store_each(folder, texts, count)], 10, 50), 1)
+
+
 if __name__ == "__main__":
     ORIGIN, V7 = program("v7-origin"), program("v7")
     DICE = random.Random(5)
@@ -163,5 +204,7 @@ if __name__ == "__main__":
             find_changed(f"list {NUMBER}, changed", PROGRAM, OBJECTS, PATHS, DICE, EVERY)
             COUNTS = find_part(f"list {NUMBER}, a part", PROGRAM, OBJECTS, PATHS, DICE.choice(PATHS), EVERY)
             RIGHT, WRONG = RIGHT + COUNTS[0], WRONG + COUNTS[1]
+        find_large(DICE)
+        search_long(DICE)
     notices(same, "a planted difference", (1, ""), (0, ""))
     print(f"{len(ALL)} lists are found in each layout; of parts {RIGHT} objects are placed where they were linked, and {WRONG} elsewhere")

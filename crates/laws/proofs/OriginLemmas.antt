@@ -8,7 +8,7 @@ use Rattle.aout_core.specs.{declared.header.Header.Header, declared.symbol.Symbo
 use Rattle.aout_core.specs.{declared.symbol.Segment.Segment, Words.{plus, minus}, WellFormed.{kind_of, is_pc_relative, symbol_number}}
 use Rattle.aout_core.specs.declared.reloc.Kind.TheVariants as kinds
 use Rattle.link_session.specs.{Starts.total, Starts.size_of, Sessions.IsObject}
-use Rattle.origins.specs.Fits.{Place, added}
+use Rattle.origins.specs.Fits.{Moves, added}
 use Rattle.laws.specs.{Origins.{AllFit, EachIsFound}}
 use Rattle.laws.specs.relation.Relocated.{IsAdded, move_in, entry_of, address_in}
 
@@ -18,8 +18,8 @@ address_found None = 0
 address_found (Some row) = address_in row
 
 -- the moves of the object's segments, and the addresses of the names
-abbrev pub place_in : Header → List Symbol → List Contents → List Contents → Contents → Place
-place_in h rows os before k = record {
+abbrev pub moves_in : Header → List Symbol → List Contents → List Contents → Contents → Moves
+moves_in h rows os before k = record {
   text = move_in h os before k TextSeg;
   «data» = move_in h os before k DataSeg;
   bss = move_in h os before k BssSeg;
@@ -27,7 +27,7 @@ place_in h rows os before k = record {
 }
 
 added_there : (h : Header) (rows : List Symbol) (os before : List Contents) (k : Contents) (kind : Option Kind) (number a : ℕ) →
-    IsAdded h rows os before k kind number a → a ≡ added (place_in h rows os before k) k kind number
+    IsAdded h rows os before k kind number a → a ≡ added (moves_in h rows os before k) k kind number
 added_there h rows os before k None number a is = absurd is
 added_there h rows os before k (Some kinds.Absolute) number a is = is
 added_there h rows os before k (Some kinds.TextSeg) number a is = is
@@ -39,7 +39,7 @@ pub all_fit : AllFit
 all_fit forced os o x is = (
   (λ name. address_found (entry_of is.rows name)),
   λ before k after e. (
-    place_in x.file.header is.rows os before k,
+    moves_in x.file.header is.rows os before k,
     refl,
     record {
       text_moved = omega arith;

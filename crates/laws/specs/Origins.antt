@@ -5,14 +5,14 @@ use Rattle.link_session.specs.{Starts.total, Sessions.IsObject}
 use Rattle.tool_options.specs.Choices.{Choices}
 use Rattle.link_out.specs.{Results.Outcome}
 use Rattle.laws.specs.relation.LinkedFrom.{IsLinkedFrom}
-use Rattle.origins.specs.{Fits.Fits, Fits.IsPlace, Fits.Place}
+use Rattle.origins.specs.{Fits.Fits, Fits.IsPlace, Fits.Moves}
 
 -- the addresses of the names are the same for all objects; each fits at the texts of the objects before it, and at their data
 abbrev pub AllFit : Type 0
 AllFit =
     (forced : List (List ℕ)) (os : List Contents) (o : Choices) (x : Outcome) → IsLinkedFrom forced os o x →
     (address : List ℕ → ℕ) × ((before : List Contents) (k : Contents) (after : List Contents) → os ≡ before ++ k ∷ after →
-    (p : Place) × (p.address ≡ address) × Fits x.file k (total TextSeg before) (total DataSeg before) p)
+    (p : Moves) × (p.address ≡ address) × Fits x.file k (total TextSeg before) (total DataSeg before) p)
 
 -- so `places` has them: they are even addresses of the text
 abbrev pub EachIsFound : Type 0

@@ -31,7 +31,7 @@ pub fn instruction_law()
 ///   its first word is not relocated. Each operand that has a word is the address of the byte to which its relocation word refers, by
 ///   `operands` of `instruction_law`: the pc bit is set in modes 67 and 77 alone. A word that is not relocated is a distance within the
 ///   text in these modes, and in others a number, which the program has too. The law says nothing of `$N` with the pc bit.
-/// - `sure`: an instruction or a system call begins at each sure place, and is not cut, unless it is one of another PDP-11.
+/// - `sure`: an instruction or a system call begins at each sure place, and is not cut.
 pub fn reached_instruction_law()
     ensures reached { ReachedInstructionsAreKept }
     ensures sure { SurePlacesBegin }
@@ -46,8 +46,8 @@ pub fn reached_instruction_law()
 /// The law is about any link of such objects that keeps symbols, in which no name is multiply defined. Follow the program from its entry
 /// point: to the line after an instruction that lets control pass, to the target of a branch, and to that of a `jsr` or `jmp` by modes 37
 /// and 67. Each place that is reached so is a place of one of the objects that `-t` reaches. Its instruction is in the program as by
-/// `reached_instruction_law`, with the operands that the object refers to, unless it is one of another PDP-11. The way ends at a `jsr` whose
-/// link is not the pc, since nobody knows whether control comes back to the next word; its target is followed.
+/// `reached_instruction_law`, with the operands that the object refers to. The way ends at a `jsr` whose link is not the pc, since nobody
+/// knows whether control comes back to the next word, though its target is followed; and at an instruction of the commercial set.
 pub fn clean_law()
     ensures { CleanObjectsMakeCleanPrograms }
 {}

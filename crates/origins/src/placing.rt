@@ -1,7 +1,8 @@
 //! Whether an object is in a program, at a place of its text and a place of its data.
 ghost use Rattle.std.specs.Prelude.{◌≡◌, ◌↔◌, ℕ, ◌+◌, ◌*◌, ◌<◌, ◌≤◌, ◌^◌, IfOk, IsTrue, Some, false, length, map, slice_get};
 ghost use Rattle.aout_core.specs.{Addresses.data_start_in, Words.minus};
-ghost use Rattle.origins.specs.{Fits.{FitsAt, FitsSomewhere}, Telling.{first_number, HasSlots, IsNowhere, AreCandidates, IsTextAt, IsDataAt, Tells}};
+ghost use Rattle.origins.specs.{Fits.FitsSomewhere, Telling.{HasSlots, IsTextAt, IsDataAt, Tells}};
+ghost use Rattle.origins.specs.internal.Candidates.{first_number, IsNowhere, AreCandidates};
 
 use crate::telling::{tell, tell_words};
 use aout_core::{File, Name, Reloc, Symbol};
@@ -32,24 +33,24 @@ pub(crate) fn first_numbers(alloc: Global, symbols: &[Symbol]) -> Result<Vec<u16
     Ok(firsts)
 }
 
-/// Whether the object's text may be at an address of the program's, by what is told; what it tells is told now.
+/// Whether the object's text may be at an even address of the program's, by the table; what its words show is entered.
 pub(crate) fn tell_text(
-    told: &mut [Option<u16>],
+    table: &mut [Option<u16>],
     firsts: &[u16],
     program: &File,
     object: &File,
     text: u16,
 ) -> bool
-    requires slots { HasSlots firsts.now told.old }
+    requires slots { HasSlots firsts.now table.old }
     requires relocs { length object.now.text_reloc ≡ length object.now.text_words }
-    ensures told { Tells told.old (IsTextAt program.now object.now firsts.now text) result told.new }
+    ensures answer { Tells table.old (IsTextAt program.now object.now firsts.now text) result table.new }
 {
-    if !tell(told, Some(0), text) {
+    if !tell(table, Some(0), text) {
         return false;
     }
     let (words, relocs) = (object.text_words(), object.text_reloc());
     tell_words(
-        told,
+        table,
         firsts,
         words,
         relocs,
@@ -59,27 +60,27 @@ pub(crate) fn tell_text(
     )
 }
 
-/// Whether the object's data may be at a byte of the program's, by what is told; what it tells is told now.
+/// Whether the object's data may be at an even byte of the program's, by the table; what its words show is entered.
 pub(crate) fn tell_data(
-    told: &mut [Option<u16>],
+    table: &mut [Option<u16>],
     firsts: &[u16],
     program: &File,
     object: &File,
     place: usize,
 ) -> bool
-    requires slots { HasSlots firsts.now told.old }
+    requires slots { HasSlots firsts.now table.old }
     requires relocs { length object.now.data_reloc ≡ length object.now.data_words }
     requires short { place < 2 ^ 16 }
-    ensures told { Tells told.old (IsDataAt program.now object.now firsts.now place) result told.new }
+    ensures answer { Tells table.old (IsDataAt program.now object.now firsts.now place) result table.new }
 {
     let address = ((program.header().data_start() + place) % 65536) as u16;
     let own = address.wrapping_sub(object.header().text_size);
-    if !tell(told, Some(1), own) {
+    if !tell(table, Some(1), own) {
         return false;
     }
     let (words, relocs) = (object.data_words(), object.data_reloc());
     tell_words(
-        told,
+        table,
         firsts,
         words,
         relocs,
@@ -89,31 +90,31 @@ pub(crate) fn tell_data(
     )
 }
 
-/// Forgets what is told.
-pub(crate) fn forget(told: &mut [Option<u16>])
-    ensures { (n : ℕ) (v : ℕ) → slice_get told.new n ≡ Some (Some v) → ⊥ }
+/// Empties all slots.
+pub(crate) fn forget(table: &mut [Option<u16>])
+    ensures { (n : ℕ) (v : ℕ) → slice_get table.new n ≡ Some (Some v) → ⊥ }
 {
-    for slot in told.iter_mut() {
+    for slot in table.iter_mut() {
         *slot = None;
     }
 }
 
-/// Whether the object's data may be at a byte of the program's, by what is told of it; what it tells besides is in `copy`.
+/// Whether the object's data may be at an even byte of the program's, by the table; what its words show is entered in `copy`.
 fn may_have_data(
-    told: &[Option<u16>],
+    table: &[Option<u16>],
     copy: &mut [Option<u16>],
     firsts: &[u16],
     program: &File,
     object: &File,
     place: usize,
 ) -> bool
-    requires same { length copy.old ≡ length told.now }
-    requires slots { HasSlots firsts.now told.now }
+    requires same { length copy.old ≡ length table.now }
+    requires slots { HasSlots firsts.now table.now }
     requires relocs { length object.now.data_reloc ≡ length object.now.data_words }
     requires short { place < 2 ^ 16 }
-    ensures { Tells told.now (IsDataAt program.now object.now firsts.now place) result copy.new }
+    ensures { Tells table.now (IsDataAt program.now object.now firsts.now place) result copy.new }
 {
-    copy.copy_from_slice(told);
+    copy.copy_from_slice(table);
     tell_data(copy, firsts, program, object, place)
 }
 
@@ -158,7 +159,7 @@ pub(crate) fn data_candidates(
 
 /// Whether the object fits at an address of the program's text, with its data at some even byte of the program's.
 pub(crate) fn fits_somewhere(
-    told: &mut [Option<u16>],
+    table: &mut [Option<u16>],
     copy: &mut [Option<u16>],
     firsts: &[u16],
     candidates: &[bool],
@@ -166,8 +167,8 @@ pub(crate) fn fits_somewhere(
     object: &File,
     text: u16,
 ) -> bool
-    requires same { length copy.old ≡ length told.old }
-    requires slots { HasSlots firsts.now told.old }
+    requires same { length copy.old ≡ length table.old }
+    requires slots { HasSlots firsts.now table.old }
     requires numbers { firsts.now ≡ map (λ s. first_number object.now.symbols s.name) object.now.symbols }
     requires text_relocs { length object.now.text_reloc ≡ length object.now.text_words }
     requires data_relocs { length object.now.data_reloc ≡ length object.now.data_words }
@@ -182,15 +183,15 @@ pub(crate) fn fits_somewhere(
     if !may_be_there(words, relocs, text as usize / 2, there) {
         return false;
     }
-    forget(told);
-    if !tell_text(told, firsts, program, object, text) {
+    forget(table);
+    if !tell_text(table, firsts, program, object, text) {
         return false;
     }
     for k in 0..program.data_words().len() + 1 {
         if !candidates[k] {
             continue;
         }
-        if may_have_data(told, copy, firsts, program, object, 2 * k) {
+        if may_have_data(table, copy, firsts, program, object, 2 * k) {
             return true;
         }
     }

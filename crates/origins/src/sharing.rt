@@ -1,16 +1,16 @@
-//! What is told of objects in a table that they share. Slots 0 to 2 are the moves of one object, and slot `3 + n` is the address of name n.
-ghost use Rattle.std.specs.Prelude.{◌≡◌, ◌≤◌, ◌+◌, ◌<◌, IsTrue, length};
-ghost use Rattle.origins.specs.Telling.{HasSlots, IsDataAt, IsTextAt, Tells};
+//! A table of moves and addresses that objects share. Slots 0 to 2 are the moves of one object, and slot `3 + n` is the address of name n.
+ghost use Rattle.std.specs.Prelude.{◌≡◌, ◌↔◌, ◌≤◌, ◌+◌, ◌<◌, IsTrue, length};
+ghost use Rattle.origins.specs.Telling.{address_given, AreDefined, HasSlots, IsDataAt, IsDefinedAt, IsTextAt, Tells};
 
 use crate::placing;
 use crate::telling::tell;
 use aout_core::{File, Object, Segment, Symbol};
 
-/// Whether a table has a slot for each name of an object, by their numbers. (own choice)
-pub fn has_slots(told: &[Option<u16>], names: &[u16]) -> bool
-    ensures { IsTrue result → HasSlots names.now told.now }
+/// Whether a table has a slot for each move and for each name, by their numbers. (own choice)
+pub fn has_slots(table: &[Option<u16>], names: &[u16]) -> bool
+    ensures { IsTrue result ↔ HasSlots names.now table.now }
 {
-    told.len() >= 3 && names.iter().all(|name| 3 + (*name as usize) < told.len())
+    table.len() >= 3 && names.iter().all(|name| 3 + (*name as usize) < table.len())
 }
 
 /// The file of an object, which has a relocation word for each word.
@@ -25,73 +25,76 @@ fn file_of(object: &Object) -> &File
     file
 }
 
-/// Whether an object's text may be at an address of the program's, by what is told; what it tells is told now. (own choice)
+/// Whether an object's text may be at an even address of the program's, by the table. Its move and the addresses that its words show are
+/// entered; after `false` too, some may be. (own choice)
 pub fn tell_text(
-    told: &mut [Option<u16>],
+    table: &mut [Option<u16>],
     names: &[u16],
     program: &File,
     object: &Object,
     text: u16,
 ) -> bool
-    requires { HasSlots names.now told.old }
-    ensures { Tells told.old (IsTextAt program.now object.now names.now text) result told.new }
+    requires { HasSlots names.now table.old }
+    ensures { Tells table.old (IsTextAt program.now object.now names.now text) result table.new }
 {
-    placing::tell_text(told, names, program, file_of(object), text)
+    placing::tell_text(table, names, program, file_of(object), text)
 }
 
-/// Whether an object's data may be at a byte of the program's, by what is told; what it tells is told now. (own choice)
+/// Whether an object's data may be at an even byte of the program's, by the table. Its move and the addresses that its words show are
+/// entered; after `false` too, some may be. (own choice)
 pub fn tell_data(
-    told: &mut [Option<u16>],
+    table: &mut [Option<u16>],
     names: &[u16],
     program: &File,
     object: &Object,
     place: u16,
 ) -> bool
-    requires { HasSlots names.now told.old }
-    ensures { Tells told.old (IsDataAt program.now object.now names.now place) result told.new }
+    requires { HasSlots names.now table.old }
+    ensures { Tells table.old (IsDataAt program.now object.now names.now place) result table.new }
 {
-    placing::tell_data(told, names, program, file_of(object), place as usize)
+    placing::tell_data(table, names, program, file_of(object), place as usize)
 }
 
 /// The address of a symbol that an object defines, if the moves of text, data and bss tell it.
-fn defined_at(moves: [Option<u16>; 3], symbol: &Symbol) -> Option<u16> {
-    let [text, data, bss] = moves;
+fn address_given(moves: &[Option<u16>], symbol: &Symbol) -> Option<u16>
+    requires { length moves.now ≡ 3 }
+    ensures { result ≡ address_given moves.now symbol.now }
+{
     let own = match symbol.segment() {
         Segment::Absolute => Some(0),
-        Segment::TextSeg => text,
-        Segment::DataSeg => data,
-        Segment::BssSeg => bss,
+        Segment::TextSeg => moves[0],
+        Segment::DataSeg => moves[1],
+        Segment::BssSeg => moves[2],
         Segment::Undefined | Segment::Other => None,
     };
     own.map(|own| symbol.value.wrapping_add(own))
 }
 
-/// Whether the address of an external agrees with what is told, if the object defines it and its segment's move is known; it is told now.
-fn tell_symbol(
-    told: &mut [Option<u16>],
-    name: u16,
-    moves: [Option<u16>; 3],
-    symbol: &Symbol,
-) -> bool
-    requires { 3 + name < length told.old }
+/// Whether the address of a symbol agrees with the table, if the symbol is external and its segment's move is known; it is entered.
+fn tell_symbol(table: &mut [Option<u16>], name: u16, moves: &[Option<u16>], symbol: &Symbol) -> bool
+    requires slot { 3 + name < length table.old }
+    requires moves { length moves.now ≡ 3 }
+    ensures { Tells table.old (IsDefinedAt moves.now name symbol.now) result table.new }
 {
     if !symbol.is_external() {
         return true;
     }
-    match defined_at(moves, symbol) {
-        Some(value) => tell(told, Some(3 + name as usize), value),
+    match address_given(moves, symbol) {
+        Some(address) => tell(table, Some(3 + name as usize), address),
         None => true,
     }
 }
 
-/// Whether the addresses of the externals that an object defines agree with what is told; they are told now. (own choice)
-pub fn tell_defined(told: &mut [Option<u16>], names: &[u16], symbols: &[Symbol]) -> bool
-    requires slots { HasSlots names.now told.old }
+/// Whether the addresses of the externals that an object defines agree with the table, by the moves that the table has; they are entered.
+/// After `false` too, some may be. (own choice)
+pub fn tell_defined(table: &mut [Option<u16>], names: &[u16], symbols: &[Symbol]) -> bool
+    requires slots { HasSlots names.now table.old }
     requires numbers { length symbols.now ≤ length names.now }
+    ensures { Tells table.old (AreDefined table.old names.now symbols.now) result table.new }
 {
-    let moves = [told[0], told[1], told[2]];
+    let moves = [table[0], table[1], table[2]];
     for i in 0..symbols.len() {
-        if !tell_symbol(told, names[i], moves, &symbols[i]) {
+        if !tell_symbol(table, names[i], &moves, &symbols[i]) {
             return false;
         }
     }

@@ -5,15 +5,22 @@ use indexmap::IndexMap;
 use origins::places;
 use std::alloc::{AllocError, Global};
 
+/// How many places of an object are kept. (own choice)
+const MOST_PLACES: usize = 1024;
+
 /// An object that is tried.
 #[derive(Drop)]
 pub(crate) struct Candidate {
     pub(crate) object: Object,
+    /// A number that equal objects share.
+    checksum: u32,
     /// The numbers of the files that have it.
     pub(crate) sources: Vec<usize>,
     /// The number of each symbol's name, among the names of all objects.
     pub(crate) names: Vec<u16>,
-    /// Where it fits, if nothing is known of names.
+    /// At how many places it fits, if nothing is known of names.
+    pub(crate) count: usize,
+    /// These places; none, if they are too many to be kept.
     pub(crate) places: Vec<u16>,
     /// Whether it was tried at all places.
     pub(crate) is_tried: bool,
@@ -27,6 +34,11 @@ impl Candidate {
     pub(crate) fn data_size(&self) -> usize {
         usize::from(self.object.file().header().data_size)
     }
+
+    /// Whether its text may be at an address.
+    pub(crate) fn may_be_at(&self, text: u16) -> bool {
+        self.count > MOST_PLACES || self.places.binary_search(&text).is_ok()
+    }
 }
 
 /// The candidates, and the names of all of them.
@@ -34,6 +46,15 @@ impl Candidate {
 pub(crate) struct Candidates {
     pub(crate) all: Vec<Candidate>,
     pub(crate) names: IndexMap<Name, ()>,
+}
+
+/// A number by which most objects that are not equal differ.
+fn checksum_of(file: &File) -> u32 {
+    let mut sum = u32::from(file.header().bss_size);
+    for word in file.text_words().iter().chain(file.data_words()) {
+        sum = sum.wrapping_mul(16_777_619) ^ u32::from(*word);
+    }
+    sum
 }
 
 fn is_equal(one: &File, other: &File) -> bool {
@@ -95,9 +116,9 @@ fn places_of(
 }
 
 /// The number of the candidate that is equal to an object.
-fn equal_to(all: &[Candidate], object: &Object) -> Option<usize> {
+fn equal_to(all: &[Candidate], checksum: u32, object: &Object) -> Option<usize> {
     for (number, other) in all.iter().enumerate() {
-        if is_equal(other.object.file(), object.file()) {
+        if other.checksum == checksum && is_equal(other.object.file(), object.file()) {
             return Some(number);
         }
     }
@@ -112,7 +133,8 @@ fn grouped(alloc: Global, objects: Vec<Object>) -> Result<Candidates, AllocError
     for object in objects {
         let source = number;
         number = number.saturating_add(1);
-        if let Some(equal) = equal_to(&all, &object)
+        let checksum = checksum_of(object.file());
+        if let Some(equal) = equal_to(&all, checksum, &object)
             && let Some(other) = all.get_mut(equal)
         {
             other.sources.push(source)?;
@@ -123,8 +145,10 @@ fn grouped(alloc: Global, objects: Vec<Object>) -> Result<Candidates, AllocError
         sources.push(source)?;
         all.push(Candidate {
             object,
+            checksum,
             sources,
             names: numbers,
+            count: 0,
             places: Vec::new(alloc),
             is_tried: false,
         })?;
@@ -142,8 +166,11 @@ pub(crate) fn candidates_of(
     let mut candidates = grouped(alloc, objects)?;
     for candidate in candidates.all.iter_mut() {
         if let Some(places) = places_of(alloc, program, &candidate.object, left)? {
-            candidate.places = places;
             candidate.is_tried = true;
+            candidate.count = places.len();
+            if places.len() <= MOST_PLACES {
+                candidate.places = places;
+            }
         }
     }
     Ok(candidates)

@@ -64,7 +64,7 @@ fn is_wanted(candidate: &Candidate, wanted: &[bool], defined: &[bool]) -> bool {
     })
 }
 
-/// Where the bss of an object begins, by the addresses that others told of its names.
+/// Where the bss of an object begins, by the addresses of its names that the words of others show.
 fn bss_start(known: &Known, candidate: &Candidate) -> Option<u16> {
     let header = candidate.object.file().header();
     let size = header.text_size.wrapping_add(header.data_size);
@@ -80,7 +80,7 @@ fn bss_start(known: &Known, candidate: &Candidate) -> Option<u16> {
     None
 }
 
-/// Where the bss of a row begins, if a word tells it.
+/// Where the bss of a row begins, if a word shows it.
 fn row_start(candidates: &[Candidate], row: &Row) -> Option<u16> {
     let header = candidates.get(row.candidate)?.object.file().header();
     let size = header.text_size.wrapping_add(header.data_size);

@@ -158,8 +158,8 @@ fn put_others(text: &mut Text, sources: &[Source], candidates: &[Candidate], kno
         let path = Path(row_path(sources, candidate, 0));
         if !candidate.is_tried {
             text.say(format_args!("{path}: not tried at all places, which would take too long\n"));
-        } else if candidate.places.len() > 1 {
-            let count = candidate.places.len();
+        } else if candidate.count > 1 {
+            let count = candidate.count;
             text.say(format_args!("{path}: fits at {count} places\n"));
         }
     }

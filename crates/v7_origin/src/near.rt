@@ -6,6 +6,7 @@ use crate::search::{Known, place_told};
 use aout_core::{File, Reloc};
 use disassemblies::{NamedFile, line_start, line_starts, put_line_text};
 use instructions::Decoder;
+use origins::{has_slots, tell_word};
 use std::alloc::{AllocError, Global};
 use surroundings::Path;
 use texts::Text;
@@ -56,15 +57,16 @@ fn nearest(
     let object = candidate.object.file();
     let (words, relocs) = (object.text_words(), object.text_reloc());
     let room = gap.1.saturating_sub(gap.0);
+    if words.is_empty() || candidate.text_size() > room || known.left == 0 {
+        return None;
+    }
     let still = still_words(relocs);
+    known.charge(relocs.len());
     let mut most = if room == candidate.text_size() {
         still / 2
     } else {
         MOST_WORDS.min(still / 4)
     };
-    if words.is_empty() || candidate.text_size() > room {
-        return None;
-    }
     let mut best = None;
     let last = room.saturating_sub(candidate.text_size()) / 2;
     for k in 0..last.saturating_add(1) {
@@ -111,27 +113,31 @@ fn all_near(
     Ok(found)
 }
 
-/// The words of a segment that disagree with what is known, if the object is there: what a word tells is known of the next ones.
+/// The words of a segment that disagree with the addresses known, if the object is there: those that a word shows are known at the next.
 fn disagreeing(
     alloc: Global,
-    known: &mut Known,
+    table: &mut [Option<u16>],
     candidate: &Candidate,
     own: u16,
     is_data: bool,
     there: &[u16],
 ) -> Result<Vec<usize>, AllocError> {
+    let mut wrong = Vec::new(alloc);
+    let names = candidate.names.as_slice();
+    if !has_slots(table, names) {
+        return Ok(wrong);
+    }
     let object = candidate.object.file();
     let (words, relocs) = if is_data {
         (object.data_words(), object.data_reloc())
     } else {
         (object.text_words(), object.text_reloc())
     };
-    let mut wrong = Vec::new(alloc);
     for i in 0..words.len() {
         let (Some(reloc), Some(word)) = (relocs.get(i), there.get(i)) else {
             break;
         };
-        if !known.agrees(&candidate.names, *reloc, (words[i], own), *word) {
+        if !tell_word(table, names, words[i], *reloc, own, *word) {
             wrong.push(i)?;
         }
     }
@@ -193,7 +199,7 @@ fn put_data(text: &mut Text, program: &File, object: &File, first: usize, words:
     }
 }
 
-/// Where the words of data differ, if the text tells where the data is.
+/// Where the words of data differ, if the text shows where the data is.
 fn wrong_data(
     alloc: Global,
     program: &File,
@@ -206,7 +212,7 @@ fn wrong_data(
     let first = usize::from(place / 2);
     let there = program.data_words().get(first..).unwrap_or(&[]);
     let own = known.told.get(1).copied().flatten().unwrap_or(0);
-    let wrong = disagreeing(alloc, known, candidate, own, true, there)?;
+    let wrong = disagreeing(alloc, &mut known.told, candidate, own, true, there)?;
     Ok((first, wrong))
 }
 
@@ -223,7 +229,7 @@ fn put_near(
     let own = (at % 65536) as u16;
     let there = program.file().text_words().get(at / 2..).unwrap_or(&[]);
     let untold = known.suppose(alloc, candidate, own)?;
-    let words = disagreeing(alloc, known, candidate, own, false, there)?;
+    let words = disagreeing(alloc, &mut known.told, candidate, own, false, there)?;
     let (first, in_data) = wrong_data(alloc, program.file(), known, candidate)?;
     known.forget(&untold);
     let end = at.saturating_add(candidate.text_size());

@@ -1,8 +1,8 @@
 //! How much work a search takes, counted before it is done.
 use aout_core::{File, Kind, Object, Reloc};
 
-/// How many words are compared in one run of the program, at most. (own choice)
-pub(crate) const MOST_WORK: u64 = 500_000_000;
+/// How many words are compared in one run of the program, at most: some seconds. (own choice)
+pub(crate) const MOST_WORK: u64 = 250_000_000;
 
 /// How many words of an object are those that are there, up to the first that a link leaves alone and that is another.
 fn leading(words: &[u16], relocs: &[Reloc], there: &[u16]) -> usize {

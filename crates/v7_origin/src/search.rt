@@ -1,11 +1,14 @@
 //! The search for objects that follow each other: depth first from the front of the program, or from its back.
 use crate::candidates::{Candidate, Candidates};
-use aout_core::{File, Kind, Object, Reloc, Symbol};
+use aout_core::File;
 use origins::{has_slots, tell_data, tell_defined, tell_text};
 use std::alloc::{AllocError, Global};
 
 /// How often a search goes on or back, at most. (own choice)
 const STEPS: u32 = 200_000;
+
+/// As many words are compared in the time in which an object is found not to be next. (own choice)
+const CANDIDATE_WORK: usize = 16;
 
 /// An object that was placed: its text is at an address, and its data at a byte of the program's data, if that is known.
 #[derive(Clone, Copy)]
@@ -16,11 +19,11 @@ pub(crate) struct Row {
     pub(crate) file: usize,
     pub(crate) text: u16,
     pub(crate) place: Option<u16>,
-    /// How far its bss is moved, if a word tells it.
+    /// How far its bss is moved, if a word shows it.
     pub(crate) bss: Option<u16>,
 }
 
-/// What objects tell of the addresses of names, and which objects were placed.
+/// The addresses of names that the words of objects show, and which objects were placed.
 #[derive(Drop)]
 pub(crate) struct Known {
     pub(crate) told: Vec<Option<u16>>,
@@ -59,21 +62,7 @@ fn forget(told: &mut [Option<u16>], names: &[u16]) {
     }
 }
 
-/// The slot of what a relocation word refers to.
-fn slot_of(names: &[u16], reloc: Reloc) -> Option<usize> {
-    match reloc.kind()? {
-        Kind::TextSeg => Some(0),
-        Kind::DataSeg => Some(1),
-        Kind::BssSeg => Some(2),
-        Kind::External => {
-            let name = names.get(usize::from(reloc.number()))?;
-            Some(3 + usize::from(*name))
-        }
-        Kind::Absolute => None,
-    }
-}
-
-/// Where the data of an object is in the program's, if its words told how far it is moved.
+/// Where the data of an object is in the program's, if its words showed how far it is moved.
 pub(crate) fn place_told(
     told: &[Option<u16>],
     program: &File,
@@ -85,29 +74,30 @@ pub(crate) fn place_told(
     Some(moved.wrapping_add(text).wrapping_sub(start))
 }
 
-/// Whether the text of an object agrees with what is told, which is more now.
-fn text_agrees(
-    told: &mut [Option<u16>],
-    names: &[u16],
+/// Where the data of an object is, if its words and its names agree with the addresses known at an address of text and a byte of data; they
+/// are entered. Without one, its words have to show it, unless it has no data.
+fn agree(
+    table: &mut [Option<u16>],
     program: &File,
-    object: &Object,
+    candidate: &Candidate,
     text: u16,
-) -> bool {
-    has_slots(told, names) && tell_text(told, names, program, object, text)
-}
-
-fn data_agrees(
-    told: &mut [Option<u16>],
-    names: &[u16],
-    program: &File,
-    object: &Object,
-    place: u16,
-) -> bool {
-    has_slots(told, names) && tell_data(told, names, program, object, place)
-}
-
-fn names_agree(told: &mut [Option<u16>], names: &[u16], symbols: &[Symbol]) -> bool {
-    has_slots(told, names) && symbols.len() <= names.len() && tell_defined(told, names, symbols)
+    place: Option<u16>,
+) -> Option<Option<u16>> {
+    let (object, names) = (&candidate.object, candidate.names.as_slice());
+    if !has_slots(table, names) || !tell_text(table, names, program, object, text) {
+        return None;
+    }
+    let place = place.or(place_told(table, program, candidate));
+    match place {
+        Some(place) if !tell_data(table, names, program, object, place) => return None,
+        None if candidate.data_size() != 0 => return None,
+        _ => {}
+    }
+    let symbols = object.file().symbols();
+    if symbols.len() > names.len() || !tell_defined(table, names, symbols) {
+        return None;
+    }
+    Some(place)
 }
 
 impl Known {
@@ -160,70 +150,9 @@ impl Known {
         Ok(untold)
     }
 
-    /// Takes back what was told of names of which nothing was known.
+    /// Takes back the addresses of names of which nothing was known.
     pub(crate) fn forget(&mut self, untold: &[u16]) {
         forget(&mut self.told, untold);
-    }
-
-    /// Whether a word agrees with what is known; if nothing is, it is known now.
-    pub(crate) fn agrees(
-        &mut self,
-        names: &[u16],
-        reloc: Reloc,
-        moves: (u16, u16),
-        there: u16,
-    ) -> bool {
-        let (word, own) = moves;
-        let from = if reloc.is_pc() {
-            there.wrapping_add(own)
-        } else {
-            there
-        };
-        let value = from.wrapping_sub(word);
-        let Some(slot) = slot_of(names, reloc) else {
-            return value == 0;
-        };
-        match self.told.get_mut(slot) {
-            Some(Some(have)) => *have == value,
-            Some(slot) => {
-                *slot = Some(value);
-                true
-            }
-            None => true,
-        }
-    }
-
-    /// Where the data of an object is, if its words and its names agree with what is known at an address of text and a byte of data.
-    /// Without one, its words have to tell it, unless it has no data.
-    fn tell(
-        &mut self,
-        program: &File,
-        candidate: &Candidate,
-        text: u16,
-        place: Option<u16>,
-    ) -> Option<Option<u16>> {
-        let object = &candidate.object;
-        self.charge(candidate.names.len());
-        self.charge(object.file().text_words().len());
-        forget_moves(&mut self.told);
-        if !text_agrees(&mut self.told, &candidate.names, program, object, text) {
-            return None;
-        }
-        let place = place.or(place_told(&self.told, program, candidate));
-        match place {
-            Some(place) => {
-                self.charge(object.file().data_words().len());
-                if !data_agrees(&mut self.told, &candidate.names, program, object, place) {
-                    return None;
-                }
-            }
-            None if candidate.data_size() != 0 => return None,
-            None => {}
-        }
-        if !names_agree(&mut self.told, &candidate.names, object.file().symbols()) {
-            return None;
-        }
-        Some(place)
     }
 
     /// Places an object, if it agrees with what is known.
@@ -242,8 +171,13 @@ impl Known {
         if file >= candidate.sources.len() {
             return Ok(None);
         }
+        let object = candidate.object.file();
+        self.charge(candidate.names.len());
+        self.charge(object.text_words().len());
+        self.charge(object.data_words().len());
         let untold = untold(alloc, &self.told, &candidate.names)?;
-        let Some(place) = self.tell(program, candidate, at.0, at.1) else {
+        forget_moves(&mut self.told);
+        let Some(place) = agree(&mut self.told, program, candidate, at.0, at.1) else {
             forget(&mut self.told, &untold);
             return Ok(None);
         };
@@ -374,7 +308,7 @@ impl<'a> Search<'a> {
             (text, data)
         };
         let (text, place) = (u16::try_from(at.0).ok()?, u16::try_from(at.1).ok()?);
-        if text_size != 0 && candidate.places.binary_search(&text).is_err() {
+        if text_size != 0 && !candidate.may_be_at(text) {
             return None;
         }
         Some((text, Some(place)))
@@ -383,6 +317,7 @@ impl<'a> Search<'a> {
     /// Places the next object, the first of the order that agrees.
     fn go_on(&mut self) -> Result<bool, AllocError> {
         for rank in self.next..self.order.len() {
+            self.known.charge(CANDIDATE_WORK);
             let number = self.order.get(rank).copied().unwrap_or(usize::MAX);
             let Some(candidate) = self.candidates.get(number) else {
                 continue;

@@ -19,19 +19,19 @@ returns-then-not-may_be_there c =
 
 pub returns-then-not-tell_text : goal.returns-then-not-tell_text
 returns-then-not-tell_text c =
-    let fresh : IsFresh c.forget.new.told = record { none = c.forget.ensures } in (
+    let fresh : IsFresh c.forget.new.table = record { none = c.forget.ensures } in (
       (λ t. absurd (not_true t)),
-      (λ f. absurd (no_text _ _ _ _ _ _ f.2.0 c.ranges.text.fits fresh (rw c.requires.numbers at c.if-not-tell_text.ensures.told) f.2.1)),
+      (λ f. absurd (no_text _ _ _ _ _ _ f.2.0 c.ranges.text.fits fresh (rw c.requires.numbers at c.if-not-tell_text.ensures.answer) f.2.1)),
     )
 
 pub returns-then-may_have_data : goal.returns-then-may_have_data
 returns-then-may_have_data c =
-    let fresh : IsFresh c.forget.new.told = record { none = c.forget.ensures } in (
+    let fresh : IsFresh c.forget.new.table = record { none = c.forget.ensures } in (
       (λ t. (
         c.loop-k.k,
         let long = ap length c.data_words.ensures.value in omega (arith, long),
         both_there _ _ _ _ _ _ _ c.ranges.text.fits fresh
-            (rw c.requires.numbers at c.if-not-tell_text.ensures.told) (rw c.requires.numbers at c.if-may_have_data.ensures),
+            (rw c.requires.numbers at c.if-not-tell_text.ensures.answer) (rw c.requires.numbers at c.if-may_have_data.ensures),
       )),
       (λ f. search rules),
     )
@@ -42,9 +42,9 @@ loop-k-preserved c =
 
 pub returns : goal.returns
 returns c =
-    let fresh : IsFresh c.forget.new.told = record { none = c.forget.ensures } in (
+    let fresh : IsFresh c.forget.new.table = record { none = c.forget.ensures } in (
       (λ t. absurd (not_true t)),
-      (λ f. absurd (no_data _ _ _ _ _ _ f.2.0 c.ranges.text.fits fresh (rw c.requires.numbers at c.if-not-tell_text.ensures.told)
+      (λ f. absurd (no_data _ _ _ _ _ _ f.2.0 c.ranges.text.fits fresh (rw c.requires.numbers at c.if-not-tell_text.ensures.answer)
           (rw c.requires.numbers at (c.loop-k.invariant f.0 (let long = ap length c.data_words.ensures.value in omega (arith, f.1, long)))) f.2.1)),
     )
 

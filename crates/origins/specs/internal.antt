@@ -1,0 +1,2 @@
+-- Definitions for the code alone: what its private functions do. No contract of a public function leads here.
+pub mod Candidates
