@@ -1,12 +1,12 @@
 -- Bytes that are held of a file.
-use Rattle.std.proofs.Common.{◌≡◌, ℕ, ◌+◌, ◌-◌, ◌≤◌, List, [], ◌++◌, Bool, true, false, if◌then◌else◌, length, take, drop, slice_range}
+use Rattle.std.proofs.Common.{◌≡◌, ◌≢◌, ℕ, ◌+◌, ◌-◌, ◌≤◌, List, [], ◌++◌, Bool, true, false, if◌then◌else◌, length, take, drop, slice_range}
 use Rattle.std.proofs.Common.{Option, None, Some, sym, ◌∙◌, ap, subst, arith, append_assoc, append-nil, length-append, length-take-le}
 use Rattle.std.proofs.{lemmas.List.drop-take, KnownBytes.append_known-moved}
 use Rattle.std.specs.Io.KnownBytes.{Appends, Keeps, append_known}
 use Rattle.aout_core.proofs.BlockLemmas.{slice_range-front, length-slice_range}
 use Rattle.aout_core.specs.{Refusals.device_fault, Wires.Latched}
 use Rattle.surroundings.specs.{Pieces.{Held, written}, Emits.{IsStoredOn, PutsUnless}, declared.office.Stored.Stored}
-use Rattle.surroundings.specs.declared.office.Stored.TheVariants.{Kept, Failed}
+use Rattle.surroundings.specs.declared.office.Stored.TheVariants.{Kept, Failed, NotCreated}
 use lib.ListN.{take-append-drop}
 use lib.Seq.{drop-append-le, take-append_seam}
 
@@ -77,3 +77,12 @@ on_device {F} contents stored old new file back text s kept from before after is
     (subst (λ (l : List ℕ). Appends (append_known (contents old.device.file) l) (written contents new.device) text) before whole) in
     subst (λ (f : F). Appends (contents file) (contents f) text) (sym is) (landed (contents file) (contents new.device.file) text
     (subst (λ (l : List ℕ). Appends (append_known (contents file) []) (append_known (contents new.device.file) l) text) after first))
+
+made_by : (failed : Bool) → NotCreated ≡ (if failed then Failed device_fault else Kept) → ⊥
+made_by false is = absurd (cc)
+made_by true is = absurd (cc)
+
+-- what was to be stored on a device was made
+pub is_made : {W : Type 0} (contents : W → Option (List ℕ)) (stored : Stored) (old new : Latched W) (text : List ℕ) →
+    IsStoredOn contents stored old new text → stored ≢ NotCreated
+is_made contents stored old new text s is = made_by new.has_failed (sym is ∙ s.ends)

@@ -1,5 +1,5 @@
 -- A file that is read whole, or is not, and one that is stored, or is not. (own choice)
-use Rattle.std.specs.Prelude.{◌≡◌, ℕ, Bool, true, false, List, [], ◌∷◌, take, Option, Some, IfSome}
+use Rattle.std.specs.Prelude.{◌≡◌, ℕ, Bool, true, false, List, [], ◌∷◌, codes, take, Option, Some, None, IfSome}
 use Rattle.surroundings.specs.{Answers.Stops, Events.{History, Extends, opened}, declared.answer.Fault.Fault, declared.office.Stored.Stored}
 use Rattle.surroundings.specs.declared.office.Stored.TheVariants as office
 
@@ -25,3 +25,9 @@ abbrev pub is_kept : Stored → Bool
 is_kept office.Kept = true
 is_kept office.NotCreated = false
 is_kept (office.Failed _) = false
+
+-- what is said of a file that is not stored: it could not be made, or its device failed
+abbrev pub stored_text : Stored → Option (List ℕ)
+stored_text office.Kept = None
+stored_text office.NotCreated = Some (codes "cannot create")
+stored_text (office.Failed _) = Some (codes "write error")

@@ -1,5 +1,5 @@
 //! What a program answers: what it writes, and its status.
-ghost use Rattle.std.specs.{Prelude.{◌≡◌, Some, false, true, IfOk}, Option.option_map};
+ghost use Rattle.std.specs.{Prelude.{◌≡◌, ◌++◌, None, Some, codes, false, true, IfOk}, Option.option_map};
 ghost use Rattle.aout_core.specs.{Refusals.refused, Wires.Writes};
 ghost use Rattle.surroundings.specs.declared.answer.Fault.TheVariants.{Memory};
 ghost use Rattle.surroundings.specs.{Answers.{Ends, Gives, Stops, answer_in, only_errors, output_in, status_in}, Answer.Answer};
@@ -141,8 +141,10 @@ fn put_errors<E: Write>(
     found: Option<&Answer>,
     error: &mut Wire<E>,
 ) -> Result<(), DeviceFault>
-    ensures { (answer : Answer) → option_map (λ a. a.now) found.entry ≡ Some answer → is_failed ≡ false
+    ensures said { (answer : Answer) → option_map (λ a. a.now) found.entry ≡ Some answer → is_failed ≡ false
         → Writes E.contents result error.old error.new answer.errors }
+    ensures memory { option_map (λ a. a.now) found.entry ≡ None → is_failed ≡ false
+        → Writes E.contents result error.old error.new (program.now ++ codes ": no memory\n") }
 {
     match found {
         _ if is_failed => error.put_both(program.as_bytes(), b": write error\n"),

@@ -3,7 +3,7 @@ ghost use Rattle.std.specs.{Prelude.{◌≡◌, drop, IfOk}, Option.option_map, 
 ghost use Rattle.surroundings.specs.Arguments.{letters_of};
 
 use std::alloc::{AllocError, Global};
-use std::env::{Args, Env, FillError};
+use std::env::{Args, Env};
 use texts::Printable;
 
 /// All that an iterator still gives, in order.
@@ -34,17 +34,19 @@ pub fn words(alloc: Global, arguments: Args) -> Result<Vec<String>, AllocError>
 /// How many bytes an argument has at most on Linux, with its NUL.
 const MOST_BYTES: usize = 131_072;
 
-/// The argument of this number, from 0 on, if there is one.
-fn argument<R: Env>(alloc: Global, rt: &R, number: usize) -> Result<Option<Vec<u8>>, AllocError> {
+/// The argument of this number, from 0 on, if there is one. The room is for the longest.
+fn argument<R: Env>(
+    alloc: Global,
+    rt: &R,
+    number: usize,
+    room: &mut [u8],
+) -> Result<Option<Vec<u8>>, AllocError> {
+    let Ok(length) = rt.arg(number, room) else {
+        return Ok(None);
+    };
     let mut bytes = Vec::new(alloc);
-    bytes.resize(MOST_BYTES, 0)?;
-    match rt.arg(number, &mut bytes) {
-        Ok(length) => {
-            bytes.truncate(length);
-            Ok(Some(bytes))
-        }
-        Err(FillError::NotPresent | FillError::TooLong) => Ok(None),
-    }
+    bytes.extend_from_slice(room.get(..length).unwrap_or(&[]))?;
+    Ok(Some(bytes))
 }
 
 /// The arguments of a program after its name, in order. One that is not UTF-8 cannot be opened as a path, and shown in another way it
@@ -56,9 +58,10 @@ pub fn readable_words<R: Env>(
     alloc: Global,
     rt: &R,
 ) -> Result<Result<Vec<String>, String>, AllocError> {
+    let mut room = vec![in alloc; 0; MOST_BYTES]?;
     let mut words = Vec::new(alloc);
     for number in 1..usize::MAX {
-        match argument(alloc, rt, number)?.map(String::from_utf8) {
+        match argument(alloc, rt, number, &mut room)?.map(String::from_utf8) {
             Some(Ok(text)) => words.push(text)?,
             Some(Err(error)) => {
                 let bytes = error.into_bytes();

@@ -1,8 +1,8 @@
 //! The files of a runtime, as an `Office`. No contract can say what a file gives or takes, so these lines are to be read: a
 //! file is opened, looked for and stored at the very path that is asked for.
-ghost use Rattle.std.specs.{Prelude.{◌≡◌, []}, Io.KnownBytes.Appends};
+ghost use Rattle.std.specs.{Prelude.{◌≡◌, ◌≢◌, [], OnErr, OnOk}, Io.KnownBytes.Appends};
 ghost use Rattle.aout_core.specs.Encoding.{encoding};
-ghost use Rattle.surroundings.specs.{Emits.IsStoredOn, declared.office.Stored.TheVariants.Kept};
+ghost use Rattle.surroundings.specs.{Emits.IsStoredOn, declared.office.Stored.TheVariants.{Kept, NotCreated}};
 
 use crate::nodes::{Found, Node};
 use crate::office::{Office, Stored};
@@ -43,11 +43,43 @@ pub fn store_text_on<W: Write>(text: &[u8], out: &mut Wire<W>) -> Stored
 /// Stores a file on a device in large pieces, and hands the device back: if the file is kept, the device itself has all its bytes,
 /// and has reached the disk if it replaces another one.
 fn store_in_pieces<F: Write + OpenFile>(file: &File, device: F, replaces: bool) -> (Stored, F)
-    ensures { result.0 ≡ Kept → Appends (F.contents device) (F.contents result.1) (encoding file.now) }
+    ensures kept { result.0 ≡ Kept → Appends (F.contents device) (F.contents result.1) (encoding file.now) }
+    ensures made { result.0 ≢ NotCreated }
 {
     let mut out = Wire::new(PieceWriter::new(device, replaces));
     let stored = store_on(file, &mut out);
     (stored, out.into_inner().into_file())
+}
+
+/// Stores a file on the device that was made for it, if one was.
+fn store_made<F: Write + OpenFile + Drop>(
+    file: &File,
+    made: io::Result<F>,
+    replaces: bool,
+) -> Stored
+    ensures made { OnOk made (result ≢ NotCreated) }
+    ensures unmade { OnErr made (result ≡ NotCreated) }
+{
+    match made {
+        Ok(device) => store_in_pieces(file, device, replaces).0,
+        Err(_) => Stored::NotCreated,
+    }
+}
+
+/// The same of a text.
+#[tactic(auto, using(crate::proofs::PieceLemmas::is_made))]
+fn store_text_made<F: Write + OpenFile + Drop>(
+    text: &[u8],
+    made: io::Result<F>,
+    replaces: bool,
+) -> Stored
+    ensures made { OnOk made (result ≢ NotCreated) }
+    ensures unmade { OnErr made (result ≡ NotCreated) }
+{
+    match made {
+        Ok(device) => store_text_on(text, &mut Wire::new(PieceWriter::new(device, replaces))),
+        Err(_) => Stored::NotCreated,
+    }
 }
 
 /// The type of what is at a path, if this is a device, or itself a FIFO or a socket. A link to one of these two has none. (own choice)
@@ -110,17 +142,11 @@ impl<H: Runtime> Office for Disk<'_, H> {
 
     fn store(&mut self, path: &str, file: &File) -> Stored {
         let replaces = !matches!(self.node(path), Found::NoFile);
-        match fs::create(self.rt, path) {
-            Ok(device) => store_in_pieces(file, device, replaces).0,
-            Err(_) => Stored::NotCreated,
-        }
+        store_made(file, fs::create(self.rt, path), replaces)
     }
 
     fn store_text(&mut self, path: &str, text: &[u8]) -> Stored {
         let replaces = !matches!(self.node(path), Found::NoFile);
-        match fs::create(self.rt, path) {
-            Ok(device) => store_text_on(text, &mut Wire::new(PieceWriter::new(device, replaces))),
-            Err(_) => Stored::NotCreated,
-        }
+        store_text_made(text, fs::create(self.rt, path), replaces)
     }
 }

@@ -1,6 +1,6 @@
 //! What opens and stores the files of a command.
 ghost use Rattle.std.specs.{Prelude.{◌≡◌, [], ◌∷◌, List, None, Option}, Option.option_map};
-ghost use Rattle.surroundings.specs.{Answers.is_none, Sources.is_kept, Events.{Event, Extends, looked, opened, stored, written}};
+ghost use Rattle.surroundings.specs.{Answers.is_none, Sources.{is_kept, stored_text}, Events.{Event, Extends, looked, opened, stored, written}};
 
 use crate::nodes::Found;
 use aout_core::{DeviceFault, File};
@@ -49,7 +49,8 @@ pub(crate) const NOT_CREATED: &str = "cannot create";
 
 /// What is said of the path of a file that was not stored. (own choice)
 pub fn stored_text(stored: Stored) -> Option<&'static str>
-    ensures { is_none result ≡ is_kept stored }
+    ensures kept { is_none result ≡ is_kept stored }
+    ensures said { option_map (λ text. text.now) result ≡ stored_text stored }
 {
     match stored {
         Stored::Kept => None,

@@ -1,6 +1,6 @@
 //! Files that are read whole, or from the beginning.
-ghost use Rattle.std.specs.Prelude.{◌≤◌, length, IfErr, IfOk};
-ghost use Rattle.surroundings.specs.{Sources.{EndsReading, ReadsAt, ReadsFront}, internal.Readings.ReadsNot};
+ghost use Rattle.std.specs.Prelude.{◌≡◌, ◌≤◌, ◌<◌, true, length, IfErr, IfOk};
+ghost use Rattle.surroundings.specs.{Answers.Stops, Sources.{EndsReading, ReadsAt, ReadsFront}, internal.Readings.ReadsNot};
 
 use crate::answer::{Fault, fault_at};
 use crate::office::Office;
@@ -48,9 +48,27 @@ pub fn read_front<O: Office>(
     }
 }
 
+/// These bytes, if they are at most so many; or the line that the file at a path is too long.
+fn unless_long(
+    alloc: Global,
+    program: &str,
+    path: &str,
+    most: u32,
+    bytes: Vec<u8>,
+) -> Result<Vec<u8>, Fault>
+    ensures same { IfOk result (λ kept. kept.items ≡ bytes.items) }
+    ensures within { IfOk result (λ _. length bytes.items ≤ most) }
+    ensures long { IfErr result (λ _. most < length bytes.items) }
+    ensures err { IfErr result (λ fault. Stops true 2 fault) }
+{
+    if bytes.len() > most as usize {
+        return Err(fault_at(alloc, program, path, "file too long"));
+    }
+    Ok(bytes)
+}
+
 /// All bytes of the file at a path, for a program of this name and files of at most so many bytes; or the line that it can't be opened
 /// or read, or is too long. No more than one byte after so many is read. (own choice)
-#[tactic(auto, using(crate::proofs::ReadingLemmas::reads_whole, crate::proofs::ReadingLemmas::reads_too_much))]
 pub fn read_whole<O: Office>(
     alloc: Global,
     office: &mut O,
@@ -65,8 +83,5 @@ pub fn read_whole<O: Office>(
         EndsReading (O.history office.old) (O.history office.new) path.now fault) }
 {
     let bytes = read_front(alloc, office, program, path, u64::from(most) + 1)?;
-    if bytes.len() > most as usize {
-        return Err(fault_at(alloc, program, path, "file too long"));
-    }
-    Ok(bytes)
+    unless_long(alloc, program, path, most, bytes)
 }

@@ -7,7 +7,7 @@ returns g c =
       written = search rules;
       reported = λ answer is holds.
           let unfailed : c.is_err-is_failed.result ≡ false = search rules in
-          let said = c.put_errors.ensures answer (c.answer_in-found.ensures ∙ is) unfailed in
+          let said = c.put_errors.ensures.said answer (c.answer_in-found.ensures ∙ is) unfailed in
           search rules;
       ends = search rules;
     }
