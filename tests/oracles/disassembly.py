@@ -49,6 +49,16 @@ FA  171000 mulf 171400 modf 172000 addf 172400 movf 173000 subf 173400 cmpf 1744
 AF  174000 movf 176000 movfo
 AD  175000 movei 175400 movfi
 DA  176400 movie 177000 movif
+-   000007 mfpt
+D   007000 csm 007200 tstset 007300 wrtlck 106400 mtps 106700 mfps
+L   075000 fadd 075010 fsub 075020 fmul 075030 fdiv 076020 l2dr 076060 l3dr
+"""
+# the commercial set, from each number on. Those of 0100 more, named with an i, have their operands in words after them
+COMMERCIAL = """
+030 movc movrc movtc
+040 locc skpc scanc spanc cmpc matc
+050 addn subn cmpn cvtnl cvtpn cvtnp ashn cvtln
+070 addp subp cmpp cvtpl mulp divp ashp cvtlp
 """
 # how many words follow, then numbers and names of system calls
 CALLS = """
@@ -82,7 +92,10 @@ def table():
                     fields = [(letter, word >> SHIFT.get(letter, 0) & (1 << BITS[letter]) - 1) for letter in letters]
                     if ("F", 6) not in fields and ("F", 7) not in fields:
                         found[word] = called, fields
-    return found
+    for start, *names in map(str.split, COMMERCIAL.split("\n")[1:-1]):
+        for word, name in enumerate(names, 0o76000 + int(start, 8)):
+            found[word], found[word + 0o100] = (name, []), (name + "i", [])
+    return {**{word: ("cis %o" % (word - 0o76000), []) for word in range(0o76000, 0o77000)}, **found}
 
 
 FOUND = table()
@@ -284,19 +297,24 @@ class File:
         ]
 
     def operand_words(self, place):
-        """The places of the operand words of the line at a place, or of its arguments, each with its name in the line, if it has one. If
-        the number itself may be an address, the last says whether an instruction is fetched there."""
+        """The places of the operand words of the line at a place, or of its arguments, each with its name in the line, if it has one, and
+        what it perhaps is in a linked file."""
         length = self.line(place)[0]
         if self.knows_calls and self.words[place] in SYS:
             for at in range(place + 1, place + length):
-                yield at, self.reference("sys", 2, 7, self.words[at], 0, at), False
+                yield at, self.reference("sys", 2, 7, self.words[at], 0, at), self.perhaps(self.words[at])
         elif length > 1:
             name, fields = FOUND[self.words[place]]
             at = place + 1
             for letter, value in fields:
                 if has_word(letter, value):
-                    fetches = False if value == 0o27 else name in ("jmp", "jsr") if value == 0o37 else None
-                    yield at, self.reference(name, value >> 3, value & 7, self.words[at], 2 * at + 2, at), fetches
+                    number, said = self.words[at], None
+                    if value == 0o27:
+                        said = self.perhaps(number)
+                    elif value in (0o37, 0o67, 0o77):
+                        address = (number + (2 * at + 2) * (value > 0o37)) & 0o177777
+                        said = self.before(address, name in ("jmp", "jsr") and value != 0o77)
+                    yield at, self.reference(name, value >> 3, value & 7, number, 2 * at + 2, at), said
                     at += 1
 
     def nearest(self, kind, address):
@@ -317,9 +335,18 @@ class File:
         escapes = {9: "\\t", 10: "\\n", 34: '\\"', 92: "\\\\"}
         return '"%s"%s' % ("".join(escapes.get(byte, chr(byte)) for byte in found[:40]), ".." if len(found) > 40 else "")
 
-    def perhaps(self, number, fetches):
+    def before(self, address, fetches):
+        """The nearest label at an address of a linked file or before it."""
+        segment = self.segment(address, fetches)
+        values = [value for _, value in self.values[segment] if value <= address] if segment else []
+        if not values:
+            return None
+        back = address - max(values)
+        return "perhaps " + self.exact(segment, max(values)) + ("+" + octal(back) if back else "")
+
+    def perhaps(self, number):
         """What a number of a linked file points to, if it is an address: a string, or a label."""
-        segment = self.segment(number, fetches)
+        segment = self.segment(number, False)
         string = self.string(number) if segment == 3 else None
         label = self.exact(2, number) if segment == 2 else segment and self.nearest(segment, number)
         return string or label and "perhaps " + label
@@ -334,11 +361,11 @@ class File:
         """What is said after the instruction at a place: of a relocated operand word without a name, and of a string; without relocation
         of a number that may be an address."""
         texts = []
-        for at, named, fetches in self.operand_words(place):
+        for at, named, said in self.operand_words(place):
             if self.is_relocated(at):
                 texts += self.pointed(self.relocation[at], self.number_of(at))[1 if named else 0 :]
-            elif self.relocation is None and not named and fetches is not None:
-                texts.append(self.perhaps(self.words[at], fetches))
+            elif self.relocation is None and not named:
+                texts.append(said)
         return "".join(" / " + text for text in texts if text)
 
     def disassembly(self):
@@ -356,6 +383,23 @@ class File:
                 lines.append("/ %06o to %06o: the row before, %d times" % (2 * place + 2, 2 * (place + zeros - 1), zeros - 1))
             place += shown
         return lines + self.labels(2 * place, 0)
+
+    def with_functions(self):
+        """A program that has no symbols of text, with an external for each function that its calls show, as `-d` shows it."""
+        if self.relocation is not None or self.values[2]:
+            return self
+        found, place = set(), 0
+        while place < len(self.words):
+            word, operand = [*self.words[place : place + 2], 0][:2]
+            target = operand if word == 0o004737 else (operand + 2 * place + 4) & 0o177777
+            begun = self.words[target // 2 : target // 2 + 2] if target % 2 == 0 and place + 1 < len(self.words) else []
+            if word == 0o004567 and begun == [0o010500, 0o010605]:
+                found |= {2 * place, target}
+            if word in (0o004737, 0o004767) and begun:
+                found.add(target)
+            place += self.line(place)[0]
+        symbols = [*self.symbols, *((b"f_%06o" % at, 0o42, at) for at in sorted(found))]
+        return File(self.words, None, symbols, self.magic, self.data, (), self.bss) if len(symbols) <= 5461 else self
 
     def zeros(self, place):
         """How many words 0 follow each other from a place on, before the next label or a word that a link changes."""
@@ -472,7 +516,8 @@ def shown_by(words, made, folder, what):
 def compare(made, folder, what):
     """Compares the lines of a file, without arguments of system calls and with them, and returns how many there are."""
     for option, made.knows_calls in (("-p", False), ("-d", True)):
-        same(f"{what} by {option}", shown_by([EXPLAIN, option], made, folder, what), made.disassembly())
+        wanted = made.with_functions() if made.knows_calls else made
+        same(f"{what} by {option}", shown_by([EXPLAIN, option], made, folder, what), wanted.disassembly())
     return len(made.disassembly())
 
 
@@ -551,7 +596,7 @@ def assembled(text, assembler, folder):
     while place < len(text):
         length, line = file.line(place)
         name = line.split(" ")[0]
-        if name[0] in "01" or text[place] >= 0o170000 or text[place] in SYS:
+        if name[0] in "01" or name == "cis" or text[place] >= 0o170000 or text[place] in SYS:
             lines += [".word 0%o" % word for word in text[place : place + length]]
         else:
             lines.append(for_gnu(line, 2 * place))

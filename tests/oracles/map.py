@@ -45,7 +45,9 @@ def random_object(dice):
             relocation = 0o10 + 16 * dice.choice(wanted) + pc
         elif placed and way == 2:
             kind, value = dice.choice(placed)
-            word, relocation = (value - pc * (2 * place + 2)) % 65536, dice.choice([2 * (kind - 1), 2 * (kind - 1), 0]) + pc
+            beyond = dice.choice([0, 0, 2, 4])
+            word = (value + beyond - pc * (2 * place + 2)) % 65536
+            relocation = dice.choice([2 * (kind - 1), 2 * (kind - 1), 0]) + pc
         pairs.append((word, relocation))
     return pack(pairs[:sizes[2]], pairs[sizes[2]:], 2 * sizes[4], symbols)
 
@@ -101,7 +103,7 @@ def check(number):
         lines, is_there = made.asked(wanted)
         asked = [it for word in wanted for it in ("-y", word)]
         compare(f"link {number}: {asked} {words}", found.status if is_there else 1, lines, *asked, *words)
-    return bool(found.fault), sum(use.kind in (v7.TEXT_WORD, v7.DATA_WORD) for use in found.uses), len(made.odd()[2:])
+    return bool(found.fault), sum(use.kind >= v7.TEXT_WORD for use in found.uses), len(made.odd()[2:])
 
 
 def planted(old, new):

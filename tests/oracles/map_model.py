@@ -60,13 +60,14 @@ def line_starts(text):
     return starts
 
 
-def label_before(symbols, segment, address):
-    """The nearest label up to an address, and the bytes beyond it; in text that of a function before others. Of several at one address it
-    is an external, or else the first."""
+def label_before(symbols, segment, address, has_functions=True):
+    """The nearest label up to an address, and the bytes beyond it; in text that of a function before others, if functions count. Of several
+    at one address it is an external, or else the first."""
 
     def rank(symbol):
         is_external = bool(symbol.type & model.EXTERNAL)
-        return segment == model.TEXT and (is_external or symbol.name.startswith(b"_")), symbol.value, is_external
+        is_function = has_functions and segment == model.TEXT and (is_external or symbol.name.startswith(b"_"))
+        return is_function, symbol.value, is_external
 
     best = max((it for it in symbols if it.segment == segment and it.value <= address), key=rank, default=None)
     return (text(best.name), address - best.value) if best else (None, 0)
@@ -97,16 +98,37 @@ def lead_of(file, starts, segment, place):
     return model.TEXT, text_target([word for word, _ in file.words[model.TEXT]], starts[2 * place] // 2, place)
 
 
+def inside_of(file, segment, place, aim, symbol):
+    """How many bytes beyond a symbol a word leads that leads to no label, and is not in the text after the symbol itself; else 0."""
+    if aim is None or aim[0] not in model.SEGMENTS or aim[1] is None:
+        return 0
+    to, address = aim
+    label, inside = label_before(file.symbols, to, address)
+    if label is None or (symbol.kind, symbol.value) != (to, address - inside):
+        return 0
+    own, beyond = label_before(file.symbols, to, 2 * place)
+    return 0 if segment == to == model.TEXT and own is not None and 2 * place - beyond == symbol.value else inside
+
+
 def words_of(file, starts, object_number, name_number, number, at):
-    """The words of an object that lead to the symbol of this number."""
-    symbol = file.symbols[number]
+    """The words of an object that lead to the symbol of this number, and then those that may reach what it names."""
+    symbol, near = file.symbols[number], []
     aims = (model.NAMED, number), (symbol.kind, symbol.value)
-    for segment, kind in ((model.TEXT, v7.TEXT_WORD), (model.DATA, v7.DATA_WORD)):
+    kinds = (model.TEXT, v7.TEXT_WORD, v7.TEXT_NEAR), (model.DATA, v7.DATA_WORD, v7.DATA_NEAR)
+    for segment, sure, perhaps in kinds:
         for place in range(len(file.words[segment])):
-            if lead_of(file, starts, segment, place) in aims:
+            aim = lead_of(file, starts, segment, place)
+            inside = 0 if aim in aims else inside_of(file, segment, place, aim, symbol)
+            if aim in aims or inside:
                 line = starts[2 * place] if segment == model.TEXT else 2 * place
                 label, beyond = label_before(file.symbols, segment, (line + file.start(segment)) % model.WORD)
-                yield v7.MapUse(object_number, name_number, kind, at[segment] + 2 * place, 2 * place, line, label, beyond)
+                of = object_number, name_number, perhaps if inside else sure
+                found = v7.MapUse(*of, at[segment] + 2 * place, 2 * place, line, label, beyond, inside)
+                if inside:
+                    near.append(found)
+                else:
+                    yield found
+    yield from near
 
 
 def kind_of(symbol):
@@ -147,7 +169,7 @@ class Names:
     def uses_by(self, name, number):
         for place, symbol_number, symbol in self.uses_of[name]:
             kind = v7.FORCES if place is None else kind_of(symbol)
-            yield v7.MapUse(place, number, kind, 0, symbol.value, 0, None, 0)
+            yield v7.MapUse(place, number, kind, 0, symbol.value, 0, None, 0, 0)
             if place is not None:
                 yield from words_of(self.files[place], self.starts[place], place, number, symbol_number, self.places[place])
 
@@ -208,7 +230,7 @@ class Mapped:
         """For each name its symbols, each with the words that lead to it."""
         of = [[] for _ in self.found.names]
         for use in self.found.uses:
-            if use.kind in (v7.TEXT_WORD, v7.DATA_WORD):
+            if use.kind >= v7.TEXT_WORD:
                 of[use.name][-1][1].append(use)
             else:
                 of[use.name].append((use, []))
@@ -255,18 +277,27 @@ class Mapped:
             lines += [line, f"    {path}"] if len(path) > 33 else [f"{line}  {path}"]
         return lines
 
-    def word(self, segment, address, label, line, of):
-        """A word of an object, in the segment and at the address: of text with the place and the text of its line."""
-        name, beyond = label
-        before = "" if name is None else f"  {shown(name)}" + f"+{beyond:o}" * bool(beyond)
+    def word(self, segment, address, label, line, of, inside=0, inner=(None, 0)):
+        """A word of an object, in the segment and at the address: of text with the place and the text of its line, and the label of no function
+        that is nearer; and how many bytes beyond a name it leads."""
+        name, _ = label
+        labels = [label] * (name is not None) + [inner] * (None not in (name, inner[0]) and inner[0] != name)
+        before = "  " * bool(labels) + ", ".join(shown(it) + f"+{beyond:o}" * bool(beyond) for it, beyond in labels)
         if segment == "text":
             before = (before or f"  {self.found.objects[of].text + line:06o}") + f": {self.texts[of].whole_line(line // 2)[1]}"
-        return f"                {segment} {address:06o}{before}"
+        return f"                {segment} {address:06o}{before}" + f" / +{inside:o}" * bool(inside)
 
     def words(self, words):
-        """The lines of words that lead to a name."""
-        return [self.word("text" if word.kind == v7.TEXT_WORD else "data", word.address, (word.label, word.beyond), word.line, word.object)
-                for word in words]
+        """The lines of words that lead to a name, or beyond it."""
+        return [self.word("text" if word.kind in (v7.TEXT_WORD, v7.TEXT_NEAR) else "data", word.address, (word.label, word.beyond), word.line,
+                          word.object, word.inside) for word in words]
+
+    def users_of(self, path, words, has_all, under=None):
+        """The words of an object by which it uses a name, and then those that perhaps do; or with the name `under` which they are."""
+        for title, some in ("used in", [it for it in words if not it.inside]), ("perhaps in", [it for it in words if it.inside]):
+            if some or has_all and title == "used in":
+                yield f"    {title}".ljust(16) + f"{path} ({len(some)})"
+                yield from [f"                as {shown(under)}"] if under is not None else self.words(some)
 
     def title_of(self, number):
         """The line of a name, as nm has it; without an address if the link has none."""
@@ -282,15 +313,16 @@ class Mapped:
         are that lead to the same address."""
         lines, definers, commons, users = [self.title_of(number)], [], [], []
         for (use, words), symbol in zip(self.uses[number], self.symbols[number]):
-            path = "-u" if use.object is None else self.paths[use.object]
+            path = None if use.object is None else self.paths[use.object]
             if use.kind == v7.DEFINES:
                 definers.append(f"    {'again' if definers else 'defined'} in".ljust(16) + path)
             if use.kind == v7.MAKES_COMMON:
                 commons.append(f"    common in   {path} ({use.offset})")
-            if use.kind != v7.DEFINES or words:
-                users.append(f"    used in     {path}" + f" ({len(words)})" * (use.object is not None))
-                first = under.setdefault((use.object, symbol.kind, symbol.value), symbol) if words and use.kind == v7.DEFINES else symbol
-                users += [f"                as {shown(text(first.name))}"] if first is not symbol else self.words(words)
+            if use.object is None:
+                users.append("    used in     -u")
+            elif use.kind != v7.DEFINES or words:
+                first = under.setdefault((use.object, symbol.kind, symbol.value), symbol) if use.kind == v7.DEFINES else symbol
+                users += self.users_of(path, words, use.kind != v7.DEFINES, None if first is symbol else text(first.name))
         return lines + (definers + commons) * has_sources + users * has_users
 
     def section(self, title, has_name, **parts):
@@ -361,7 +393,8 @@ class Mapped:
                 if 0 <= offset < file.size(segment):
                     line = self.starts[place][offset] if segment == model.TEXT else offset
                     label = label_before(file.symbols, segment, file.start(segment) + line)
-                    lines += [f"    in          {self.paths[place]}", self.word(name, address, label, line, place)]
+                    inner = label_before(file.symbols, segment, line, False) if segment == model.TEXT else (None, 0)
+                    lines += [f"    in          {self.paths[place]}", self.word(name, address, label, line, place, inner=inner)]
         if self.laid and self.found.segments[2] <= address < self.found.segments[3]:
             rows = map(self.laid.symbol_of, self.merged.externals.values()) if self.laid.is_placed else ()
             lines += ["    in          commons", self.word("commons", address, label_before(rows, model.BSS, address), 0, None)]
@@ -377,7 +410,7 @@ class Mapped:
                     row = model.Symbol(b"", symbol.type, (symbol.value + moved) % model.WORD)
                     words = [*words_of(file, self.starts[place], place, None, number, self.places[place])]
                     lines += [model.symbol_line(row).decode() + shown(text(symbol.name)), f"    defined in  {self.paths[place]}",
-                              *[f"    used in     {self.paths[place]} ({len(words)})"] * bool(words), *self.words(words)]
+                              *self.users_of(self.paths[place], words, False)]
         return ["", "Statics", *lines] if lines else []
 
     def asked(self, wanted):

@@ -252,14 +252,37 @@ def places(file):
 
 
 def direct(file):
-    """The bytes of text at which the words of operands of modes 37, 67 and 77 are, by the lines of the sweep."""
-    text, place = decoded(file.data), 0
+    """The bytes of text at which lines begin, by the sweep, and those at which the words of operands of modes 37, 67 and 77 are."""
+    text, place, starts, found = decoded(file.data), 0, set(), set()
     while file.flag == 0 and place < len(text.words):
         length, word = text.line(place)[0], text.words[place]
+        starts.add(2 * place)
         if length > 1 and word not in SYS:
             fields = [value for letter, value in FOUND[word][1] if has_word(letter, value)]
-            yield from (2 * at for at, value in enumerate(fields, place + 1) if value in (0o37, 0o67, 0o77))
+            found |= {2 * at for at, value in enumerate(fields, place + 1) if value in (0o37, 0o67, 0o77)}
         place += length
+    return starts, found
+
+
+def named(file, segment, to):
+    """Whether a symbol of a segment has an address."""
+    return any(SEGMENTS.get(kind & 0o37) == segment and value == to for _, _, kind, value in file.symbols())
+
+
+def is_misplaced(file, at, segment, to, starts):
+    """Whether something shows that a word which refers far outside of its segment is a mistake: its address counts from the start of the
+    segment, its line begins with it, or the next word of data has the address and no relocation word."""
+    if named(file, segment, to + file.ranges()[segment][0]) or at in starts:
+        return True
+    after = [(word, reloc) for place, word, reloc in file.words() if place == at + 2 and at >= file.text]
+    return any(reloc & 0o17 == 0 and named(file, segment, word) for word, reloc in after)
+
+
+def is_base(file, segment, to):
+    """Whether words count from an address outside of its segment, and a symbol of the segment is inside."""
+    begin, end = file.ranges()[segment]
+    inside = [value for _, _, kind, value in file.symbols() if SEGMENTS.get(kind & 0o37) == segment and begin <= value <= end]
+    return bool(inside) and any(kind == segment and number == to and not reloc & 1 for _, _, reloc, number, kind in places(file))
 
 
 def lies(file, segment, to):
@@ -270,14 +293,15 @@ def lies(file, segment, to):
 
 
 def odd_words(file):
-    moved, sure_words = is_moved(file), set(direct(file))
+    moved, (starts, sure_words) = is_moved(file), direct(file)
     for at, address, reloc, to, segment in places(file):
         if reloc > 0o17 and reloc & 0o16 < 0o10:
             yield file.relocation_at + at, f"relocation word {reloc:06o} of the word at {address:06o}: bits above 17 are ignored"
         if segment:
             begin, end = file.ranges()[segment]
             if not begin <= to <= end:
-                sure = reloc & 1 or at in sure_words or is_far(file, segment, to) and not moved
+                misplaced = is_far(file, segment, to) and is_misplaced(file, at, segment, to, starts)
+                sure = reloc & 1 or not moved and (at in sure_words or misplaced)
                 yield file.relocation_at + at, (f"the word at {address:06o} is of kind {segment} and refers to {to:06o}; "
                                                 f"{lies(file, segment, to)}" + unless(sure))
 
@@ -305,7 +329,8 @@ def odd_symbol(file, number, symbol, first, used):
     if segment:
         begin, end = file.ranges()[segment]
         if not begin <= value <= end:
-            sure = segment != "text" and not is_moved(file) and (kind & 0o40 or is_far(file, segment, value))
+            excused = is_moved(file) or is_base(file, segment, value)
+            sure = segment != "text" and not excused and (kind & 0o40 or is_far(file, segment, value))
             yield 10, f"of {segment} has value {value:06o}, and {lies(file, segment, value)}" + unless(sure)
     if is_undefined(kind) and not value and file.flag == 0 and number not in used:
         yield 0, "is undefined, and no word refers to it" + MEANT

@@ -7,7 +7,7 @@ from tests.oracles.suspicions import BSS, DATA, EXTERNAL, TEXT, lines, operand_w
 
 # types of externals that are defined, and words that begin no instruction
 DEFINED = (0o42, 0o43, 0o44)
-NO_INSTRUCTIONS = [0o10, 0o77, 0o210, 0o007000, 0o170003, 0o170010]
+NO_INSTRUCTIONS = [0o10, 0o77, 0o210, 0o007100, 0o170003, 0o170010]
 dice = random.Random(63)
 
 

@@ -9,10 +9,10 @@ from tests.oracles.disassembly import FOUND, SYS, has_word
 TEXT, DATA, BSS, EXTERNAL = 2, 4, 6, 0o10
 # the link register is the pc, so the subroutine comes back to the next line by rts pc
 PC = 7
-# instructions of other PDP-11s: mtps and mfps of the 11/34, those of the floating and of the commercial set
-OTHERS = [range(0o106400, 0o106500), range(0o106700, 0o107000), range(0o075000, 0o075040), range(0o076000, 0o077000)]
+# those of the commercial set: operands may follow them
+COMMERCIAL = range(0o076000, 0o077000)
 # these do not write their destination
-READ_ONLY = ("tst", "tstb", "cmp", "cmpb", "bit", "bitb", "jmp", "jsr", "mfpi", "mfpd", "tstf", "ldfps", "movie", "movif")
+READ_ONLY = ("tst", "tstb", "cmp", "cmpb", "bit", "bitb", "jmp", "jsr", "mfpi", "mfpd", "tstf", "ldfps", "movie", "movif", "csm", "mtps")
 # the remarks that are judged here
 KINDS = {
     "relocated": r"the first word of the instruction at (\d+)(?: \(\S+\))? is relocated",
@@ -23,18 +23,20 @@ KINDS = {
     "within": r"the branch at (\d+) leads to \d+, within",
     "call of data": r"the word at (\d+) is of a call or a jump, and refers to (?:a common|\d+, which is in data or bss)",
     "reference": r"the word at (\d+) (?:counts from the pc to|is of a call or a jump, and (?:adds|refers to the odd)|adds \d+ to a common)",
+    "text touched": r"the word at (\d+) has its operand in memory at \d+, which is in text",
     "symbol": r"of text has value (\d+), (?:which is odd|where text ends|within)",
     "text word": r"the word at (\d+) is of kind text and refers to \d+, (?:which is odd|where text ends|within)",
     "no place": r"the word at (\d+) jumps or calls, and leads to no place of memory",
     "odd operand": r"the word at (\d+) leads to a word of memory at an odd address",
     "absolute": r"is absolute with value (\d+), which is in text, and no symbol is of text",
 }
-# these are sure by the promise alone: one of two lines that overlap may be data, and a program may put code into data when it runs
-PROMISED = ("within", "call of data")
+# these are sure by the promise alone: one of two lines that overlap may be data, a program may put code into data when it runs, and text may
+# have tables
+PROMISED = ("within", "call of data", "text touched")
 # addresses below this one may be vectors
 VECTORS = 0o1000
 # nothing comes after these, or not for sure: a trap's handler may skip words, and a processor that halts may be started elsewhere
-ENDS = ("br", "jmp", "rts", "rti", "rtt", "halt", "mark", "emt", "bpt", "iot")
+ENDS = ("br", "jmp", "rts", "rti", "rtt", "halt", "mark", "emt", "bpt", "iot", "csm")
 # system calls, by their names: those that do not come back, and those that come back twice
 EXIT, FORK = "exit", "fork"
 
@@ -203,6 +205,8 @@ def follow(file, promise, widely, begins, without=()):
         if not is_line(file, place) or place in without:
             continue
         place = int(place)
+        if file.words[place] in COMMERCIAL:
+            continue
         if promise:
             # what follows from one symbol to the next, whatever the instruction is
             after = place + length(file, place)
@@ -251,8 +255,7 @@ def wrong_at(file, place):
         yield 2 * place, "relocated"
         return
     if file.words[place] not in FOUND:
-        if not any(file.words[place] in words for words in OTHERS):
-            yield 2 * place, "none begins"
+        yield 2 * place, "none begins"
         return
     if place + length(file, place) > len(file.words):
         yield 2 * place, "cut"
@@ -312,6 +315,8 @@ def wrong_reference(file, at, goes, from_pc):
     if low == 0 and from_pc and (number > text or number == text and data and not goes):
         # not relocated, so it stays at the same distance; but other segments move
         return "reference"
+    if not goes and number < text and (low & 0o16 == TEXT or low == 0 and from_pc):
+        return "text touched"
     return "reference" if goes and number % 2 and (from_pc or low) else None
 
 

@@ -16,7 +16,7 @@ use Rattle.checks.specs.Found.{Found}
 use Rattle.checks.specs.declared.finding.FindingKind.TheVariants.{RelocatedFirstWord, UnsuitablePcBit, BranchOutside}
 use Rattle.checks.specs.Trust.{has_word_at, enters, entered_by, entered, overlaps, is_sure, trust}
 use Rattle.checks.specs.Branches.{of_lines, word_place, suspicious_entry, suspicious_branch}
-use Rattle.checks.specs.Suspicions.{reloc_place, may_begin, differ, is_immediate, is_foreign}
+use Rattle.checks.specs.Suspicions.{reloc_place, may_begin, differ, is_immediate}
 use Rattle.checks.specs.Suspicions.{suspicious_lack, suspicious_operand, suspicious_line, suspicious_at, suspicious_place}
 use Rattle.checks.specs.Uses.{suspicious_uses}
 use Rattle.checks.specs.SureLaw.{NoneIsSure, targets, is_whole, IsInside, AreInside, SureLaw, SuitsMode, SuitsModes, SureWordsLaw}
@@ -48,9 +48,8 @@ place_quiet e c (w ∷ ws) place p (suc i) h is q =
 looked_at : (reached begins : Bool) (xs : List Found) → reached ≡ true → NoneIsSure (if reached || begins then xs else []) → NoneIsSure xs
 looked_at reached begins xs r q = search rules
 
-lack_is_reported : (sure : Bool) (place w : ℕ) (o : Option Instruction) → sure ≡ true → is_foreign w ≡ false →
-    NoneIsSure (suspicious_lack sure place w o) → ⊥
-lack_is_reported sure place w o s f q = search (rules, loud)
+lack_is_reported : (sure : Bool) (place : ℕ) (o : Option Instruction) → sure ≡ true → NoneIsSure (suspicious_lack sure place o) → ⊥
+lack_is_reported sure place o s q = search (rules, loud)
 
 -- a plain word at a sure place is suspicious
 plain_is_reported : (moves reached begins : Bool) (first : Found) (lack : List Found) → reached ≡ true → first.is_sure ≡ true →
@@ -147,13 +146,10 @@ branch_inside e c t place (Some target) s r q =
 
 line_inside : (e : Evidence) (c : Contents) (t : Trust) (place : ℕ) (line : UnixLine) → t.is_sure ≡ true → t.is_reached ≡ true →
     NoneIsSure (suspicious_line (of_lines e) c t place line) → (is_whole line ≡ true) × AreInside e c (targets place line)
-line_inside e c t place (Machine (Plain w)) s r q = (by (is_foreign w) refl, tt)
-  where
-    by : (b : Bool) → is_foreign w ≡ b → b ≡ true
-    by true f = refl
-    by false f = absurd (plain_is_reported (is_relocated (slice_get c.text_reloc place)) t.is_reached (may_begin c place)
-        (first_word c t place) (suspicious_lack t.is_sure place w (instruction_of w)) r s
-        (lack_is_reported t.is_sure place w (instruction_of w) s f) q)
+line_inside e c t place (Machine (Plain w)) s r q =
+    absurd (plain_is_reported (is_relocated (slice_get c.text_reloc place)) t.is_reached (may_begin c place)
+    (first_word c t place) (suspicious_lack t.is_sure place (instruction_of w)) r s
+    (lack_is_reported t.is_sure place (instruction_of w) s) q)
 line_inside e c t place (Machine (Decoded i a b)) s r q =
     let operands : List Found =
     suspicious_operand c t.is_sure (place + 1) i.first
@@ -211,7 +207,7 @@ not_moved : (v : Evidence) (c : Contents) (t : Trust) (place : ℕ) (b : Bool) �
 not_moved v c t place false is s r q = refl
 not_moved v c t place true is s r q =
     let w : ℕ = slice_index c.text_words place in
-    let lack : List Found = if t.is_reached then suspicious_lack t.is_sure place w (instruction_of w) else [] in
+    let lack : List Found = if t.is_reached then suspicious_lack t.is_sure place (instruction_of w) else [] in
     absurd (moved_is_reported (is_relocated (slice_get c.text_reloc place)) t.is_reached (may_begin c place) (first_word c t place) lack
     is r s q)
 

@@ -13,10 +13,11 @@
 -- Each of them shows the entry point of a linked file. A line leads to the targets of its branch, and to that of its jump or call within
 -- the text. `sys fork` leads to the line after it, for the child, and to the word after the next one, for the parent. A line leads to
 -- that after it if control comes there: not after a jump, nor if the pc may be written. After `jsr` it does only if the link is the pc, or
--- if it is `jsr r5,csv`: another one may take the words after it. So may a trap that is not a system call of the table, and that of
--- `indir`, and `exit` does not come back. The flow goes on only where control is sure to come back: not after another call by the pc, as
--- its callee may take words or not return, nor after a branch, which may always be taken, nor after a system call, whose arguments
--- another Unix counts otherwise. By the promise each line leads to that after it, unless a symbol of text is within it.
+-- if it is `jsr r5,csv`: another one may take the words after it. So may `csm`, a trap that is not a system call of the table, and that of
+-- `indir`, and `exit` does not come back. An instruction of the commercial set may have operands in the words after it. The flow goes on
+-- only where control is sure to come back: not after another call by the pc, as its callee may take words or not return, nor after a
+-- branch, which may always be taken, nor after a system call, whose arguments another Unix counts otherwise. By the promise each line
+-- leads to that after it, unless a symbol of text is within it or it is of the commercial set.
 use Rattle.std.specs.Prelude.{ℕ, zero, suc, ◌+◌, ◌*◌, ◌/◌, ◌%◌, Bool, true, false, not, ◌&&◌, ◌||◌, eqb, nat_lt, if◌then◌else◌, List, []}
 use Rattle.std.specs.{Prelude.{◌∷◌, ◌++◌, bytes_eq, codes, length, map, slice_get, slice_index, is_some, Option, Some, None}, List.list_any}
 use Rattle.aout_core.specs.{declared.symbol.Symbol.Symbol, declared.symbol.Segment.TheVariants.TextSeg, declared.reloc.Reloc.Reloc}
@@ -82,6 +83,8 @@ passes operations.Mark comes_back = false
 passes operations.Bpt comes_back = false
 passes operations.Iot comes_back = false
 passes operations.Emt comes_back = false
+passes operations.Csm comes_back = false
+passes operations.Commercial comes_back = false
 passes operations.Sys comes_back = false
 passes _ comes_back = true
 
@@ -161,11 +164,17 @@ is_between low high s = is_text s && (nat_lt low s.value && nat_lt s.value high)
 abbrev pub is_followed : Evidence → Contents → ℕ → UnixLine → Bool
 is_followed e c place line = is_promised e && not (list_any (is_between (2 * place) (2 * (place + unix_length line))) c.symbols)
 
+-- an instruction may have operands in the words after its line
+abbrev pub takes_more : Operation → Bool
+takes_more operations.Commercial = true
+takes_more _ = false
+
 -- the line at a place leads to the one after it
 abbrev pub goes_on : Evidence → Contents → ℕ → UnixLine → Bool
 goes_on e c place (Machine (Plain w)) = false
 goes_on e c place (Machine (Decoded i a b)) =
-    (not (is_flow e && may_leave i) && flows c place i) || is_followed e c place (Machine (Decoded i a b))
+    (not (is_flow e && may_leave i) && flows c place i)
+    || (is_followed e c place (Machine (Decoded i a b)) && not (takes_more i.row.operation))
 goes_on e c place (Call k) = (not (is_flow e) && returns k.call) || is_followed e c place (Call k)
 
 -- the address after the line at a place, if it goes on there

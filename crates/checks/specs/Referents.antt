@@ -3,7 +3,8 @@
 --
 -- A word that counts from the pc and is not relocated keeps its distance to a place of its own text, so it refers to nothing else. One of
 -- kind absolute with the pc bit refers to a fixed address, so not to data or bss, which move. A jump or a call leads to an even
--- address in text, or to an external, and not into a common or beyond an external. Memory of a common lies within its size.
+-- address in text, or to an external, and not into a common or beyond an external. Memory of a common lies within its size. By the promise
+-- no memory that is read or written lies in text.
 --
 -- Where the line is sure, so is what is wrong, with four exceptions. A number may be the address of a symbol of data or bss by accident. An
 -- address below 001000 may be that of a vector. A function may be entered beyond its first instruction, as by `jsr pc,_f+4`, but not at an
@@ -23,7 +24,8 @@ use Rattle.instructions.specs.{Instructions.jumps, Instructions.word_count_of, R
 use Rattle.instructions.specs.declared.mode.Addressing.TheVariants as ways
 use Rattle.checks.specs.declared.referent.Referent.TheVariants.{Nothing, Number, Near, Fixed, InText, InData, External}
 use Rattle.checks.specs.declared.referent.Access.TheVariants.{Goes, Touches, Neither}
-use Rattle.checks.specs.declared.referent.Mismatch.TheVariants.{Unmarked, Unrelocated, Absolute, Beyond, CommonCalled, Outgrown, OddPlace, DataCalled}
+use Rattle.checks.specs.declared.referent.Mismatch.TheVariants.{Unmarked, Unrelocated, Absolute, Beyond, CommonCalled, Outgrown, OddPlace}
+use Rattle.checks.specs.declared.referent.Mismatch.TheVariants.{DataCalled, TextTouched}
 use Rattle.checks.specs.{declared.referent.Referent.Referent, declared.referent.Access.Access, declared.referent.Mismatch.Mismatch}
 use Rattle.checks.specs.{declared.evidence.Evidence.Evidence, declared.trust.Trust.Trust, Reached.is_promised}
 use Rattle.checks.specs.Branches.{word_place}
@@ -78,8 +80,11 @@ abbrev pub common_size : Option Symbol → ℕ
 common_size None = 0
 common_size (Some s) = if is_undefined s then s.value else 0
 
-abbrev pub wrong_place : Access → ℕ → Option Mismatch
-wrong_place access n = if goes access && eqb (n % 2) 1 then Some (OddPlace n) else None
+-- a place in text, or one from there at a distance that no link changes; by the promise text has only instructions
+abbrev pub wrong_place : Contents → Bool → Access → ℕ → Option Mismatch
+wrong_place c promised Goes n = if eqb (n % 2) 1 then Some (OddPlace n) else None
+wrong_place c promised Touches n = if promised && nat_lt n (2 * length c.text_words) then Some (TextTouched n) else None
+wrong_place c promised Neither n = None
 
 -- n bytes beyond an external of so many bytes
 abbrev pub wrong_external : Access → ℕ → ℕ → Option Mismatch
@@ -88,15 +93,15 @@ wrong_external Touches n size = if not (eqb size 0) && nat_le size n then Some (
 wrong_external Neither n size = None
 
 -- what is wrong with what a word refers to
-abbrev pub mismatch_of : Contents → Access → Referent → Option Mismatch
-mismatch_of c access Nothing = None
-mismatch_of c access (Number n) =
+abbrev pub mismatch_of : Contents → Bool → Access → Referent → Option Mismatch
+mismatch_of c promised access Nothing = None
+mismatch_of c promised access (Number n) =
     if is_storage c.header n && list_any (is_stored_at n) c.symbols then Some (Unmarked n) else None
-mismatch_of c access (Near n) = if is_after_text c access n then Some (Unrelocated n) else wrong_place access n
-mismatch_of c access (Fixed n) = if is_storage c.header n then Some (Absolute n) else None
-mismatch_of c access (InText n) = wrong_place access n
-mismatch_of c access (InData n) = if goes access then Some (DataCalled n) else None
-mismatch_of c access (External k n) = wrong_external access n (common_size (slice_get c.symbols k))
+mismatch_of c promised access (Near n) = if is_after_text c access n then Some (Unrelocated n) else wrong_place c promised access n
+mismatch_of c promised access (Fixed n) = if is_storage c.header n then Some (Absolute n) else None
+mismatch_of c promised access (InText n) = wrong_place c promised access n
+mismatch_of c promised access (InData n) = if goes access then Some (DataCalled n) else None
+mismatch_of c promised access (External k n) = wrong_external access n (common_size (slice_get c.symbols k))
 
 -- it is sure if the line is, by the promise or without it
 abbrev pub is_certain : Bool → Mismatch → Bool
@@ -111,7 +116,7 @@ is_certain promised _ = true
 abbrev pub suspicious_reference : Evidence → Contents → Trust → ℕ → Bool → Option Operand → ℕ → List Found
 suspicious_reference e c t place jumps (Some (General m r)) word =
     found_by (addressing m r) (λ a. found_by (slice_get c.text_reloc place) (λ reloc.
-    found_by (mismatch_of c (access_by jumps a) (referred (counts_from_pc a) reloc (2 * place + 2) word)) (λ wrong.
+    found_by (mismatch_of c (is_promised e) (access_by jumps a) (referred (counts_from_pc a) reloc (2 * place + 2) word)) (λ wrong.
     found_as (t.is_sure && is_certain (is_promised e) wrong) true (word_place place) UnsuitableReference)))
 suspicious_reference e c t place jumps _ word = []
 

@@ -10,7 +10,7 @@ use Rattle.instructions.specs.{declared.unix.UnixLine.TheVariants.Machine, Modes
 use Rattle.disassemblies.specs.Lines.{unix_line_in}
 use Rattle.checks.specs.Found.{Found}
 use Rattle.checks.specs.{declared.evidence.Evidence.Evidence, declared.evidence.Evidence.TheVariants.Promise, Reached.branch_of}
-use Rattle.checks.specs.{ReachedLaw.IsReached, Trust.is_sure, Suspicions.{is_foreign, is_immediate, suspicions}}
+use Rattle.checks.specs.{ReachedLaw.IsReached, Trust.is_sure, Suspicions.{is_immediate, suspicions}}
 
 -- none of these is sure
 abbrev pub NoneIsSure : List Found → Type 0
@@ -33,9 +33,9 @@ abbrev pub AreInside : Evidence → Contents → List (Option ℕ) → Type 0
 AreInside e c [] = Unit {0}
 AreInside e c (o ∷ os) = IsInside e c o × AreInside e c os
 
--- a whole instruction or a call, or a word that begins one of another PDP-11
+-- a whole instruction or a call
 abbrev pub is_whole : UnixLine → Bool
-is_whole (Machine (Plain w)) = is_foreign w
+is_whole (Machine (Plain w)) = false
 is_whole _ = true
 
 -- it is so at each sure place, and the branches there are inside

@@ -8,8 +8,8 @@
 -- text or to its end, and not within an instruction.
 --
 -- What is found at a sure place is sure, except for the pc bit of `$N`, which code that runs at any address may have, as in
--- `add $_x-.,r0`. A word that begins an instruction of another PDP-11 is not suspicious.
-use Rattle.std.specs.Prelude.{ℕ, ◌+◌, ◌-◌, ◌*◌, ◌/◌, Bool, true, false, not, ◌&&◌, ◌||◌, eqb, nat_lt, if◌then◌else◌, List, [], ◌∷◌, ◌++◌, slice_get}
+-- `add $_x-.,r0`.
+use Rattle.std.specs.Prelude.{ℕ, ◌+◌, ◌-◌, ◌*◌, ◌/◌, Bool, true, false, not, ◌&&◌, ◌||◌, nat_lt, if◌then◌else◌, List, [], ◌∷◌, ◌++◌, slice_get}
 use Rattle.std.specs.Prelude.{Option, Some, None}
 use Rattle.aout_core.specs.{Contents.Contents, Encoding.relocation_at, WellFormed.is_pc_relative}
 use Rattle.instructions.specs.{declared.mode.Addressing.Addressing, declared.mode.Addressing.TheVariants.Immediate}
@@ -54,22 +54,17 @@ suspicious_operand c is_sure place (Some (General m r)) =
     (reloc_place c place) UnsuitablePcBit))
 suspicious_operand c is_sure place _ = []
 
--- a word begins an instruction of another PDP-11: `mtps`, `mfps`, or one of the floating or the commercial instruction set
-abbrev pub is_foreign : ℕ → Bool
-is_foreign w = eqb (w / 0o100) 0o1064 || (eqb (w / 0o100) 0o1067 || (eqb (w / 0o40) 0o1720 || eqb (w / 0o1000) 0o76))
-
 -- a word that begins no line of more words, by the instruction that it would begin
-abbrev pub suspicious_lack : Bool → ℕ → ℕ → Option Instruction → List Found
-suspicious_lack is_sure place w None =
-    found_as is_sure (not (is_foreign w)) (word_place place) NoInstruction
-suspicious_lack is_sure place w (Some i) = found_as is_sure true (word_place place) CutInstruction
+abbrev pub suspicious_lack : Bool → ℕ → Option Instruction → List Found
+suspicious_lack is_sure place None = found_as is_sure true (word_place place) NoInstruction
+suspicious_lack is_sure place (Some i) = found_as is_sure true (word_place place) CutInstruction
 
 -- a plain word at a place
 abbrev pub suspicious_plain : Contents → Trust → ℕ → ℕ → List Found
 suspicious_plain c t place w =
     if is_relocated (slice_get c.text_reloc place)
     then found_as t.is_sure (t.is_reached || may_begin c place) (reloc_place c place) RelocatedFirstWord
-    else (if t.is_reached then suspicious_lack t.is_sure place w (instruction_of w) else [])
+    else (if t.is_reached then suspicious_lack t.is_sure place (instruction_of w) else [])
 
 -- the line at a place, by the evidence of the lines that a branch may enter
 abbrev pub suspicious_line : Evidence → Contents → Trust → ℕ → UnixLine → List Found

@@ -15,8 +15,8 @@ pub fn reached_law()
 
 /// What a text shows by it that nothing is suspicious in it for sure. (own choice)
 ///
-/// - `lines`: a whole instruction or a call begins at each sure place, or one of another PDP-11. A branch there leads into the text or to
-///   its end. If all of the text is instructions, it does not lead within one.
+/// - `lines`: a whole instruction or a call begins at each sure place. A branch there leads into the text or to its end. If all
+///   of the text is instructions, it does not lead within one.
 /// - `words`: no word at a sure place is relocated. Each operand word of the instruction there that is relocated has the pc bit exactly
 ///   if its operand counts from the pc; but that of `$N` may have it, in code that runs at any address.
 pub fn sure_law()

@@ -1,7 +1,7 @@
 //! The addresses to which a line leads.
 ghost use Rattle.std.specs.{Prelude.{◌≡◌, ◌<◌, ◌≤◌, ◌+◌, ◌*◌, length, slice_get}, List.list_any};
 ghost use Rattle.instructions.specs.UnixLines.{unix_length};
-ghost use Rattle.checks.specs.Reached.{is_pc_itself, only_reads, ends_with_pc, counts_down, may_write_pc, passes, is_csv, is_external_csv, is_csv_at, refers_to_csv, calls_csv, flows, is_promised, may_leave, is_between, is_followed, goes_on, next_of, parent_of, branch_of, is_own_distance, is_own_address, jump_by, jump};
+ghost use Rattle.checks.specs.Reached.{is_pc_itself, only_reads, ends_with_pc, counts_down, may_write_pc, passes, is_csv, is_external_csv, is_csv_at, refers_to_csv, calls_csv, flows, is_promised, may_leave, is_between, is_followed, takes_more, goes_on, next_of, parent_of, branch_of, is_own_distance, is_own_address, jump_by, jump};
 
 use crate::evidence::Evidence;
 use aout_core::{File, Reloc, Segment, Symbol};
@@ -82,7 +82,8 @@ fn passes(operation: Operation, comes_back: bool) -> bool
     use Operation::*;
     match operation {
         Jsr => comes_back,
-        Br | Jmp | Rts | Rti | Rtt | Halt | Mark | Bpt | Iot | Emt | Sys => false,
+        Br | Jmp | Rts | Rti | Rtt | Halt | Mark | Bpt | Iot | Emt | Sys | Csm | Commercial =>
+            false,
         _ => true,
     }
 }
@@ -194,6 +195,13 @@ fn is_followed(evidence: Evidence, file: &File, place: usize, line: &UnixLine) -
     is_promised(evidence) && !has_between(file, 2 * place, 2 * (place + line.length()))
 }
 
+/// Whether an instruction may have operands in the words after its line.
+fn takes_more(operation: Operation) -> bool
+    ensures { result ≡ takes_more operation }
+{
+    matches!(operation, Operation::Commercial)
+}
+
 /// Whether the line at a place leads to the one after it.
 fn goes_on(evidence: Evidence, file: &File, place: usize, line: &UnixLine) -> bool
     requires { place + unix_length line.now < 32768 }
@@ -204,7 +212,8 @@ fn goes_on(evidence: Evidence, file: &File, place: usize, line: &UnixLine) -> bo
         UnixLine::Machine(Line::Plain(_)) => false,
         UnixLine::Machine(Line::Decoded(instruction, _, _)) => {
             (!(is_flow && may_leave(instruction)) && flows(file, place, instruction))
-                || is_followed(evidence, file, place, line)
+                || (is_followed(evidence, file, place, line)
+                    && !takes_more(instruction.row.operation))
         }
         UnixLine::Call(row) => {
             (!is_flow && !matches!(row.call, SystemCall::Exit | SystemCall::Indir))

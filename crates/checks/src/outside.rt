@@ -1,12 +1,14 @@
 //! Whether an address outside of its segment is a fault for sure.
-ghost use Rattle.std.specs.{Prelude.{◌≡◌, ◌^◌, ◌<◌, length}, List.list_any};
+ghost use Rattle.std.specs.{Prelude.{◌≡◌, ◌^◌, ◌<◌, length, slice_get, zip}, List.list_any};
 ghost use Rattle.aout_core.specs.Placed.{words_of};
-ghost use Rattle.checks.specs.Outside.{is_byte, is_far, is_moved, is_at_address, is_direct_in, is_direct_back, is_direct, is_sure_word, is_sure_value};
+ghost use Rattle.disassemblies.specs.Naming.{is_at};
+ghost use Rattle.checks.specs.Outside.{is_byte, is_far, is_moved, is_at_address, is_direct_in, is_direct_back, is_direct, is_unmarked, is_shown};
+ghost use Rattle.checks.specs.Outside.{is_sure_word, refers_at, is_inside, is_base, is_sure_value};
 
 use crate::places::{has_address, range_of};
 use aout_core::{File, Header, Part, Reloc, Segment, Symbol};
 use disassemblies::Sweep;
-use instructions::{Addressing, Line, Operand, UnixLine};
+use instructions::{Addressing, Line, Operand, UnixLine, is_relocated};
 
 /// Whether a byte is not NUL.
 pub(crate) fn has_byte(bytes: &[u8]) -> bool
@@ -90,6 +92,41 @@ fn is_direct(sweep: &Sweep<'_>, part: Part, number: usize) -> bool
     }
 }
 
+/// Whether a symbol of a segment has an address.
+fn has_symbol_at(file: &File, segment: Segment, address: u64) -> bool
+    ensures { result ≡ list_any (is_at segment address) file.now.symbols }
+{
+    file.symbols().iter().any(|symbol| symbol.is_of(segment) && u64::from(symbol.value) == address)
+}
+
+/// Whether word `number` of data, if there is one, is not relocated and has the address of a symbol of a segment.
+fn is_unmarked(file: &File, segment: Segment, number: usize) -> bool
+    ensures { result ≡ is_unmarked file.now segment
+        (slice_get file.now.data_words number) (slice_get file.now.data_reloc number) }
+{
+    let Some(word) = file.data_words().get(number) else {
+        return false;
+    };
+    !is_relocated(file.data_reloc().get(number).copied())
+        && has_symbol_at(file, segment, u64::from(*word))
+}
+
+/// Whether something shows that a word of a part, which refers to an address far outside of this segment, has the wrong address or kind.
+fn is_shown(sweep: &Sweep<'_>, part: Part, number: usize, segment: Segment) -> bool
+    requires { number < length (words_of sweep.now part) }
+    ensures { result ≡ is_shown sweep.now part number segment }
+{
+    let file = sweep.file();
+    match part {
+        Part::Text => sweep.is_start(number),
+        Part::Data => {
+            let is_inside = number < file.data_words().len();
+            prove!(is_inside);
+            is_unmarked(file, segment, number + 1)
+        }
+    }
+}
+
 /// Whether a word of a part is a fault for sure that refers to an address outside of this segment.
 pub(crate) fn is_sure_word(
     sweep: &Sweep<'_>,
@@ -103,9 +140,41 @@ pub(crate) fn is_sure_word(
     ensures { result ≡ is_sure_word sweep.now part number segment reloc address }
 {
     let file = sweep.file();
+    let start = u64::from(range_of(file.header(), segment).start);
     reloc.is_pc()
-        || is_direct(sweep, part, number)
-        || (is_far(file.header(), segment, address) && !is_moved(file))
+        || (!is_moved(file)
+            && (is_direct(sweep, part, number)
+                || (is_far(file.header(), segment, address)
+                    && (has_symbol_at(file, segment, u64::from(address) + start)
+                        || is_shown(sweep, part, number, segment)))))
+}
+
+/// Whether one of these words refers to an address of a segment, and not from the pc.
+fn has_word_to(words: &[u16], relocs: &[Reloc], segment: Segment, address: u16) -> bool
+    ensures { result ≡ list_any (refers_at segment address) (zip words.now relocs.now) }
+{
+    words.iter().zip(relocs).any(|(word, reloc)| {
+        *word == address && reloc.0 % 16 + 2 == 2 * segment.number()
+    })
+}
+
+/// Whether a symbol of a segment lies inside of it.
+fn has_inner(file: &File, segment: Segment) -> bool
+    ensures { result ≡ list_any (is_inside file.now.header segment) file.now.symbols }
+{
+    let header = file.header();
+    file.symbols().iter().any(|symbol| {
+        symbol.is_of(segment) && has_address(header, segment, symbol.value)
+    })
+}
+
+/// Whether words count from an address outside of a segment, and a symbol lies inside, as in `base = table-2`.
+fn is_base(file: &File, segment: Segment, address: u16) -> bool
+    ensures { result ≡ is_base file.now segment address }
+{
+    has_inner(file, segment)
+        && (has_word_to(file.text_words(), file.text_reloc(), segment, address)
+            || has_word_to(file.data_words(), file.data_reloc(), segment, address))
 }
 
 /// Whether a symbol is a fault for sure whose value is outside of its segment.
@@ -114,5 +183,5 @@ pub(crate) fn is_sure_value(file: &File, symbol: &Symbol) -> bool
 {
     !symbol.is_of(Segment::TextSeg)
         && (symbol.is_external() || is_far(file.header(), symbol.segment(), symbol.value))
-        && !is_moved(file)
+        && !(is_moved(file) || is_base(file, symbol.segment(), symbol.value))
 }

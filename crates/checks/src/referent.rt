@@ -2,7 +2,7 @@
 ghost use Rattle.std.specs.{Prelude.{◌≡◌, ◌<◌, ◌≤◌, option_map}, List.list_any};
 ghost use Rattle.aout_core.specs.WellFormed.{kind_of};
 ghost use Rattle.checks.specs.{Segments.bss_to, Found.Finds};
-ghost use Rattle.checks.specs.Referents.{referent_of, referred, access_by, goes, is_after_text, is_storage, is_stored_at, common_size};
+ghost use Rattle.checks.specs.Referents.{referent_of, referred, access_by, goes, is_after_text, is_storage, is_stored_at, common_size, wrong_place};
 ghost use Rattle.checks.specs.Referents.{wrong_external, mismatch_of, is_certain, suspicious_reference, suspicious_references};
 
 use crate::finding::{FindingKind, Findings};
@@ -59,6 +59,8 @@ pub(crate) enum Mismatch {
     OddPlace(u16),
     /// A call leads to an address in data or bss.
     DataCalled(u16),
+    /// An instruction reads or writes memory at an address in text.
+    TextTouched(u16),
 }
 
 /// What a number refers to, by the kind of its relocation word.
@@ -171,9 +173,21 @@ fn wrong_external(access: Access, beyond: u16, size: u16) -> Option<Mismatch>
     }
 }
 
+/// What is wrong with a place in text, or from there at a distance that no link changes. By the promise text has only instructions.
+fn wrong_place(file: &File, promised: bool, access: Access, address: u16) -> Option<Mismatch>
+    ensures { result ≡ wrong_place file.now promised access address }
+{
+    let is_inside = usize::from(address) < 2 * file.text_words().len();
+    match access {
+        Access::Goes if address % 2 == 1 => Some(Mismatch::OddPlace(address)),
+        Access::Touches if promised && is_inside => Some(Mismatch::TextTouched(address)),
+        Access::Goes | Access::Touches | Access::Neither => None,
+    }
+}
+
 /// What is wrong with what a word refers to.
-fn mismatch_of(file: &File, access: Access, referent: Referent) -> Option<Mismatch>
-    ensures { result ≡ mismatch_of file.now access referent }
+fn mismatch_of(file: &File, promised: bool, access: Access, referent: Referent) -> Option<Mismatch>
+    ensures { result ≡ mismatch_of file.now promised access referent }
 {
     match referent {
         Referent::Number(number)
@@ -184,7 +198,7 @@ fn mismatch_of(file: &File, access: Access, referent: Referent) -> Option<Mismat
             Some(Mismatch::Unrelocated(address))
         }
         Referent::Near(address) | Referent::InText(address) => {
-            (goes(access) && address % 2 == 1).then_some(Mismatch::OddPlace(address))
+            wrong_place(file, promised, access, address)
         }
         Referent::Fixed(address) if is_storage(file.header(), address) => {
             Some(Mismatch::Absolute(address))
@@ -207,7 +221,10 @@ fn is_certain(promised: bool, mismatch: Mismatch) -> bool
         Mismatch::Absolute(address) => address >= 0o1000,
         Mismatch::Beyond(number) => number % 2 == 1,
         Mismatch::CommonCalled(_) | Mismatch::DataCalled(_) => promised,
-        Mismatch::Unrelocated(_) | Mismatch::Outgrown(_) | Mismatch::OddPlace(_) => true,
+        Mismatch::Unrelocated(_)
+        | Mismatch::Outgrown(_)
+        | Mismatch::OddPlace(_)
+        | Mismatch::TextTouched(_) => true,
     }
 }
 
@@ -260,6 +277,11 @@ impl Display for Said {
                 " is of a call or a jump, and refers to {n:06o}, which is in data or bss{doubt}: \
              a word that refers to text has relocation word 2, or 3 from the pc"
             ),
+            Mismatch::TextTouched(n) => write!(
+                f,
+                " has its operand in memory at {n:06o}, which is in text{doubt}: \
+             what an instruction reads or writes is in data or bss, of relocation word 4 or 6, or 5 or 7 from the pc"
+            ),
         }
     }
 }
@@ -296,10 +318,14 @@ fn find_reference(
     };
     let next = (2 * placed.place + 2) as u32;
     let referent = referred(addressing.counts_from_pc(), reloc, next, placed.word);
-    let Some(mismatch) = mismatch_of(file, access_by(placed.jumps, addressing), referent) else {
+    let (promised, access) = (
+        is_promised(at.lines.evidence),
+        access_by(placed.jumps, addressing),
+    );
+    let Some(mismatch) = mismatch_of(file, promised, access, referent) else {
         return;
     };
-    let is_sure = at.trust.is_sure && is_certain(is_promised(at.lines.evidence), mismatch);
+    let is_sure = at.trust.is_sure && is_certain(promised, mismatch);
     let (address, said) = (2 * placed.place, Said { mismatch, is_sure });
     at.find(
         findings,

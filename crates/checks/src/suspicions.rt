@@ -3,7 +3,7 @@ ghost use Rattle.std.specs.Prelude.{◌≡◌, ◌^◌, ◌<◌, length, IfOk};
 ghost use Rattle.instructions.specs.Instructions.{instruction_of};
 ghost use Rattle.checks.specs.{Found.{each_found, Finds}, Trust.trust, Branches.of_lines, internal.Marks.ShowReached};
 ghost use Rattle.checks.specs.declared.evidence.Evidence.TheVariants.{Names};
-ghost use Rattle.checks.specs.Suspicions.{reloc_place, may_begin, suspicious_operand, is_foreign, suspicious_lack, suspicious_plain};
+ghost use Rattle.checks.specs.Suspicions.{reloc_place, may_begin, suspicious_operand, suspicious_lack, suspicious_plain};
 ghost use Rattle.checks.specs.Suspicions.{suspicious_line, suspicious_at, suspicious_place, suspicious_words, suspicions, all_odd};
 
 use crate::addresses::find_addresses;
@@ -75,26 +75,16 @@ fn find_operand(findings: &mut Findings, at: &Suspect<'_>, place: usize, operand
     }
 }
 
-/// Whether a word begins an instruction of another PDP-11.
-fn is_foreign(word: u16) -> bool
-    ensures { result ≡ is_foreign word }
-{
-    word / 0o100 == 0o1064
-        || word / 0o100 == 0o1067
-        || word / 0o40 == 0o1720
-        || word / 0o1000 == 0o76
-}
-
 /// Adds a plain word at a place that is reached.
 fn find_lack(findings: &mut Findings, at: &Suspect<'_>, word: u16)
     ensures { Finds findings.old findings.new
-        (suspicious_lack at.now.trust.is_sure at.now.start word (instruction_of word)) }
+        (suspicious_lack at.now.trust.is_sure at.now.start (instruction_of word)) }
 {
     let place = word_place(at.start);
     if Instruction::from_first_word(word).is_some() {
         let (before, after) = ("the instruction at", " is cut by the end of the text");
         at.find_here(findings, place, FindingKind::CutInstruction, before, after);
-    } else if !is_foreign(word) {
+    } else {
         let (before, after) = ("an instruction leads to", ", where none begins");
         at.find_here(findings, place, FindingKind::NoInstruction, before, after);
     }

@@ -141,6 +141,11 @@ fn put_call(text: &mut Text, file: &NamedFile<'_>, place: usize, call: &CallRow)
     }
 }
 
+/// Whether an operand may refer to something: it has a word, or is the target of a branch.
+fn may_refer(operand: Option<Operand>, word: Option<u16>) -> bool {
+    word.is_some() || matches!(operand, Some(Operand::Forward(_) | Operand::Backward(_)))
+}
+
 /// Appends an instruction or a plain word, which is at a place of the text and is not relocated.
 fn put_machine_line(text: &mut Text, file: &NamedFile<'_>, place: usize, line: &Line) {
     let mut references = References {
@@ -149,8 +154,12 @@ fn put_machine_line(text: &mut Text, file: &NamedFile<'_>, place: usize, line: &
     };
     if let Line::Decoded(instruction, word, other) = line {
         let (first, second) = spots(place, instruction);
-        references.first = operand_reference(file, first, instruction.first, *word);
-        references.second = operand_reference(file, second, instruction.second, *other);
+        if may_refer(instruction.first, *word) {
+            references.first = operand_reference(file, first, instruction.first, *word);
+        }
+        if may_refer(instruction.second, *other) {
+            references.second = operand_reference(file, second, instruction.second, *other);
+        }
     }
     let address = (place.wrapping_mul(2) % 65536) as u16;
     line.put_text_with(address, &references, text);

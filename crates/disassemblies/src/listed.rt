@@ -7,6 +7,7 @@ ghost use Rattle.disassemblies.specs.Listed.{listed_line, is_plain_line};
 ghost use Rattle.disassemblies.specs.internal.Labelled.{AreLabelled, any_marked};
 
 use crate::line::{reloc_at, unix_line_in};
+use crate::named::NamedFile;
 use crate::naming::is_at;
 use aout_core::{File, Segment, Symbol};
 use instructions::{Decoder, Line, UnixLine, is_relocated};
@@ -151,9 +152,17 @@ pub(crate) fn is_plain_line(line: &UnixLine) -> bool
     }
 }
 
-/// Whether a label cuts the line at a place.
-pub(crate) fn is_cut(decoder: Decoder, file: &File, place: usize, line: &UnixLine) -> bool {
+/// Whether a label cuts the line at a place. It would name one of the four words after it.
+pub(crate) fn is_cut(
+    decoder: Decoder,
+    named: &NamedFile<'_>,
+    place: usize,
+    line: &UnixLine,
+) -> bool {
+    let file = named.file();
+    let next = (place.wrapping_mul(2).wrapping_add(2) % 65536) as u16;
     is_plain_line(line)
         && place < file.text_words().len()
+        && !named.is_bare(next, 3)
         && !is_plain_line(&unix_line_in(decoder, file, place))
 }

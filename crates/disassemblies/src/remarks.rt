@@ -80,6 +80,16 @@ fn put_perhaps_at(text: &mut Text, file: &NamedFile<'_>, fetches: bool, number: 
     }
 }
 
+/// Appends the nearest label at or before an address that an operand of mode 37, 67 or 77 has.
+fn put_near(text: &mut Text, file: &NamedFile<'_>, fetches: bool, address: u16) {
+    if let Some(segment) = segment_at(file.file().header(), fetches, address)
+        && let Some(reference) = file.names().nearest_label(segment, address)
+    {
+        text.put(" / perhaps ");
+        reference.put_text(text);
+    }
+}
+
 /// Appends the remark on an operand word without relocation.
 fn put_unrelocated(
     text: &mut Text,
@@ -91,29 +101,30 @@ fn put_unrelocated(
     let Some(Operand::General(mode, register)) = operand else {
         return;
     };
-    match mode.addressing(register) {
-        Some(Addressing::Immediate) => put_perhaps_at(text, file, false, number),
-        Some(Addressing::Absolute)
-            if operand_reference(file, spot, operand, Some(number)).is_none() => {
-            put_perhaps_at(text, file, spot.operation.jumps(), number);
-        }
-        _ => {}
+    let jumps = spot.operation.jumps();
+    let (fetches, address) = match mode.addressing(register) {
+        Some(Addressing::Immediate) => return put_perhaps_at(text, file, false, number),
+        Some(Addressing::Absolute) => (jumps, number),
+        Some(Addressing::Relative) => (jumps, spot.next.wrapping_add(number)),
+        Some(Addressing::RelativeDeferred) => (false, spot.next.wrapping_add(number)),
+        Some(Addressing::Indexed) | None => return,
+    };
+    if operand_reference(file, spot, operand, Some(number)).is_none() {
+        put_near(text, file, fetches, address);
     }
 }
 
+/// Appends the remark on the word of an operand.
 fn put_operand(
     text: &mut Text,
     file: &NamedFile<'_>,
     spot: Spot,
     operand: Option<Operand>,
-    word: Option<u16>,
+    number: u16,
 ) {
-    let Some(number) = word else {
-        return;
-    };
     match reloc_at(file.file(), spot.place) {
         Some(reloc) if is_relocated(Some(reloc)) => {
-            let reference = operand_reference(file, spot, operand, word);
+            let reference = operand_reference(file, spot, operand, Some(number));
             put_target(text, file, reloc, number, spot.place, reference);
         }
         Some(_) => {}
@@ -146,8 +157,12 @@ fn put_instruction(
     words: (Option<u16>, Option<u16>),
 ) {
     let (first, second) = spots(place, instruction);
-    put_operand(text, file, first, instruction.first, words.0);
-    put_operand(text, file, second, instruction.second, words.1);
+    if let Some(number) = words.0 {
+        put_operand(text, file, first, instruction.first, number);
+    }
+    if let Some(number) = words.1 {
+        put_operand(text, file, second, instruction.second, number);
+    }
 }
 
 /// Appends the text of the line that a listing shows at a place, and its remarks.
@@ -159,7 +174,7 @@ pub(crate) fn put_remarked_text(
     line: &UnixLine,
 ) {
     put_text_of(text, file, place, line);
-    if is_cut(decoder, file.file(), place, line) {
+    if is_cut(decoder, file, place, line) {
         text.put(" / cut by a label");
     }
     match line {

@@ -34,6 +34,7 @@ part_most (Some fields.LowRegister) w = omega arith
 part_most (Some fields.Accumulator) w = omega arith
 part_most (Some fields.Forward) w = omega arith
 part_most (Some fields.Backward) w = omega arith
+part_most (Some fields.NineBits) w = omega arith
 part_most (Some fields.Byte) w = omega arith
 part_most (Some fields.SixBits) w = omega arith
 part_most (Some fields.ThreeBits) w = omega arith

@@ -2,7 +2,7 @@
 use Rattle.std.specs.Prelude.{ℕ}
 use Rattle.instructions.specs.declared.field.Field.{Field}
 use Rattle.instructions.specs.declared.field.Field.TheVariants.{Source, Destination, Floating, Register, LowRegister, Accumulator, Forward}
-use Rattle.instructions.specs.declared.field.Field.TheVariants.{Backward, Byte, SixBits, ThreeBits}
+use Rattle.instructions.specs.declared.field.Field.TheVariants.{Backward, NineBits, Byte, SixBits, ThreeBits}
 
 abbrev pub place : Field → ℕ
 place Source = 0o100
@@ -22,3 +22,4 @@ size ThreeBits = 0o10
 size Accumulator = 4
 size Forward = 0o400
 size Byte = 0o400
+size NineBits = 0o1000

@@ -19,6 +19,7 @@ operand_of fields.LowRegister v = Register (register_numbered v)
 operand_of fields.Accumulator v = Accumulator v
 operand_of fields.Forward v = Forward v
 operand_of fields.Backward v = Backward v
+operand_of fields.NineBits v = Number v
 operand_of fields.Byte v = Number v
 operand_of fields.SixBits v = Number v
 operand_of fields.ThreeBits v = Number v

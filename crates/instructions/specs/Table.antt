@@ -1,9 +1,9 @@
--- The table of instructions. (as(1); the handbook of the PDP-11/70)
+-- The table of instructions. (as(1); the handbooks of the PDP-11/70 and of other PDP-11s)
 --
 -- Read each line aloud: the operands in the order of the text, and then, for each instruction, the word whose fields are all 0 and the
--- operation. Fields has the bits of each operand, Names the name of each operation. The lines are in the order of the assembler's
--- manual. What is left out (own choice) are instructions of other machines of the family, as mfpt, csm, tstset, wrtlck, mtps, mfps, fadd
--- to fdiv and the commercial set, and those for the maintenance of the floating-point processor, 170003 to 170007.
+-- operation. Fields has the bits of each operand. The lines are in the order of the assembler's manual, and at their end are those of
+-- other machines of the family. What is left out (own choice) are those for the maintenance of the floating-point processor, 170003 to
+-- 170007.
 use Rattle.std.specs.Prelude.{ℕ, Option, Some, None, List, [], ◌∷◌, ◌++◌, map}
 use Rattle.instructions.specs.declared.operation.Operation.TheVariants.{Clc, Clv, Clz, Cln, Sec, Sev, Sez, Sen, Halt, ClcClv, ClcClz}
 use Rattle.instructions.specs.declared.operation.Operation.TheVariants.{ClvClz, ClcClvClz, ClcCln, ClvCln, ClcClvCln, ClzCln, ClcClzCln}
@@ -17,7 +17,8 @@ use Rattle.instructions.specs.declared.operation.Operation.TheVariants.{Cmp, Cmp
 use Rattle.instructions.specs.declared.operation.Operation.TheVariants.{Div, Ash, Ashc, Rts, Br, Bne, Beq, Bge, Blt, Bgt, Ble, Bpl, Bmi}
 use Rattle.instructions.specs.declared.operation.Operation.TheVariants.{Bhi, Blos, Bvc, Bvs, Bcc, Bcs, Sob, Sys, Emt, Mark, Spl, Clrf, Tstf}
 use Rattle.instructions.specs.declared.operation.Operation.TheVariants.{Absf, Negf, Mulf, Modf, Addf, Movf, Subf, Cmpf, Divf, Movof, Movfo}
-use Rattle.instructions.specs.declared.operation.Operation.TheVariants.{Movei, Movfi, Movie, Movif}
+use Rattle.instructions.specs.declared.operation.Operation.TheVariants.{Movei, Movfi, Movie, Movif, Mfpt, Csm, Tstset, Wrtlck, Mtps, Mfps}
+use Rattle.instructions.specs.declared.operation.Operation.TheVariants.{Fadd, Fsub, Fmul, Fdiv, Commercial}
 use Rattle.instructions.specs.{declared.field.Field.Field, declared.operation.Operation.Operation, declared.table.Row.Row}
 use Rattle.instructions.specs.declared.field.Field.TheVariants as fields
 
@@ -71,3 +72,8 @@ table =
     ++ rows_with (Some fields.Accumulator) (Some fields.Floating) ((0o174000, Movf) ∷ (0o176000, Movfo) ∷ [])
     ++ rows_with (Some fields.Accumulator) (Some fields.Destination) ((0o175000, Movei) ∷ (0o175400, Movfi) ∷ [])
     ++ rows_with (Some fields.Destination) (Some fields.Accumulator) ((0o176400, Movie) ∷ (0o177000, Movif) ∷ [])
+    ++ rows_with None None ((0o000007, Mfpt) ∷ [])
+    ++ rows_with (Some fields.Destination) None
+    ((0o007000, Csm) ∷ (0o007200, Tstset) ∷ (0o007300, Wrtlck) ∷ (0o106400, Mtps) ∷ (0o106700, Mfps) ∷ [])
+    ++ rows_with (Some fields.LowRegister) None ((0o075000, Fadd) ∷ (0o075010, Fsub) ∷ (0o075020, Fmul) ∷ (0o075030, Fdiv) ∷ [])
+    ++ rows_with (Some fields.NineBits) None ((0o076000, Commercial) ∷ [])

@@ -21,6 +21,8 @@ pub enum Field {
     Forward,
     /// Bits 5 to 0: an offset in words backwards, to the target of `sob`.
     Backward,
+    /// Bits 8 to 0: a number.
+    NineBits,
     /// Bits 7 to 0: a number.
     Byte,
     /// Bits 5 to 0: a number.
@@ -50,6 +52,7 @@ impl Field {
             Field::Register | Field::LowRegister | Field::ThreeBits => 0o10,
             Field::Accumulator => 4,
             Field::Forward | Field::Byte => 0o400,
+            Field::NineBits => 0o1000,
         }
     }
 }

@@ -40,7 +40,9 @@ impl Operand {
             Field::Accumulator => Operand::Accumulator(value),
             Field::Forward => Operand::Forward(value),
             Field::Backward => Operand::Backward(value),
-            Field::Byte | Field::SixBits | Field::ThreeBits => Operand::Number(value),
+            Field::NineBits | Field::Byte | Field::SixBits | Field::ThreeBits => {
+                Operand::Number(value)
+            }
         }
     }
 

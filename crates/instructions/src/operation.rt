@@ -3,7 +3,7 @@ ghost use Rattle.std.specs.Prelude.{◌≡◌};
 ghost use Rattle.instructions.specs.Instructions.{jumps};
 
 /// What an instruction does, named as the assembler names it. If as(1) has no name, it is that of the processor
-/// handbook. (as(1), the handbook of the PDP-11/70)
+/// handbook. From `Mfpt` on they are of other PDP-11s than the 11/70. (as(1), the handbooks)
 #[derive(Clone, Copy, Debug, PartialEq, Eq)]
 pub enum Operation {
     Clc,
@@ -140,6 +140,18 @@ pub enum Operation {
     Movfi,
     Movie,
     Movif,
+    Mfpt,
+    Csm,
+    Tstset,
+    Wrtlck,
+    Mtps,
+    Mfps,
+    Fadd,
+    Fsub,
+    Fmul,
+    Fdiv,
+    /// One of the commercial instruction set: its number says which.
+    Commercial,
 }
 
 /// The name of a variant.
@@ -149,7 +161,7 @@ macro_rules! named {
 
 impl Operation {
     /// The name in the text. `Movf` with an accumulator as the first of its operands at 172400 is shown as `ldf`, which no
-    /// operation here is. (as(1))
+    /// operation here is, and `Commercial` by the name that its number has, if it has one. (as(1), the handbooks)
     pub fn name(self) -> &'static str {
         named!(
             self;
@@ -168,7 +180,8 @@ impl Operation {
             Bmi "bmi", Bhi "bhi", Blos "blos", Bvc "bvc", Bvs "bvs", Bcc "bcc", Bcs "bcs", Sob "sob", Sys "sys", Emt "emt",
             Mark "mark", Spl "spl", Clrf "clrf", Tstf "tstf", Absf "absf", Negf "negf", Mulf "mulf", Modf "modf", Addf "addf",
             Movf "movf", Subf "subf", Cmpf "cmpf", Divf "divf", Movof "movof", Movfo "movfo", Movei "movei", Movfi "movfi",
-            Movie "movie", Movif "movif",
+            Movie "movie", Movif "movif", Mfpt "mfpt", Csm "csm", Tstset "tstset", Wrtlck "wrtlck", Mtps "mtps", Mfps "mfps",
+            Fadd "fadd", Fsub "fsub", Fmul "fmul", Fdiv "fdiv", Commercial "cis",
         )
     }
 

@@ -3,7 +3,7 @@ use crate::field::Field;
 use crate::operation::Operation;
 
 /// A row of the table. The first word of each of its instructions is the base plus the fields, which are in the order of
-/// the text. (as(1), the handbook of the PDP-11/70)
+/// the text. (as(1), the handbooks)
 #[derive(Clone, Copy, Debug, PartialEq, Eq)]
 pub struct Row {
     pub operation: Operation,
@@ -27,7 +27,7 @@ macro_rules! row {
 /// All instructions, in the order of their first words; a word is in one row at most. `laws::table_law` compares them with the
 /// manual's table. Of several names that as(1) has for one, `Bcc` includes bec and bhis, `Bcs` bes and blo, and `Mul`, `Div`,
 /// `Ash`, `Ashc` are mpy, dvd, als, alsc. (as(1); what is left out, as specs/Table has it: own choice)
-pub static ROWS: [Row; 135] = [
+pub static ROWS: [Row; 146] = [
     row!(Halt, 0o000000),
     row!(Wait, 0o000001),
     row!(Rti, 0o000002),
@@ -35,6 +35,7 @@ pub static ROWS: [Row; 135] = [
     row!(Iot, 0o000004),
     row!(Reset, 0o000005),
     row!(Rtt, 0o000006),
+    row!(Mfpt, 0o000007),
     row!(Jmp, 0o000100, Destination),
     row!(Rts, 0o000200, LowRegister),
     row!(Spl, 0o000230, ThreeBits),
@@ -95,6 +96,9 @@ pub static ROWS: [Row; 135] = [
     row!(Mfpi, 0o006500, Destination),
     row!(Mtpi, 0o006600, Destination),
     row!(Sxt, 0o006700, Destination),
+    row!(Csm, 0o007000, Destination),
+    row!(Tstset, 0o007200, Destination),
+    row!(Wrtlck, 0o007300, Destination),
     row!(Mov, 0o010000, Source, Destination),
     row!(Cmp, 0o020000, Source, Destination),
     row!(Bit, 0o030000, Source, Destination),
@@ -106,6 +110,11 @@ pub static ROWS: [Row; 135] = [
     row!(Ash, 0o072000, Destination, Register),
     row!(Ashc, 0o073000, Destination, Register),
     row!(Xor, 0o074000, Register, Destination),
+    row!(Fadd, 0o075000, LowRegister),
+    row!(Fsub, 0o075010, LowRegister),
+    row!(Fmul, 0o075020, LowRegister),
+    row!(Fdiv, 0o075030, LowRegister),
+    row!(Commercial, 0o076000, NineBits),
     row!(Sob, 0o077000, Register, Backward),
     row!(Bpl, 0o100000, Forward),
     row!(Bmi, 0o100400, Forward),
@@ -129,8 +138,10 @@ pub static ROWS: [Row; 135] = [
     row!(Rolb, 0o106100, Destination),
     row!(Asrb, 0o106200, Destination),
     row!(Aslb, 0o106300, Destination),
+    row!(Mtps, 0o106400, Destination),
     row!(Mfpd, 0o106500, Destination),
     row!(Mtpd, 0o106600, Destination),
+    row!(Mfps, 0o106700, Destination),
     row!(Movb, 0o110000, Source, Destination),
     row!(Cmpb, 0o120000, Source, Destination),
     row!(Bitb, 0o130000, Source, Destination),

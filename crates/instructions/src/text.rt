@@ -6,6 +6,7 @@ use crate::instruction::Instruction;
 use crate::line::Line;
 use crate::mode::{Mode, Register};
 use crate::operand::Operand;
+use crate::operation::Operation;
 use crate::reference::{Reference, References};
 use texts::Text;
 
@@ -23,9 +24,16 @@ fn put_register(text: &mut Text, register: Register) {
 }
 
 fn put_in_parentheses(text: &mut Text, register: Register) {
-    text.put_byte(b'(');
-    put_register(text, register);
-    text.put_byte(b')');
+    text.put(match register {
+        Register::R0 => "(r0)",
+        Register::R1 => "(r1)",
+        Register::R2 => "(r2)",
+        Register::R3 => "(r3)",
+        Register::R4 => "(r4)",
+        Register::R5 => "(r5)",
+        Register::Sp => "(sp)",
+        Register::Pc => "(pc)",
+    });
 }
 
 /// The address to which an instruction at an address branches by an offset in words; from 0200 on the offset is negative.
@@ -126,13 +134,54 @@ fn name(instruction: &Instruction) -> &'static str {
     }
 }
 
+/// The name of a number.
+macro_rules! named {
+    ($value:expr; $($number:literal $name:literal,)*) => { match $value { $($number => Some($name),)* _ => None } };
+}
+
+/// The name of an instruction of the commercial set whose operands are in registers, by its number. (the handbook of the PDP-11/44)
+fn commercial_name(number: u16) -> Option<&'static str> {
+    named!(
+        number;
+        0o30 "movc", 0o31 "movrc", 0o32 "movtc", 0o40 "locc", 0o41 "skpc", 0o42 "scanc", 0o43 "spanc", 0o44 "cmpc", 0o45 "matc",
+        0o50 "addn", 0o51 "subn", 0o52 "cmpn", 0o53 "cvtnl", 0o54 "cvtpn", 0o55 "cvtnp", 0o56 "ashn", 0o57 "cvtln",
+        0o70 "addp", 0o71 "subp", 0o72 "cmpp", 0o73 "cvtpl", 0o74 "mulp", 0o75 "divp", 0o76 "ashp", 0o77 "cvtlp",
+    )
+}
+
+/// Appends an instruction of the commercial set: `l2dr r1`, `movc`, or `movci` if its operands follow it as words; one without a
+/// name by its number, `cis 200`. (the handbook of the PDP-11/44; `cis`: own choice)
+fn put_commercial(text: &mut Text, number: u16) {
+    let (name, is_inline) = (commercial_name(number % 0o100), number / 0o100 == 1);
+    match (number, name) {
+        (0o20..=0o27 | 0o60..=0o67, _) => {
+            text.put(if number < 0o60 { "l2dr " } else { "l3dr " });
+            put_register(text, Register::numbered(number % 8));
+        }
+        (0..=0o177, Some(name)) => {
+            text.put(name);
+            text.put(if is_inline { "i" } else { "" });
+        }
+        _ => {
+            text.put("cis ");
+            text.put_octal(u64::from(number));
+        }
+    }
+}
+
 impl Line {
-    /// Appends the text of the line at an address, with these references in place of numbers. (as(1))
+    /// Appends the text of the line at an address, with these references in place of numbers. (as(1), the handbooks)
     pub fn put_text_with(&self, address: u16, references: &References, text: &mut Text) {
         let (instruction, word, other) = match self {
             Line::Plain(word) => return text.put_six_digits(u32::from(*word)),
             Line::Decoded(instruction, word, other) => (instruction, *word, *other),
         };
+        if let (Operation::Commercial, Some(Operand::Number(number))) = (
+            instruction.row.operation,
+            instruction.first,
+        ) {
+            return put_commercial(text, number);
+        }
         text.put(name(instruction));
         let mut shown = Shown {
             word: word.unwrap_or(0),

@@ -35,7 +35,7 @@ use Rattle.disassemblies.specs.Lines.{unix_line_in}
 use Rattle.checks.specs.Trust.{is_sure}
 use Rattle.checks.specs.Reached.{is_reached, is_text, named, nameless, branch_of, leads_by, leads_to, jump, jump_of, shown_from}
 use Rattle.checks.specs.{declared.evidence.Evidence.TheVariants.{Names, Promise}, ReachedLaw.{is_place, IsReached, Evident, Led}}
-use Rattle.checks.specs.{SureLaw.{IsInside, AreInside, targets}, Suspicions.{is_foreign, is_immediate}}
+use Rattle.checks.specs.{SureLaw.{IsInside, AreInside, targets}, Suspicions.is_immediate}
 use Rattle.checks.proofs.{ReachLemmas.reached_law, SureLemmas.sure_below, SureLemmas.sure_places, SureLemmas.sure_words}
 
 -- a symbol of text shows its place
@@ -180,10 +180,10 @@ module _ (forced : List (List ℕ)) (before : List Contents) (k : Contents) (aft
   linked : link forced (before ++ k ∷ after) o ≡ Ok x
   linked = (linked_exactly forced (before ++ k ∷ after) o x good).1 l
 
-  -- an instruction begins there, unless it is one of another PDP-11, and is in the program
-  pub kept_there : is_foreign (slice_index k.text_words i) ≡ false → IsKept o x l.rows (before ++ k ∷ after) before k i
-  kept_there own =
-      let b = sure_places_begin Promise k clean.quiet i sure own in
+  -- an instruction begins there, and is in the program
+  pub kept_there : IsKept o x l.rows (before ++ k ∷ after) before k i
+  kept_there =
+      let b = sure_places_begin Promise k clean.quiet i sure in
       record {
         begins = b;
         kept = search (rules, reached_instructions_kept, sure);
@@ -368,10 +368,10 @@ step_from forced os o x before k after all good clean kept l once small i r q be
 kept_from : (forced : List (List ℕ)) (os : List Contents) (o : Choices) (x : Outcome) (before : List Contents) (k : Contents)
     (after : List Contents) → os ≡ before ++ k ∷ after → AllByRecursion IsObject os → IsClean os k → o.keep ≢ Nothing →
     (l : IsLinkedFrom forced os o x) → x.report.multiples ≡ [] → x.file.header.text_size ≤ 65535 → (i : ℕ) → IsReached Promise k i →
-    is_foreign (slice_index k.text_words i) ≡ false → IsKept o x l.rows os before k i
-kept_from forced os o x before k after all good clean kept l once small i r own =
+    IsKept o x l.rows os before k i
+kept_from forced os o x before k after all good clean kept l once small i r =
     subst (λ (ys : List Contents). AllByRecursion IsObject ys → IsClean ys k → (m : IsLinkedFrom forced ys o x) →
-    IsKept o x m.rows ys before k i) (sym all) (λ g c m. kept_there forced before k after o x g c kept m once small i r own) good clean l
+    IsKept o x m.rows ys before k i) (sym all) (λ g c m. kept_there forced before k after o x g c kept m once small i r) good clean l
 
 module _ (forced : List (List ℕ)) (os : List Contents) (o : Choices) (x : Outcome) (good : AllByRecursion IsObject os)
     (clean : AllByRecursion (IsClean os) os) (kept : o.keep ≢ Nothing) (l : IsLinkedFrom forced os o x)

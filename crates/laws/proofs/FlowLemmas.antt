@@ -1,72 +1,17 @@
 -- Where a line of a program leads, beside that of an object with the same first word.
-use Rattle.std.proofs.Common.{◌≡◌, ℕ, zero, suc, ◌+◌, ◌/◌, ◌%◌, ◌<◌, ◌≤◌, inl, inr, Bool, true, false, ◌||◌, ◌&&◌, eqb, nat_lt}
+use Rattle.std.proofs.Common.{◌≡◌, ℕ, zero, suc, ◌+◌, ◌≤◌, Bool, true, false, nat_lt}
 use Rattle.std.proofs.Common.{if◌then◌else◌, List, [], ◌∷◌, length, drop, Option, Some, None, refl, sym, ◌∙◌, ap, subst, arith}
-use Rattle.std.proofs.lemmas.Bool.{and_parts, or_cases, eqb-true, le-ltb, ltb-false, cases_lt}
+use Rattle.std.proofs.lemmas.Bool.{le-ltb, ltb-false}
 use Rattle.std.specs.Prelude.{slice_get, slice_index}
 use Rattle.aout_core.specs.{Contents.Contents, Strip.stripped}
 use Rattle.instructions.specs.{declared.instruction.Instruction.Instruction, declared.call_table.CallRow.CallRow, declared.line.Line.Line}
 use Rattle.instructions.specs.{declared.line.Line.TheVariants.Plain, declared.unix.Decoder.TheVariants.Unix}
 use Rattle.instructions.specs.{Instructions.{instruction_of, instruction, following_words}, Alike.is_cut, Lines.{line_of, line_at}}
-use Rattle.instructions.specs.{Rows.{begins as in_row, row_of}, UnixLines.{call_by, unix_line}}
-use Rattle.instructions.specs.{declared.unix.UnixLine.TheVariants.{Machine, Call}, Relocated.is_relocated, UnixLaws.sys}
+use Rattle.instructions.specs.UnixLines.{call_by, unix_line}
+use Rattle.instructions.specs.{declared.unix.UnixLine.TheVariants.{Machine, Call}, Relocated.is_relocated}
 use Rattle.disassemblies.specs.Lines.{unix_line_in}
-use Rattle.checks.specs.{Suspicions.is_foreign, SureLaw.is_whole}
+use Rattle.checks.specs.SureLaw.{is_whole}
 use Rattle.laws.proofs.ReachedInstructionLemmas.{at_head, call_made, word_at, line_there, decoded, decoded_by}
-
--- words of other PDP-11s are not in the table
-
-none_of : Option Instruction → Bool
-none_of None = true
-none_of (Some i) = false
-
-all_none : ℕ → ℕ → Bool
-all_none base zero = true
-all_none base (suc n) = none_of (instruction_of (base + n)) && all_none base n
-
-is_none : (o : Option Instruction) → none_of o ≡ true → o ≡ None
-unfolding none_of
-is_none None e = refl
-is_none (Some i) e = absurd cc
-
-none_below : (base n d w : ℕ) → all_none base n ≡ true → d < n → w ≡ base + d → instruction_of w ≡ None
-unfolding all_none
-none_below base zero d w e h is = absurd (omega arith)
-none_below base (suc n) d w e h is =
-    let both = and_parts (none_of (instruction_of (base + n))) (all_none base n) e in
-    elim (cases_lt d n) [
-      | inl less ↦ none_below base n d w both.1 less is
-      | inr more ↦ let at : w ≡ base + n = omega arith in ap instruction_of at ∙ is_none (instruction_of (base + n)) both.0
-    ]
-
-mtps : all_none 0o106400 0o100 ≡ true
-unfolding row_of in_row all_none none_of
-mtps = refl
-
-mfps : all_none 0o106700 0o100 ≡ true
-unfolding row_of in_row all_none none_of
-mfps = refl
-
-floating : all_none 0o75000 0o40 ≡ true
-unfolding row_of in_row all_none none_of
-floating = refl
-
-commercial : all_none 0o76000 0o1000 ≡ true
-unfolding row_of in_row all_none none_of
-commercial = refl
-
-pub no_foreign : (w : ℕ) → is_foreign w ≡ true → instruction_of w ≡ None
-no_foreign w e =
-    elim (or_cases (eqb (w / 0o100) 0o1064) (eqb (w / 0o100) 0o1067 || (eqb (w / 0o40) 0o1720 || eqb (w / 0o1000) 0o76)) e) [
-      | inl h ↦ let q = eqb-true (w / 0o100) 0o1064 h in none_below 0o106400 0o100 (w % 0o100) w mtps (omega arith) (omega arith)
-      | inr f ↦ elim (or_cases (eqb (w / 0o100) 0o1067) (eqb (w / 0o40) 0o1720 || eqb (w / 0o1000) 0o76) f) [
-        | inl h ↦ let q = eqb-true (w / 0o100) 0o1067 h in none_below 0o106700 0o100 (w % 0o100) w mfps (omega arith) (omega arith)
-        | inr g ↦ elim (or_cases (eqb (w / 0o40) 0o1720) (eqb (w / 0o1000) 0o76) g) [
-          | inl h ↦ let q = eqb-true (w / 0o40) 0o1720 h in none_below 0o75000 0o40 (w % 0o40) w floating (omega arith) (omega arith)
-          | inr h ↦ let q = eqb-true (w / 0o1000) 0o76 h in
-              none_below 0o76000 0o1000 (w % 0o1000) w commercial (omega arith) (omega arith)
-        ]
-      ]
-    ]
 
 -- a line that is whole is not cut
 
@@ -76,19 +21,19 @@ machine_whole None w f e h = refl
 machine_whole (Some i) w f e h = by (nat_lt (length f) (following_words i)) h
   where
     by : (t : Bool) → is_whole (Machine (if t then Plain w else decoded i f)) ≡ true → t ≡ false
-    by true h = let none : None ≡ Some i = sym (no_foreign w h) ∙ e in absurd cc
+    by true h = absurd cc
     by false h = refl
 
 made_whole : (w : ℕ) (c : CallRow) (f : List ℕ) → call_by Unix w ≡ Some c → is_cut (instruction_of w) f ≡ false
 made_whole w c f e = ap (λ (o : Option Instruction). is_cut o f) (call_made w c e) ∙ le-ltb (length f) 0 (omega arith)
 
 -- a call that is whole has its words
-call_whole : (w : ℕ) (c : CallRow) (n : ℕ) (v : ℕ) → v ≡ w → call_by Unix w ≡ Some c →
-    is_whole (if nat_lt n c.words then Machine (Plain v) else Call c) ≡ true → nat_lt n c.words ≡ false
-call_whole w c n v same e h = by (nat_lt n c.words) h
+call_whole : (c : CallRow) (n v : ℕ) → is_whole (if nat_lt n c.words then Machine (Plain v) else Call c) ≡ true →
+    nat_lt n c.words ≡ false
+call_whole c n v h = by (nat_lt n c.words) h
   where
     by : (t : Bool) → is_whole (if t then Machine (Plain v) else Call c) ≡ true → t ≡ false
-    by true h = let none : None ≡ Some (sys c.number) = sym (no_foreign v h) ∙ ap instruction_of same ∙ call_made w c e in absurd cc
+    by true h = absurd cc
     by false h = refl
 
 rest_at : (ws : List ℕ) (i w : ℕ) (f : List ℕ) → drop i ws ≡ w ∷ f → drop (suc i) ws ≡ f
@@ -166,9 +111,8 @@ lines_at file k p i w f g here there more still whole = by (call_by Unix w) refl
         unix_line_in Unix (stripped file) p ≡ unix_line o file.text_words p → Lines file k p i
     by None e a b = machine (instruction_of w) refl a b
     by (Some c) e a b =
-        let same : slice_index k.text_words i ≡ w = word_at k.text_words i w f here in
         let n : nat_lt (length (drop (i + 1) k.text_words)) c.words ≡ false =
-        call_whole w c (length (drop (i + 1) k.text_words)) (slice_index k.text_words i) same e (ap is_whole (sym a) ∙ whole) in
+        call_whole c (length (drop (i + 1) k.text_words)) (slice_index k.text_words i) (ap is_whole (sym a) ∙ whole) in
         let enough : nat_lt (length f) c.words ≡ false =
         ap (λ (xs : List ℕ). nat_lt (length xs) c.words) (sym (next_at k.text_words i w f here)) ∙ n in
         Calls c (ltb-false (length (drop (i + 1) k.text_words)) c.words n) (a ∙ call_line k.text_words i w f c here enough)

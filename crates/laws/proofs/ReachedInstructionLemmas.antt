@@ -24,7 +24,7 @@ use Rattle.instructions.specs.{Instructions.{instruction_of, word_count_of}, Lin
 use Rattle.instructions.specs.{UnixLines.{call_word, call_of, call_by, unix_line}, Modes.counts_from_pc}
 use Rattle.instructions.specs.declared.operand.Operand.TheVariants as operands
 use Rattle.disassemblies.specs.Lines.{unix_line_in}
-use Rattle.checks.specs.{SureLaw.{is_whole, SuitsMode, SuitsModes}, Suspicions.{is_foreign, is_immediate}}
+use Rattle.checks.specs.{SureLaw.{is_whole, SuitsMode, SuitsModes}, Suspicions.is_immediate}
 use Rattle.checks.proofs.SureLemmas.{sure_below, sure_places, sure_words}
 use Rattle.laws.specs.ReachedInstructions.{kind_said, HasOperandSaid, IsNoDistance, ReachedInstructionsAreKept, SurePlacesBegin}
 use Rattle.laws.specs.{OperandWords.machine_value, OperandPlaces.{addressing_of, within_text, kind_meant, IsOwnByte, HasOperand, IsOperand}}
@@ -226,25 +226,23 @@ record Begins (o : Option Instruction) (following : List ℕ) : Type 0 where
   is : o ≡ Some instruction
   whole : is_cut o following ≡ false
 
-begins_by : (o : Option Instruction) (w : ℕ) (following : List ℕ) → is_foreign w ≡ false →
-    is_whole (Machine (line_of o w following)) ≡ true → Begins o following
-begins_by None w following own e = absurd cc
-begins_by (Some i) w following own e = search rules
+begins_by : (o : Option Instruction) (w : ℕ) (following : List ℕ) → is_whole (Machine (line_of o w following)) ≡ true → Begins o following
+begins_by None w following e = absurd cc
+begins_by (Some i) w following e = search rules
 
-begins : (w : ℕ) (ws : List ℕ) (i : ℕ) → w ≡ slice_index ws i → is_foreign (slice_index ws i) ≡ false →
-    (o : Option CallRow) → call_by Unix w ≡ o →
+begins : (w : ℕ) (ws : List ℕ) (i : ℕ) → w ≡ slice_index ws i → (o : Option CallRow) → call_by Unix w ≡ o →
     is_whole (unix_line o ws i) ≡ true → Begins (instruction_of (slice_index ws i)) (drop (i + 1) ws)
-begins w ws i same own None e whole = begins_by (instruction_of (slice_index ws i)) (slice_index ws i) (drop (i + 1) ws) own whole
-begins w ws i same own (Some c) e whole =
+begins w ws i same None e whole = begins_by (instruction_of (slice_index ws i)) (slice_index ws i) (drop (i + 1) ws) whole
+begins w ws i same (Some c) e whole =
     let is : instruction_of (slice_index ws i) ≡ made c = ap instruction_of (sym same) ∙ call_made w c e in
     search rules
 
 -- and one begins at each sure place
 pub sure_places_begin : SurePlacesBegin
-sure_places_begin e k none i s own =
+sure_places_begin e k none i s =
     let still = (sure_words e k none i s).0 in
     let w : ℕ = slice_index k.text_words i in
     let whole : is_whole (unix_line (call_by Unix w) k.text_words i) ≡ true =
     ap is_whole (sym (line_there k i still)) ∙ (sure_places e k none i s).0 in
-    let b = begins w k.text_words i refl own (call_by Unix w) refl whole in
+    let b = begins w k.text_words i refl (call_by Unix w) refl whole in
     search (rules, from_place, sure_below)

@@ -8,8 +8,8 @@
 --
 -- All of each object's text is taken to be instructions, as by `-t`. Two things are asked besides. A jump or a call refers to its own text, or
 -- to a name of text. After `sys fork` the parent's word is in the text, or is the first one after it.
-use Rattle.std.specs.Prelude.{◌≡◌, ◌≢◌, ℕ, ◌+◌, ◌*◌, ◌/◌, ◌<◌, ◌≤◌, ◌⊎◌, true, false, List, [], ◌∷◌, ◌++◌, length, Option, Some, slice_get}
-use Rattle.std.specs.{Prelude.slice_index, List.AllByRecursion}
+use Rattle.std.specs.Prelude.{◌≡◌, ◌≢◌, ℕ, ◌+◌, ◌*◌, ◌/◌, ◌<◌, ◌≤◌, ◌⊎◌, true, List, [], ◌∷◌, ◌++◌, length, Option, Some, slice_get}
+use Rattle.std.specs.List.{AllByRecursion}
 use Rattle.aout_core.specs.{declared.symbol.Symbol.Symbol, declared.symbol.Segment.TheVariants.TextSeg, declared.reloc.Reloc.Reloc}
 use Rattle.aout_core.specs.{Contents.Contents, Contents.IsWord, Strip.stripped, WellFormed.is_external, WellFormed.symbol_number}
 use Rattle.aout_core.specs.declared.reloc.Kind.TheVariants as kinds
@@ -24,7 +24,7 @@ use Rattle.instructions.specs.{declared.call.SystemCall.TheVariants.Fork, declar
 use Rattle.instructions.specs.{declared.unix.Decoder.TheVariants.Unix, declared.unix.UnixLine.TheVariants.{Machine, Call}}
 use Rattle.disassemblies.specs.Lines.{unix_line_in}
 use Rattle.checks.specs.{declared.evidence.Evidence.TheVariants.{Names, Promise}, Reached.is_text, ReachedLaw.IsReached}
-use Rattle.checks.specs.{Suspicions.{suspicions, is_foreign}, SureLaw.NoneIsSure}
+use Rattle.checks.specs.{Suspicions.suspicions, SureLaw.NoneIsSure}
 
 -- control reaches a place of a program, which counts the words of its text
 abbrev pub IsRun : Contents → ℕ → Type 0
@@ -97,7 +97,7 @@ pub record IsKept (o : Choices) (x : Outcome) (rows : List Symbol) (os before : 
   pub begins : BeginsInstruction k i
   pub kept : KeepsInstruction o x rows os before k i begins.w begins.following begins.instruction
 
--- a place of the program is a reached place of one of the objects, and has the instruction there, unless it is one of another PDP-11
+-- a place of the program is a reached place of one of the objects, and has the instruction there
 pub record IsOfObject (o : Choices) (x : Outcome) (rows : List Symbol) (os : List Contents) (place : ℕ) : Type 0 where
   pub before : List Contents
   pub k : Contents
@@ -106,7 +106,7 @@ pub record IsOfObject (o : Choices) (x : Outcome) (rows : List Symbol) (os : Lis
   pub i : ℕ
   pub at : place ≡ total TextSeg before / 2 + i
   pub reached : IsReached Promise k i
-  pub instruction : is_foreign (slice_index k.text_words i) ≡ false → IsKept o x rows os before k i
+  pub instruction : IsKept o x rows os before k i
 
 -- clean objects make a clean program, in a link that keeps symbols, if no name is multiply defined
 abbrev pub CleanObjectsMakeCleanPrograms : Type 0

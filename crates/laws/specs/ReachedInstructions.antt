@@ -3,7 +3,7 @@
 --
 -- The instructions at the sure places are in the program: none begins with a relocated word, and none is cut. Each operand that has a word
 -- is the address of the byte to which the object refers by its relocation word, or it is a number, since each pc bit suits its mode.
-use Rattle.std.specs.Prelude.{◌≡◌, ℕ, ◌+◌, ◌*◌, true, false, if◌then◌else◌, List, ◌∷◌, ◌++◌, drop, Option, Some, slice_get, slice_index}
+use Rattle.std.specs.Prelude.{◌≡◌, ℕ, ◌+◌, ◌*◌, true, false, if◌then◌else◌, List, ◌∷◌, ◌++◌, drop, Option, Some, slice_get}
 use Rattle.std.specs.List.{AllByRecursion}
 use Rattle.aout_core.specs.{declared.symbol.Symbol.Symbol, declared.reloc.Reloc.Reloc, declared.reloc.Kind.Kind, Contents.Contents}
 use Rattle.aout_core.specs.{Contents.IsWord, WellFormed.kind_of, WellFormed.is_pc_relative}
@@ -17,7 +17,7 @@ use Rattle.instructions.specs.{Modes.counts_from_pc, declared.operation.Operatio
 use Rattle.instructions.specs.{declared.operand.Operand.Operand, declared.instruction.Instruction.Instruction, Instructions.instruction_of}
 use Rattle.instructions.specs.{Relocated.is_relocated, Alike.is_cut}
 use Rattle.checks.specs.{declared.evidence.Evidence.Evidence, Trust.is_sure, Suspicions.suspicions, Suspicions.is_immediate}
-use Rattle.checks.specs.{Suspicions.is_foreign, SureLaw.NoneIsSure}
+use Rattle.checks.specs.SureLaw.{NoneIsSure}
 
 -- what an operand word refers to: the kind of its relocation word. One that is not relocated is a distance within the text in modes 67 and
 -- 77, and else a number
@@ -69,8 +69,7 @@ pub record BeginsInstruction (k : Contents) (i : ℕ) : Type 0 where
   pub is : instruction_of w ≡ Some instruction
   pub whole : is_cut (instruction_of w) following ≡ false
 
--- and one begins at each sure place, unless it is one of another PDP-11; the first word of a system call is one
+-- and one begins at each sure place; the first word of a system call is one
 abbrev pub SurePlacesBegin : Type 0
 SurePlacesBegin =
-    (e : Evidence) (k : Contents) → NoneIsSure (suspicions e k) → (i : ℕ) → is_sure e k i ≡ true →
-    is_foreign (slice_index k.text_words i) ≡ false → BeginsInstruction k i
+    (e : Evidence) (k : Contents) → NoneIsSure (suspicions e k) → (i : ℕ) → is_sure e k i ≡ true → BeginsInstruction k i
