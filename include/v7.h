@@ -457,7 +457,9 @@ enum v7_map_use_kind {
     V7_WANTS = 3,        /* another symbol */
     V7_FORCES = 4,       /* a forced name */
     V7_TEXT_WORD = 5,    /* a word of text, or of data, that leads to the name */
-    V7_DATA_WORD = 6
+    V7_DATA_WORD = 6,
+    V7_TEXT_NEAR = 7,    /* one that leads beyond it and to no other name, and so may reach what it names */
+    V7_DATA_NEAR = 8
 };
 struct v7_map_use { /* those of a name one after another, in the order of the objects; words follow their symbol */
     uint64_t address; /* of a word, in the program */
@@ -469,6 +471,7 @@ struct v7_map_use { /* those of a name one after another, in the order of the ob
     uint16_t line;          /* where the line begins that has the word, in its part: an instruction or a word of text, or a word of data */
     uint16_t beyond;        /* how many bytes after the label that is */
     uint16_t is_labelled;   /* whether there is a label */
+    uint16_t inside;        /* how many bytes beyond the name a word leads */
 };
 enum v7_map_limit_kind {
     V7_LIMIT_TEXT = 1,

@@ -17,7 +17,7 @@ from tools import faces  # noqa: E402
 SETS = [("Five small objects", "examples", ["main.o", "twice.o", "k.o", "l.o", "double.o"]),
         ("A program in C", "examples/total", ["total.o", "say.o", "console.o", "low.o", "limit.o"]),
         ("Pointers, bss, commons", "examples/menu", ["menu.o", "stop.o", "room.o", "more.o", "pair.o"])]
-SCRIPTS = "session state states lessons rows image layout drawing scene search maps lesson questions keys own address steps".split()
+SCRIPTS = "session state states lessons rows image layout drawing scene search maps lesson questions handout keys own address steps".split()
 HEAD = """<!DOCTYPE html>
 <html lang="en">
 <head>

@@ -19,7 +19,8 @@ function objectsInHash() {
 function takeOwn(own) {
     if (own === "") return "Objects of your own were too large for the address: Save page keeps them.";
     try {
-        takeObjects(own.split(",").map((one) => one.split(":").map(decoded)).map(([name, bytes]) => ({ path: new TextDecoder().decode(name), bytes })), "");
+        takeObjects(own.split(",").map((one) => one.split(":").map(decoded))
+            .map(([name, bytes]) => ({ path: new TextDecoder().decode(name), bytes })), "");
         return "";
     } catch (fault) {
         if (endsLinker(fault)) throw fault;
@@ -50,7 +51,8 @@ function openSet(number) {
 // what the address says of links, and of how the page looks
 function looksInHash() {
     const isOn = { maps: areMapsShown, large: isLarge(), "whole=1": isWhole === true, "whole=0": isWhole === false };
-    const asked = [...(ASKED.entry ? [`entry=${encodeURIComponent(ASKED.entry)}`] : []), ...(ASKED.forced.length > 0 ? [`forced=${ASKED.forced.map(encodeURIComponent).join()}`] : [])];
+    const asked = [...(ASKED.entry ? [`entry=${encodeURIComponent(ASKED.entry)}`] : []),
+        ...(ASKED.forced.length > 0 ? [`forced=${ASKED.forced.map(encodeURIComponent).join()}`] : [])];
     return [...asked, ...Object.keys(isOn).filter((name) => isOn[name]), ...(chosen ? [`chosen=${encodeURIComponent(chosen)}`] : [])];
 }
 

@@ -62,7 +62,8 @@ function chosenName(state) {
 // all words that refer to something, with the place that each refers to
 function allReferences(state) {
     const layout = isLinked(state) ? view.layout : -1;
-    return state.list.flatMap((number, place) => PARTS.flatMap((part) => [...DATA.objects[number].references[part]].map(([index, reference]) => {
+    return state.list.flatMap((number, place) =>
+        PARTS.flatMap((part) => [...DATA.objects[number].references[part]].map(([index, reference]) => {
         const id = keyAt(state, place, part, index);
         const to = placeOf(state, state.referenceStarts[place] + reference.number, layout);
         return { place, part, index, id, to, name: DATA.objects[number].groups[reference.group].name };
@@ -73,7 +74,8 @@ function allReferences(state) {
 function chosenReferences(state) {
     if (!chosen) return [];
     const [name, target] = [chosenName(state), chosenPlace(state)];
-    return allReferences(state).filter((one) => one.id === chosen || (target && one.to === target) || (name && one.name === name && !(isWordKey(chosen) && one.to)));
+    return allReferences(state).filter((one) => one.id === chosen || (target && one.to === target)
+        || (name && one.name === name && !(isWordKey(chosen) && one.to)));
 }
 
 // the words whose arrows are wanted: those that belong to the choice, or those that the last step changed or brought
@@ -116,12 +118,14 @@ function giveLanes(all, limit) {
 // where a row is in the image, in pixels
 function boxOf(row, frame) {
     const box = row.getBoundingClientRect();
-    return { left: box.left - frame.left, right: box.right - frame.left, top: box.top - frame.top, bottom: box.bottom - frame.top, middle: (box.top + box.bottom) / 2 - frame.top };
+    return { left: box.left - frame.left, right: box.right - frame.left, top: box.top - frame.top, bottom: box.bottom - frame.top,
+        middle: (box.top + box.bottom) / 2 - frame.top };
 }
 
 function arrowElement(row, target, line, head) {
     const isOld = ["bound", "put-back"].some((change) => row.classList.contains(change));
-    const group = svg("g", { class: isOld || chosen ? "arrow strong" : "arrow" }, svg("path", { class: "line", d: line }), svg("path", { class: "head", d: head }));
+    const group = svg("g", { class: isOld || chosen ? "arrow strong" : "arrow" }, svg("path", { class: "line", d: line }),
+        svg("path", { class: "head", d: head }));
     group.dataset.from = row.id;
     group.dataset.to = target.id;
     return group;
@@ -131,7 +135,8 @@ function arrowElement(row, target, line, head) {
 function arrowDown(row, target, from, to, size) {
     const [x, y] = [from.right + size.gap, to.middle + (to.middle > from.middle ? -1 : 1) * (to.bottom - to.top) / 2];
     const by = y > from.middle ? -size.head : size.head;
-    return arrowElement(row, target, `M ${from.right} ${from.middle} H ${x} V ${y + by}`, `M ${x} ${y} l ${-size.head / 2} ${by} h ${size.head} z`);
+    return arrowElement(row, target, `M ${from.right} ${from.middle} H ${x} V ${y + by}`,
+        `M ${x} ${y} l ${-size.head / 2} ${by} h ${size.head} z`);
 }
 
 function arrow(row, target, lane, box, size) {
@@ -142,7 +147,8 @@ function arrow(row, target, lane, box, size) {
     const x = from.right + size.head + size.gap * lane;
     const bend = Math.min(size.gap, Math.abs(y2 - y1) / 2) * Math.sign(y2 - y1);
     const turn = Math.min(size.gap, x - from.right);
-    const line = `M ${from.right} ${y1} H ${x - turn} Q ${x} ${y1} ${x} ${y1 + bend} V ${y2 - bend} Q ${x} ${y2} ${x - turn} ${y2} H ${to.right + size.head - 3}`;
+    const [start, end] = [`M ${from.right} ${y1} H ${x - turn} Q ${x} ${y1} ${x} ${y1 + bend}`, `Q ${x} ${y2} ${x - turn} ${y2}`];
+    const line = `${start} V ${y2 - bend} ${end} H ${to.right + size.head - 3}`;
     const head = `M ${to.right} ${y2} l ${size.head} ${-size.head / 2} v ${size.head} z`;
     return arrowElement(row, target, line, head);
 }
@@ -174,7 +180,8 @@ const areaText = ({ width, height }) => `${width} ${height}`;
 function chooseDrawn(state) {
     const references = wantedReferences(state);
     const { arrows, chains } = bundles(state, references);
-    const kept = { arrows: giveLanes(arrows, ARROW_LANES), chains: giveLanes(chains.filter((chain) => chain.rows.length > 1 && !chain.rows[0].closest(".cells")), CHAIN_LANES) };
+    const kept = { arrows: giveLanes(arrows, ARROW_LANES),
+        chains: giveLanes(chains.filter((chain) => chain.rows.length > 1 && !chain.rows[0].closest(".cells")), CHAIN_LANES) };
     const count = (all) => all.reduce((sum, bundle) => sum + bundle.count, 0);
     drawn = { ...kept, left: count(arrows) - count(kept.arrows), references };
 }

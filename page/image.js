@@ -34,7 +34,8 @@ function labelsOf(state) {
     for (const { name, kind, number } of known.values()) {
         const word = wordOf(state, wordKey(kind, number));
         const [key, all] = [`${word?.place} ${kind} ${word?.index}`, labels.get(`${word?.place} ${kind} ${word?.index}`) ?? []];
-        if (word?.offset === number && !all.some(([, , said]) => said === `${name}:`)) labels.set(key, [...all, ["span", "label", `${name}:`]]);
+        const isThere = word?.offset !== number || all.some(([, , said]) => said === `${name}:`);
+        if (!isThere) labels.set(key, [...all, ["span", "label", `${name}:`]]);
     }
     return labels;
 }
@@ -65,8 +66,10 @@ function foldRow(context, place, part) {
     shownFolds.push({ place, part, id });
     const cut = place >= context.state.list.length;
     const parts = part ? [] : [["span", "badge", String(object.number + 1)], label(object.number)];
-    const row = rowOf(id, "fold", `fold object ${object.number}`, [...parts, part ? counted(count, "word") : String(count), ...(part ? [["span", "open", "show"]] : [])], cut ? "cut off" : context.isNew(place) ? "new" : "");
-    return withAttributes(row, { "aria-label": `${label(object.number)}, ${counted(count, "word")}, show in the whole image`, title: part ? "" : `${counted(count, "word")}: show in the whole image` });
+    parts.push(...(part ? [counted(count, "word"), ["span", "open", "show"]] : [String(count)]));
+    const row = rowOf(id, "fold", `fold object ${object.number}`, parts, cut ? "cut off" : context.isNew(place) ? "new" : "");
+    const said = `${counted(count, "word")}${part ? "," : ":"} show in the whole image`;
+    return withAttributes(row, { "aria-label": `${label(object.number)}, ${said.replace(":", ",")}`, title: part ? "" : said });
 }
 
 // a segment's part of the image, with its title: in a link from one address to another
@@ -74,7 +77,8 @@ function groupElement(name, bytes, range, rows = []) {
     const sizes = [...(bytes === null ? [] : [bytesText(bytes)]), ...(range ? [`${shown(range[0])} to ${shown(range[1])}`] : [])];
     const title = make("h3", "", name, ...sizes.flatMap((text) => [" ", make("span", "size", text)]));
     title.setAttribute("role", "presentation");
-    const element = withAttributes(document.querySelector(`#image > #${name}`) ?? make("div", "segment"), { id: name, role: "group", "aria-label": title.textContent });
+    const element = withAttributes(document.querySelector(`#image > #${name}`) ?? make("div", "segment"),
+        { id: name, role: "group", "aria-label": title.textContent });
     setChildren(element, [title, ...rows]);
     return element;
 }
@@ -104,7 +108,8 @@ function namedSpots(state) {
 }
 
 // the ids of the places that are no words: those that words refer to, and the ends of segments that have names
-const spotsOf = (state, named) => new Set([...[...named.keys()].filter((id) => id.endsWith("-end")), ...allReferences(state).map(({ to }) => to).filter((to) => to && !isWordKey(to))]);
+const spotsOf = (state, named) => new Set([...[...named.keys()].filter((id) => id.endsWith("-end")),
+    ...allReferences(state).map(({ to }) => to).filter((to) => to && !isWordKey(to))]);
 
 // where a place is that is no word: its offset, or in a link its address
 function spotNumber({ state, bases }, id) {
@@ -122,8 +127,10 @@ function spotRow(context, id, className = "word spot") {
     const number = spotNumber(context, id);
     const before = isBefore(id) ? small(WORD - number) : "";
     const labels = (context.named.get(id) ?? []).flatMap((label) => [label, " "]);
-    const said = before ? `${bytesText(WORD - number)} before ${kind}` : { end: `the end of ${kind}`, beyond: `after ${kind}` }[what] ?? (kind === "outside" ? "outside the program" : `in ${kind === "common" ? "commons" : kind}`);
-    const row = rowOf(id, className, id, [["span", "offset", before ? `\u2212${before}`.padStart(6, "\u2007") : column(number)], ["span", "meaning", ...labels, said]]);
+    const said = before ? `${bytesText(WORD - number)} before ${kind}` : { end: `the end of ${kind}`, beyond: `after ${kind}` }[what]
+        ?? (kind === "outside" ? "outside the program" : `in ${kind === "common" ? "commons" : kind}`);
+    const row = rowOf(id, className, id,
+        [["span", "offset", before ? `\u2212${before}`.padStart(6, "\u2007") : column(number)], ["span", "meaning", ...labels, said]]);
     return withAttributes(row, { "aria-label": row.textContent.replace(/\s+/g, " ").trim() });
 }
 
@@ -135,7 +142,8 @@ function roomRows(context, kind) {
 
 // the rows before a segment, or those of its end and after it
 function edgeRows(context, segment, areBefore) {
-    return [...context.spots].filter((id) => /-(end|beyond)/.test(id) && id.startsWith(segment) && isBefore(id) === areBefore).map((id) => spotRow(context, id));
+    return [...context.spots].filter((id) => /-(end|beyond)/.test(id) && id.startsWith(segment) && isBefore(id) === areBefore)
+        .map((id) => spotRow(context, id));
 }
 
 // the rows of a segment with words
@@ -165,7 +173,8 @@ function openPlaces({ full, changed }) {
     const places = full.list.map((_, place) => place);
     if (wordsIn(full) <= SMALL) return new Set(places);
     const keys = [...changed.keys(), chosen, chosenPlace(full)];
-    const must = new Set(keys.map((key) => wordOf(full, key)).filter(Boolean).flatMap((word) => [word.place, wordOf(full, word.to)?.place]));
+    const must = new Set(keys.map((key) => wordOf(full, key)).filter(Boolean)
+        .flatMap((word) => [word.place, wordOf(full, word.to)?.place]));
     return new Set(places.filter((place) => must.has(place) || opened.has(full.list[place])));
 }
 
@@ -174,7 +183,8 @@ function wholeGroups(context) {
     const groups = [];
     context.open = openPlaces(context);
     for (const part of PARTS.filter((part) => sizeOf(full, part) > 0)) {
-        groups.push(groupElement(part, sizeOf(state, part), bases && (part === "text" ? [0, bases[0]] : bases.slice(1, 3)), partRows(context, part)));
+        groups.push(groupElement(part, sizeOf(state, part), bases && (part === "text" ? [0, bases[0]] : bases.slice(1, 3)),
+            partRows(context, part)));
     }
     if (bases && bases[2] < bases[3]) groups.push(roomGroup(context, "commons", "common", bases.slice(2, 4)));
     if (full.sizes[2] > 0) groups.push(roomGroup(context, "bss", "bss", bases?.slice(3, 5)));

@@ -48,7 +48,8 @@ function press(list, row) {
 function keyInList(list, event) {
     const rows = rowsIn(list);
     const now = rows.findIndex((row) => row.id === active[list]);
-    const places = { ArrowDown: now + 1, ArrowUp: Math.max(0, now - 1), Home: 0, End: rows.length - 1, PageDown: now + 10, PageUp: now - 10 };
+    const places = { ArrowDown: now + 1, ArrowUp: Math.max(0, now - 1), Home: 0, End: rows.length - 1, PageDown: now + 10,
+        PageUp: now - 10 };
     if (event.key in places) moveTo(list, rows[Math.max(0, Math.min(rows.length - 1, places[event.key]))]);
     else if ((event.key === "Enter" || event.key === " ") && now >= 0) press(list, rows[now]);
     else return;

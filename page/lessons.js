@@ -64,7 +64,8 @@ function numberOfReference(state, text) {
     }
     if (PARTS.includes(first)) return said(cellAt(state, wordNamed(text))?.value);
     if (first === "was") return said(cell && state.marks.find((mark) => mark[0] === word.part && mark[1] === word.offset)?.[2]);
-    if (["at", "after", "before"].includes(first)) return said(cell && modulo({ at: word.offset, after: word.offset + 2, before: -placeMeant(cell, word.offset) }[first]));
+    const place = cell && { at: word.offset, after: word.offset + 2, before: -placeMeant(cell, word.offset) }[first];
+    if (["at", "after", "before"].includes(first)) return said(cell && modulo(place));
     const name = nameIn(state, text);
     if (!name || name.state === "undefined") return null;
     return name.state === "common" ? size(name.value) : said(name.value);
@@ -98,9 +99,10 @@ function answerOf({ kind, word, name, before, words, number }, state, layout, ch
         return [kind, ...changed];
     }
     const isWord = kind === "value";
+    ensure(isWord || nameIn(state, name), "after the step there is no such name");
     const value = isWord
         ? (layout >= 0 ? numberInLink(state, layout, `${word.part} ${word.offset.toString(8)}`) : cellAt(state, word)?.value ?? null)
-        : (ensure(nameIn(state, name), "after the step there is no such name"), layout >= 0 ? addressIn(state.linked[layout], name) : nameIn(state, name).state in REFERENTS ? nameIn(state, name).value : null);
+        : layout >= 0 ? addressIn(state.linked[layout], name) : nameIn(state, name).state in REFERENTS ? nameIn(state, name).value : null;
     ensure(!isWord || value !== null, "after the step there is no such word");
     ensure(number === null || value !== null, "the name is nowhere");
     ensure(number === null || number === value, `the number is ${value?.toString(8)}`);
@@ -129,14 +131,16 @@ function wantedOf(state, text) {
 const STEPS = ["add", "withdraw", "link", "image"];
 
 // what a choice has not yet
-const missingOf = ({ needsReason, hasRight, hasWrong }) => (needsReason ? "reason for its wrong answer" : !hasRight ? "right answer" : !hasWrong ? "wrong answer" : "");
+const missingOf = ({ needsReason, hasRight, hasWrong }) =>
+    (needsReason ? "reason for its wrong answer" : !hasRight ? "right answer" : !hasWrong ? "wrong answer" : "");
 
 // why a line may not begin by this word
 function ensureAllowed(begun, word) {
     const what = begun.kind === "choice" ? missingOf(begun) : begun.kind === "computed" ? "step" : "";
     const isAllowed = begun.kind === "nothing" ? word === "lesson"
         : begun.kind === "computed" ? ["word", "number", ...STEPS].includes(word)
-            : begun.kind !== "choice" || (word === "because" ? begun.needsReason : word === "right" || word === "wrong" ? !begun.needsReason : !what);
+            : begun.kind !== "choice"
+                || (word === "because" ? begun.needsReason : word === "right" || word === "wrong" ? !begun.needsReason : !what);
     ensure(isAllowed, what ? `the question of line ${begun.line} has no ${what}` : "no lesson has begun");
 }
 
@@ -146,7 +150,8 @@ function stepOf(reader, word, rest) {
     reader.begun = { kind: "lesson" };
     let act = [word];
     if (word === "add") {
-        const object = DATA.objects.find(({ number, path }) => !reader.list.includes(number) && (path === rest || path.endsWith(`/${rest}`)));
+        const object = DATA.objects.find(({ number, path }) => !reader.list.includes(number)
+            && (path === rest || path.endsWith(`/${rest}`)));
         ensure(object, `no step adds ${rest}`);
         const refusal = refusalOf(reader.list, object.number);
         ensure(!refusal, `${rest} is refused: ${refusal}`);
@@ -161,7 +166,8 @@ function stepOf(reader, word, rest) {
     }
     const state = stateOf(reader.list);
     const lines = [];
-    if (reader.asked.kind) lines.push(answerOf(reader.asked, state, word === "link" ? act[1] : -1, word === "add" ? changedIn(state) : word === "withdraw" ? changed : []));
+    const changes = word === "add" ? changedIn(state) : word === "withdraw" ? changed : [];
+    if (reader.asked.kind) lines.push(answerOf(reader.asked, state, word === "link" ? act[1] : -1, changes));
     reader.asked = { kind: "" };
     return [...lines, act];
 }
@@ -190,7 +196,8 @@ function readLine(reader, number, word, rest) {
     if (word === "right" || word === "wrong" || word === "because") {
         ensure(reader.begun.kind === "choice", "an answer to no question");
         const { hasRight, hasWrong, line } = reader.begun;
-        reader.begun = { kind: "choice", line, hasRight: hasRight || word === "right", hasWrong: hasWrong || word === "wrong", needsReason: word === "wrong" };
+        reader.begun = { kind: "choice", line, hasRight: hasRight || word === "right", hasWrong: hasWrong || word === "wrong",
+            needsReason: word === "wrong" };
         return [said(rest)];
     }
     if (word === "number") {

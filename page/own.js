@@ -92,9 +92,11 @@ function moveEarlier(number) {
 
 // the buttons of a card that change an object, move it, and take it away
 function cardTools(number) {
-    const tool = (id, sign, title, act) => withAttributes(makeButton(`${id}${number + 1}`, sign, act), { title, "aria-label": `${label(number)}: ${title}` });
+    const tool = (id, sign, title, act) =>
+        withAttributes(makeButton(`${id}${number + 1}`, sign, act), { title, "aria-label": `${label(number)}: ${title}` });
     return make("div", "tools own-tools", tool("edit", "\u270e", "edit its listing", () => editListing(number)),
-        tool("earlier", "\u2191", "one place earlier in the link", () => moveEarlier(number)), tool("away", "\u00d7", "take it from the page", () => removeObject(number)));
+        tool("earlier", "\u2191", "one place earlier in the link", () => moveEarlier(number)),
+        tool("away", "\u00d7", "take it from the page", () => removeObject(number)));
 }
 
 function showCardTools(number) {
@@ -155,7 +157,8 @@ function takeListing() {
     const made = attempt(() => LINKER.fromListing(new TextEncoder().encode(text.endsWith("\n") ? text : `${text}\n`)));
     const fault = made instanceof Fault ? `${path}: ${faultText(made)}` : isSame(path, made) ? "" : bringObject(path, made);
     const line = made instanceof Fault && isOfListing(made) ? text.split("\n")[made.place - 1] ?? "" : "";
-    setText(byId("own-said"), [fault, line && `> ${line}`, ...(fault ? [] : LINKER.remarks(made).map(({ text: remark }) => remark))].filter(Boolean).join("\n"));
+    setText(byId("own-said"),
+        [fault, line && `> ${line}`, ...(fault ? [] : LINKER.remarks(made).map(({ text: remark }) => remark))].filter(Boolean).join("\n"));
     byId("own-said").classList.toggle("refused", Boolean(fault));
     return !fault;
 }
@@ -179,8 +182,10 @@ function pageText() {
 
 // ---- events
 function watchOwn() {
-    byId("sets").append(...SETS.map(({ title }, number) => withAttributes(make("option", "", title), { value: String(number) })), withAttributes(make("option", "", "your own"), { value: "-1" }));
-    byId("sets").addEventListener("change", (event) => (event.target.value === "-1" ? clearObjects() : openSet(Number(event.target.value))));
+    byId("sets").append(...SETS.map(({ title }, number) => withAttributes(make("option", "", title), { value: String(number) })),
+        withAttributes(make("option", "", "your own"), { value: "-1" }));
+    byId("sets").addEventListener("change",
+        (event) => (event.target.value === "-1" ? clearObjects() : openSet(Number(event.target.value))));
     const acts = {
         "own-open": () => byId("own-files").click(), "own-page": () => saveFile("v7.html", pageText()), "own-new": () => editListing(-1),
         "own-close": () => { byId("editor").hidden = true; }, "own-add": addLink,

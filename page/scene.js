@@ -36,9 +36,12 @@ function broughtParts({ full }, isAll) {
     const object = DATA.objects[full.list[place]];
     const keysOf = (part, indices) => indices.map((index) => keyAt(full, place, part, index));
     const parts = PARTS.filter((part) => object[part].length > 0);
-    if (isAll) return parts.map((part) => ({ title: `${label(object.number)}, ${part}`, groups: [{ ...newGroup(`all-${part}`, "", keysOf(part, [...object[part].keys()])), isPlain: true }] }));
-    const names = PARTS.flatMap((part) => keysOf(part, [...new Set(object.labels[part].filter((one) => one.isExternal).map(({ index }) => index))]));
-    const waits = allReferences(full).filter((one) => one.place === place && !one.to && one.name && isWaiting(full, one)).map(({ id }) => id);
+    const allOf = (part) => ({ ...newGroup(`all-${part}`, "", keysOf(part, [...object[part].keys()])), isPlain: true });
+    if (isAll) return parts.map((part) => ({ title: `${label(object.number)}, ${part}`, groups: [allOf(part)] }));
+    const names = PARTS.flatMap((part) =>
+        keysOf(part, [...new Set(object.labels[part].filter((one) => one.isExternal).map(({ index }) => index))]));
+    const waits = allReferences(full).filter((one) => one.place === place && !one.to && one.name && isWaiting(full, one))
+        .map(({ id }) => id);
     return [
         { title: `${label(object.number)} defines`, groups: names.length > 0 ? [{ ...newGroup("names", "", names), isPlain: true }] : [] },
         { title: `${label(object.number)} waits for`, groups: groupsOf(full, waits) },
@@ -80,7 +83,8 @@ function choiceParts({ state }) {
     const references = chosenReferences(state);
     const [place, word, own] = [chosenPlace(state), wordOf(state, chosen), references.find(({ id }) => id === chosen)];
     const isApart = ({ to }) => !word && to && to !== place;
-    const others = newGroup("others", word ? "" : place, references.filter((one) => one.id !== chosen && !isApart(one)).map(({ id }) => id));
+    const others = newGroup("others", word ? "" : place,
+        references.filter((one) => one.id !== chosen && !isApart(one)).map(({ id }) => id));
     if (!word) return [{ title: "", groups: [others, ...groupsOf(state, references.filter(isApart).map(({ id }) => id))] }];
     const self = newGroup("chosen", own?.to ?? "", [chosen]);
     self.more = nearOf(state, self, [chosen], AROUND);
@@ -89,16 +93,20 @@ function choiceParts({ state }) {
 
 // the words that a question asks for, and others that wait
 function questionParts({ state }, wait, shown) {
-    if (wait.kind === "value") return [{ title: "The word in question", groups: groupsOf(state, [wait.word].filter((key) => !shown.has(key))) }];
+    if (wait.kind === "value") return [{ title: "The word in question",
+        groups: groupsOf(state, [wait.word].filter((key) => !shown.has(key))) }];
     if (wait.kind !== "changes") return [];
     const waiting = allReferences(state).filter((one) => isWaiting(state, one) && !wait.answers.includes(one.id)).map(({ id }) => id);
     const count = Math.max(6, wait.answers.length);
-    const some = waiting.filter((_, i) => waiting.length <= count || Math.floor((i * count) / waiting.length) !== Math.floor(((i - 1) * count) / waiting.length));
+    const some = waiting.filter((_, i) => waiting.length <= count
+        || Math.floor((i * count) / waiting.length) !== Math.floor(((i - 1) * count) / waiting.length));
     const words = [...new Set([...wait.answers, ...candidates(wait), ...some])].filter((key) => !shown.has(key)).sort(inOrder);
-    return words.length > 0 ? [{ title: "To choose from", groups: [{ ...newGroup("asked", "", words), keep: wait.answers.filter((key) => !shown.has(key)).slice(0, FEW), isCells: true }] }] : [];
+    const keep = wait.answers.filter((key) => !shown.has(key)).slice(0, FEW);
+    return words.length > 0 ? [{ title: "To choose from", groups: [{ ...newGroup("asked", "", words), keep, isCells: true }] }] : [];
 }
 
-const keysIn = (parts) => new Set(parts.flatMap(({ groups }) => groups.flatMap(({ words, target }) => [...words, ...(target ? [target] : [])])));
+const keysIn = (parts) =>
+    new Set(parts.flatMap(({ groups }) => groups.flatMap(({ words, target }) => [...words, ...(target ? [target] : [])])));
 
 // the scenes that can be shown, the fullest first: of the choice, if the step does not have it; of the step and of the question; or of
 // the question, with the step in a line
@@ -138,7 +146,8 @@ function putScene(context, parts, how) {
 function showsAll(context, parts) {
     const count = parts.flatMap(({ groups }) => groups.flatMap(({ words }) => words)).length;
     const cells = ["cells", "cells dense", "cells dense tight"].map((cells) => ({ cells, isLast: true }));
-    return [...(count <= FEW ? [{ near: true }] : []), {}, { cells: "cells" }, ...cells].some((how) => putScene(context, parts, { limit: Infinity, ...how }));
+    return [...(count <= FEW ? [{ near: true }] : []), {}, { cells: "cells" }, ...cells]
+        .some((how) => putScene(context, parts, { limit: Infinity, ...how }));
 }
 
 // puts the first scene that fits on the stage; if none does, the last one, with so many words of large groups as fit. That of another
@@ -190,23 +199,27 @@ function lineRow(context, key, className, partsFor) {
     const change = className === "near" ? (isCut ? "cut off" : "") : changeOf(context, word);
     const offset = ["span", "offset", ["span", `part-${word.part}`, `${word.part} `], column(base + word.offset)];
     const isTold = change !== "" && (className === "place-line" || (change !== "new" && className !== "near"));
-    const row = rowOf(key, `word line ${className}`, key, [["span", "badge", String(object.number + 1)], offset, ...partsFor(from, word, object, change)], isTold ? change : "");
+    const row = rowOf(key, `word line ${className}`, key,
+        [["span", "badge", String(object.number + 1)], offset, ...partsFor(from, word, object, change)], isTold ? change : "");
     if (change && !isTold) row.classList.add(change.replace(" ", "-"));
-    return withAttributes(row, { "aria-label": `${label(object.number)}, ${row.textContent.replace(/^\d+/, "").replace(/\s+/g, " ").trim()}`, "aria-description": relocText(word.own) });
+    const said = row.textContent.replace(/^\d+/, "").replace(/\s+/g, " ").trim();
+    return withAttributes(row, { "aria-label": `${label(object.number)}, ${said}`, "aria-description": relocText(word.own) });
 }
 
 // a word with its instruction, and what it was and is
 function sceneRow(context, key) {
     const word = wordOf(context.state, key);
     return lineRow(context, key, word && word.kind < 0 && !context.bases ? "waits" : "", (from, word, object, change) =>
-        [word.pc ? ["span", "pc", "pc"] : ["span", "no-pc", "\u00a0\u00a0"], ["span", "instruction", saidOf(object, word)], ["span", "result", ...resultOf(from, word, change)]]);
+        [word.pc ? ["span", "pc", "pc"] : ["span", "no-pc", "\u00a0\u00a0"], ["span", "instruction", saidOf(object, word)],
+            ["span", "result", ...resultOf(from, word, change)]]);
 }
 
 // an instruction beside one that changed, or the place that the words above mean, with its names
 function nearRow(context, key, className = "near") {
     return lineRow(context, key, className, (from, word, object) => {
         const names = (context.labels.get(`${word.place} ${word.part} ${word.index}`) ?? []).flatMap((label) => [label, " "]);
-        return [["span", "no-pc", "\u00a0\u00a0"], ["span", "instruction meaning", ...names, ["span", "what", saidOf(object, word)]], ...(className === "near" ? [] : [["span", "owned", label(object.number)]])];
+        return [["span", "no-pc", "\u00a0\u00a0"], ["span", "instruction meaning", ...names, ["span", "what", saidOf(object, word)]],
+            ...(className === "near" ? [] : [["span", "owned", label(object.number)]])];
     });
 }
 
@@ -214,13 +227,16 @@ function nearRow(context, key, className = "near") {
 const placeRow = (context, id) => (isWordKey(id) ? nearRow(context, id, "place-line") : spotRow(context, id, "word spot place-line"));
 
 // a line for what is not shown
-const moreRow = (id, text) => rowOf(`more-${id.replace(/\W/g, "-")}`, "fold more-line", `fold more ${id}`, [text, ["span", "open", "show"]]);
+const moreRow = (id, text) => rowOf(`more-${id.replace(/\W/g, "-")}`, "fold more-line", `fold more ${id}`,
+    [text, ["span", "open", "show"]]);
 
 function groupRows(context, { by, words, target, keep, more, isPlain }, { limit, near }, used) {
     const isFree = (key) => !used.has(key) && used.add(key);
     const isFolded = !openGroups.has(by) && words.length > Math.max(limit, keep.length) + 1;
-    const first = isFolded ? new Set([...keep, ...words.filter((key) => !keep.includes(key)).slice(0, Math.max(0, limit - keep.length))]) : new Set(words);
-    const isAfter = (key) => target && wordOf(context.full, target) && inOrder(key, target) > 0 && wordOf(context.full, key).place === wordOf(context.full, target).place;
+    const first = isFolded ? new Set([...keep, ...words.filter((key) => !keep.includes(key)).slice(0, Math.max(0, limit - keep.length))])
+        : new Set(words);
+    const isAfter = (key) => target && wordOf(context.full, target) && inOrder(key, target) > 0
+        && wordOf(context.full, key).place === wordOf(context.full, target).place;
     const around = near ? more : [];
     const before = [...first, ...around.filter((key) => !isAfter(key))].sort(inOrder);
     const rowFor = (key) => (!first.has(key) ? nearRow(context, key) : isPlain ? plainRow(context, key) : sceneRow(context, key));
@@ -238,7 +254,9 @@ function partElements(context, part, number, how, used) {
     for (const one of head) setChildren(one, [...title, ...fold]);
     return [...head, ...part.groups.map((group, i) => {
         const id = `group-${number}-${i}`;
-        const element = withAttributes(byId(id) ?? make("div"), { id, class: group.isCells ? "group cells asked" : how.cells && !group.isPlain ? `group ${how.cells}` : "group", role: "group", "aria-label": group.target ? counted(group.words.length, "word") : part.title || "words" });
+        const className = group.isCells ? "group cells asked" : how.cells && !group.isPlain ? `group ${how.cells}` : "group";
+        const said = group.target ? counted(group.words.length, "word") : part.title || "words";
+        const element = withAttributes(byId(id) ?? make("div"), { id, class: className, role: "group", "aria-label": said });
         setChildren(element, groupRows(context, group, how, used));
         return element;
     })];

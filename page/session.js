@@ -81,21 +81,26 @@ class Memory {
     // makes a call with an answer; again, with the sizes that it answered, if a room was too small
     made(act) {
         const place = this.room(ANSWER);
-        const answer = () => ({ fault: this.u32(place), word: this.u32(place + 4), place: this.size(place + 8), size: this.size(place + 16), count: this.size(place + 24) });
+        const answer = () => {
+            const [at, size, count] = [8, 16, 24].map((field) => this.size(place + field));
+            return { fault: this.u32(place), word: this.u32(place + 4), place: at, size, count };
+        };
         act(place, { size: this.most, count: 64 });
         if (answer().fault === NO_ROOM) act(place, answer());
         this.most = Math.max(this.most, answer().size);
         if (answer().fault) throw new Fault(answer());
         return answer();
     }
+    // a call that gives no more than its answer; bytes are given as their place and size
+    answered(name, words, roomFor = () => []) {
+        const given = words.flatMap((word) => (word instanceof Uint8Array ? this.given(word) : [word]));
+        return this.made((place, most) => this.call(name, ...given, ...roomFor(most), place));
+    }
     // what a call writes into a room
     written(name, ...words) {
         return this.whole(() => {
             let out = 0;
-            const { size } = this.made((place, most) => {
-                out = this.room(most.size);
-                this.call(name, ...words.flatMap((word) => (word instanceof Uint8Array ? this.given(word) : [word])), out, most.size, place);
-            });
+            const { size } = this.answered(name, words, (most) => [out = this.room(most.size), most.size]);
             return this.bytes(out, size).slice();
         });
     }
@@ -104,7 +109,8 @@ class Memory {
 // The calls on files, and those that begin a session.
 class Linker {
     constructor(instance) { this.memory = new Memory(instance); }
-    check(bytes) { return this.memory.whole(() => this.memory.made((place) => this.memory.call("v7_check", ...this.memory.given(bytes), place)).size); }
+    // how many bytes of a file are its object
+    check(bytes) { return this.memory.whole(() => this.memory.answered("v7_check", [bytes]).size); }
     disassemble(bytes) { return latin(this.memory.written("v7_disassemble", bytes)); }
     list(bytes) { return latin(this.memory.written("v7_list", bytes)); }
     fromListing(bytes) { return this.memory.written("v7_from_listing", bytes); }
@@ -119,7 +125,8 @@ class Linker {
         return memory.whole(() => {
             const most = bytes.length;
             const [header, counts, text, data, symbols] = [16, 32, 2 * most, 2 * most, most].map((size) => memory.room(size));
-            memory.made((place) => memory.call("v7_read", ...memory.given(bytes), header, text, most >> 1, data, most >> 1, symbols, Math.floor(most / 12), counts, place));
+            const rooms = [text, most >> 1, data, most >> 1, symbols, Math.floor(most / 12)];
+            memory.made((place) => memory.call("v7_read", ...memory.given(bytes), header, ...rooms, counts, place));
             const pairs = (from, count) => {
                 const words = memory.words(from, 2 * count);
                 return Array.from({ length: count }, (_, i) => [words[2 * i], words[2 * i + 1]]);
@@ -130,7 +137,8 @@ class Linker {
                 return { name, type, value };
             };
             const [texts, datas, names] = [0, 8, 16].map((field) => memory.size(counts + field));
-            return { text: pairs(text, texts), data: pairs(data, datas), bss: memory.u32(counts + 24), symbols: Array.from({ length: names }, symbol) };
+            return { text: pairs(text, texts), data: pairs(data, datas), bss: memory.u32(counts + 24),
+                symbols: Array.from({ length: names }, symbol) };
         });
     }
 
@@ -145,7 +153,8 @@ class Linker {
             });
             return Array.from({ length: count }, (_, i) => {
                 const at = found + REMARK * i;
-                return { part: memory.u32(at + 28), word: memory.u32(at + 32), text: latin(memory.bytes(texts + memory.size(at + 8), memory.size(at + 16))) };
+                return { part: memory.u32(at + 28), word: memory.u32(at + 32),
+                    text: latin(memory.bytes(texts + memory.size(at + 8), memory.size(at + 16))) };
             });
         });
     }
@@ -187,8 +196,8 @@ class Session {
             return handle;
         });
     }
-    add(bytes) { return this.memory.whole(() => this.memory.made((place) => this.memory.call("v7_session_add", this.handle, ...this.memory.given(bytes), place))); }
-    withdraw() { return this.memory.whole(() => this.memory.made((place) => this.memory.call("v7_session_withdraw", this.handle, place))); }
+    add(bytes) { this.memory.whole(() => this.memory.answered("v7_session_add", [this.handle, bytes])); }
+    withdraw() { this.memory.whole(() => this.memory.answered("v7_session_withdraw", [this.handle])); }
     // it is ASCII: JSON has other bytes of names by their numbers
     state() { return JSON.parse(new TextDecoder().decode(this.memory.written("v7_session_state", this.handle))); }
     link(asked) { return this.memory.whole(() => linked(this.memory, "v7_session_link", [this.handle], asked, WANTS_REPORT)); }

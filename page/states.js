@@ -16,7 +16,8 @@ function letterOf({ type, value }) {
     const small = { 0: value === 0 ? "u" : "c", 2: "t", 3: "d", 4: "b", 0o24: "r", 0o37: "f" }[type % 32] ?? "a";
     return type & 32 ? small.toUpperCase() : small;
 }
-const lineOfSymbol = (symbol) => `${/u/i.test(letterOf(symbol)) ? "      " : symbol.value.toString(8).padStart(6, "0")} ${letterOf(symbol)} ${symbol.name}`;
+const lineOfSymbol = (symbol) =>
+    `${/u/i.test(letterOf(symbol)) ? "      " : symbol.value.toString(8).padStart(6, "0")} ${letterOf(symbol)} ${symbol.name}`;
 
 // the address to which an instruction at an index branches
 function branchOf(word, index) {
@@ -55,7 +56,8 @@ function textsIn(words) {
     for (let next = 0; next <= words.length; next++) {
         const [word, reloc] = words[next] ?? [0, 0];
         if (!refers(reloc) && word & 255 && isOfText(word & 255) && isOfText(word >> 8)) continue;
-        if (next - first >= 2) texts.push([next, next - first, words.slice(first, next).map(([one]) => String.fromCharCode(one & 255, one >> 8)).join("")]);
+        if (next - first >= 2) texts.push([next, next - first,
+            words.slice(first, next).map(([one]) => String.fromCharCode(one & 255, one >> 8)).join("")]);
         first = next + 1;
     }
     return texts;
@@ -79,10 +81,13 @@ function objectOf(path, bytes) {
         });
     }
     const segmentOf = ({ type }) => ({ 2: "text", 3: "data" }[type % 32]);
-    const labels = file.symbols.filter(segmentOf).map((one) => [segmentOf(one), modulo(one.value - starts[segmentOf(one)]) >> 1, (one.type & 32) !== 0, one.name]);
+    const labels = file.symbols.filter(segmentOf)
+        .map((one) => [segmentOf(one), modulo(one.value - starts[segmentOf(one)]) >> 1, (one.type & 32) !== 0, one.name]);
     return {
-        path, bytes, relocs: { text: file.text.map(([, reloc]) => reloc), data: file.data.map(([, reloc]) => reloc) }, at: [0, starts.data], text: file.text.map(([word]) => word), data: file.data.map(([word]) => word), bss: file.bss, groups,
-        textReferences: references.text, dataReferences: references.data, labels, texts: textsIn(file.data), symbols: file.symbols.map(lineOfSymbol),
+        path, bytes, relocs: { text: file.text.map(([, reloc]) => reloc), data: file.data.map(([, reloc]) => reloc) },
+        at: [0, starts.data], text: file.text.map(([word]) => word), data: file.data.map(([word]) => word), bss: file.bss, groups,
+        textReferences: references.text, dataReferences: references.data, labels, texts: textsIn(file.data),
+        symbols: file.symbols.map(lineOfSymbol),
         ...decodedOf(bytes, file), localCount: file.symbols.filter(({ type }) => !(type & 32)).length, starts,
         sizes: { text: starts.data, data: starts.bss - starts.data, bss: file.bss },
     };
@@ -155,7 +160,8 @@ function linkOf(list, options, count) {
         const bss = list.reduce((sum, object) => sum + DATA.objects[object].bss, 0);
         const end = start + data + read.bss;
         const externals = read.symbols.slice(read.symbols.length - count);
-        return { ...read, bases: [text, start, start + data, end - bss, end], report, isSplit: options === 32, externals: new Map(externals.map((one) => [one.name, one])), externalList: externals };
+        return { ...read, bases: [text, start, start + data, end - bss, end], report, isSplit: options === 32,
+            externals: new Map(externals.map((one) => [one.name, one])), externalList: externals };
     } catch (fault) {
         if (endsLinker(fault) || !(fault instanceof Fault)) throw fault;
         const bases = LINKER.mapOf(list.map((object) => DATA.objects[object].bytes), { options, forced: ASKED.forced });
@@ -167,7 +173,8 @@ function markRecord(mark, raw) {
     if (!mark.segment) return ["name", mark.name, mark.was.state, mark.was.value];
     const { segment, offset, was } = mark;
     const name = was.target === "external" ? raw.byName.get(was.name) : null;
-    const start = [segment, offset, was.value, was.pc, was.target === "external" ? was.name : REFERENTS[was.target], placeMeant(was, offset)];
+    const start = [segment, offset, was.value, was.pc, was.target === "external" ? was.name : REFERENTS[was.target],
+        placeMeant(was, offset)];
     return name && name.state in REFERENTS ? [...start, name.value, raw[segment][offset / 2].value] : [...start, null];
 }
 
@@ -185,7 +192,8 @@ function wordRecords(object, front, raw, links) {
                     const last = link.refused ? word : link[part][offset / 2][0];
                     return [modulo(last - word + minus), minus];
                 });
-                groups[group] = [modulo(cell.value - word), modulo(placeMeant(cell, offset) - meant), cell.target === "external" ? cell.name : REFERENTS[cell.target], ...sums];
+                groups[group] = [modulo(cell.value - word), modulo(placeMeant(cell, offset) - meant), cell.target === "external"
+                    ? cell.name : REFERENTS[cell.target], ...sums];
             }
             places.push([imagePlace(cell, offset, raw.sizes), ...links.map((link) => linkPlace(link, cell, part, offset))]);
         }
@@ -200,7 +208,8 @@ function computed(list) {
     raw.byName = new Map(raw.externals.map((one) => [one.name, one]));
     const links = LINK_OPTIONS.map((options) => linkOf(list, options, raw.externals.length));
     const objects = list.map((object) => DATA.objects[object]);
-    const fronts = objects.map((_, place) => Object.fromEntries(ALL_PARTS.map((part) => [part, objects.slice(0, place).reduce((sum, { sizes }) => sum + sizes[part], 0)])));
+    const fronts = objects.map((_, place) =>
+        Object.fromEntries(ALL_PARTS.map((part) => [part, objects.slice(0, place).reduce((sum, { sizes }) => sum + sizes[part], 0)])));
     const words = objects.map((object, place) => wordRecords(object, fronts[place], raw, links));
     const locals = objects.reduce((sum, { localCount }) => sum + localCount, 0);
     return {
@@ -208,7 +217,8 @@ function computed(list) {
         sizes: [raw.text.length, raw.data.length, raw.bss], fronts: fronts.map((front) => ALL_PARTS.map((part) => front[part])),
         links: links.map(({ bases, report, refused }) => (refused ? { bases, refused } : { bases, report })),
         nameList: raw.externals.map(({ name }) => name),
-        names: raw.externals.map(({ state, value }, i) => [state, value, ...links.flatMap((link) => (link.refused ? [0, "?"] : [link.externalList[i].value, letterOf(link.externalList[i])]))]),
+        names: raw.externals.map(({ state, value }, i) => [state, value, ...links.flatMap(({ refused, externalList }) => (refused ? [0, "?"]
+            : [externalList[i].value, letterOf(externalList[i])]))]),
         locals: Array.from({ length: locals }, (_, i) => links.map((link) => (link.refused ? 0 : link.symbols[i].value))),
         groups: words.flatMap(({ groups }) => groups), places: words.flatMap(({ places }) => places),
         groupStarts: startsOf(list, ({ groups }) => groups.length), referenceStarts: startsOf(list, ({ referenceCount }) => referenceCount),
@@ -229,7 +239,9 @@ function refusalOf(list, object) {
 }
 
 // whether there is such a state: objects that are there, each once, and none is refused
-const hasState = (list) => list.every((object, place) => DATA.objects[object] && list.indexOf(object) === place) && (list.length === 0 || STATES.has(list.join()) || (hasState(list.slice(0, -1)) && !refusalOf(list.slice(0, -1), list[list.length - 1])));
+const hasState = (list) => list.every((object, place) => DATA.objects[object] && list.indexOf(object) === place)
+    && (list.length === 0 || STATES.has(list.join())
+        || (hasState(list.slice(0, -1)) && !refusalOf(list.slice(0, -1), list[list.length - 1])));
 
 function stateOf(list) {
     const key = list.join();

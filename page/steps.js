@@ -18,7 +18,8 @@ function showBar() {
     byId("decimal").setAttribute("aria-pressed", String(isDecimal()));
     byId("flick").setAttribute("aria-pressed", String(view.gone >= 0));
     byId("flick").firstChild.textContent = view.gone >= 0 ? "After " : "Before ";
-    setText(byId("image-title"), view.layout < 0 ? "Merged image" : `Addresses, ld ${view.layout > 0 ? LAYOUTS[view.layout] : "with no option"}`);
+    setText(byId("image-title"), view.layout < 0 ? "Merged image"
+        : `Addresses, ld ${view.layout > 0 ? LAYOUTS[view.layout] : "with no option"}`);
 }
 
 // whether the segments of a word and of what it refers to have places beside each other: they are one, or a link has placed both
@@ -51,20 +52,23 @@ function wordMarks() {
 function broughtText() {
     const { list } = stateShown();
     const text = list.length > 0 ? cutText(list) : "";
-    return view.gone >= 0 ? `${text || "Nothing"} of ${label(view.gone)} cut off.` : list.length > 0 ? `${label(list[list.length - 1])} brought ${text || "nothing"}.` : "";
+    return view.gone >= 0 ? `${text || "Nothing"} of ${label(view.gone)} cut off.`
+        : list.length > 0 ? `${label(list[list.length - 1])} brought ${text || "nothing"}.` : "";
 }
 
 // the sentence above the image: why the chosen word changed, or the first of those that did, and what came or went
 function sentence(state) {
     const refused = view.layout >= 0 ? state.links[view.layout].refused : "";
     if (refused) return [`refused: ${refused}`];
-    if (isLinked(state) && view.list.length > 0) return ["Each sum is the word of the object + the address of what it refers to (\u2212 how far the word has moved, with pc) = the word of the link."];
+    if (isLinked(state) && view.list.length > 0) return ["Each sum is the word of the object + the address of what it refers to"
+        + " (\u2212 how far the word has moved, with pc) = the word of the link."];
     const marks = wordMarks();
     const mark = marks.find((one) => markKey(one) === chosen) ?? (chosen ? null : marks[0]);
     const notes = [mark ? markText(state, mark) : chosen ? chosenText(state) : broughtText()];
     if (mark && marks.length > 1 && !chosen) notes.push(`${counted(marks.length - 1, "other word")} changed too.`);
     if (!mark && !chosen && view.gone < 0 && view.list.length > 0) notes.push(waitingText(state));
-    const multiples = view.gone < 0 && view.list.length > 0 && !chosen ? state.multiples.slice(stateOf(view.list.slice(0, -1)).multiples.length) : [];
+    const multiples = view.gone < 0 && view.list.length > 0 && !chosen
+        ? state.multiples.slice(stateOf(view.list.slice(0, -1)).multiples.length) : [];
     for (const name of new Set(multiples)) notes.push(`${name} is defined a second time: the first definition counts.`);
     if (drawn.left > 0) notes.push(`${counted(drawn.left, "arrow")} more: choose a word to see its own.`);
     if (view.guide < 0 && view.list.length === 1 && view.gone < 0) notes.push("Now add another object, and look at which words change.");
@@ -75,17 +79,21 @@ function sentence(state) {
 function chosenText(state) {
     if (chosen.startsWith("name ")) {
         const known = namesOf(state).find(({ name }) => chosen === `name ${name}`);
-        return known ? `${known.name} is ${stateText(known.kind, known.number)}. ${counted(drawn.references.length, "word")} refer${drawn.references.length === 1 ? "s" : ""} to it.` : "";
+        const refer = `${counted(drawn.references.length, "word")} refer${drawn.references.length === 1 ? "s" : ""}`;
+        return known ? `${known.name} is ${stateText(known.kind, known.number)}. ${refer} to it.` : "";
     }
     const word = wordOf(state, chosen);
     if (!word) return "";
     const where = `The word at ${word.part} ${shown(word.offset)}`;
     if (word.kind < 0) return `${where} waits for ${nameText(word)}, which no object has defined.`;
     const branch = DATA.objects[state.list[word.place]].branches[word.index];
-    if (word.part === "text" && branch !== undefined) return `${where} branches to text ${shown((branch + movedBy(word)) % WORD)}: it holds the distance in its own text, which stays as it is.`;
+    if (word.part === "text" && branch !== undefined) return `${where} branches to text ${shown((branch + movedBy(word)) % WORD)}: `
+        + "it holds the distance in its own text, which stays as it is.";
     if (word.kind === 0 && !word.pc) return `${where} refers to nothing: it stays as it is.`;
     const name = word.own.kind < 0 ? `${nameText(word.own)}, ` : "";
-    return `${where} refers to ${name}${targetText(word)}${placeText(word, sizeOf(state, SEGMENTS[word.kind]))}${!word.pc ? "" : isDistance(word) ? ", and holds the distance to it from the place after the word" : ". The distance comes with a link, which places the segments"}.`;
+    const distance = !word.pc ? "" : isDistance(word) ? ", and holds the distance to it from the place after the word"
+        : ". The distance comes with a link, which places the segments";
+    return `${where} refers to ${name}${meantText(state, word)}${distance}.`;
 }
 
 // for how many names how many words wait
@@ -93,7 +101,8 @@ function waitingText(state) {
     const waiting = allReferences(state).filter((one) => !one.to && one.name && isWaiting(state, one));
     const names = new Set(waiting.map(({ name }) => name));
     if (waiting.length === 0) return "No word waits for a name.";
-    return `${counted(waiting.length, "word")} ${waiting.length === 1 ? "waits" : "wait"} for ${names.size > 3 ? counted(names.size, "name") : [...names].join(", ")}.`;
+    const awaited = names.size > 3 ? counted(names.size, "name") : [...names].join(", ");
+    return `${counted(waiting.length, "word")} ${waiting.length === 1 ? "waits" : "wait"} for ${awaited}.`;
 }
 
 const isWaiting = (state, { place, part, index }) => imageWord(state, place, part, index).kind < 0;
@@ -106,7 +115,8 @@ function showNotes(state) {
 
 // brings a row onto the stage, if it is not wholly there: so rows stay where they are, if they can. Others come too, if all fit
 function bring(row, others = []) {
-    const room = [".stage", ".names", ".known", ".side"].map((name) => row?.closest(name)).find((one) => one && getComputedStyle(one).overflowY === "auto");
+    const room = [".stage", ".names", ".known", ".side"].map((name) => row?.closest(name))
+        .find((one) => one && getComputedStyle(one).overflowY === "auto");
     if (!room) return;
     const [box, frame] = [row.getBoundingClientRect(), room.getBoundingClientRect()];
     if (box.top < frame.top || box.bottom > frame.bottom) row.scrollIntoView({ block: box.height > frame.height ? "start" : "center" });
@@ -151,7 +161,9 @@ function forget() {
 }
 
 // the first row that the last step changed
-const firstChanged = () => byId("image").querySelector(":scope.scene .word, :scope.scene .fold") ?? byId("image").querySelector(".word.bound, .word.put-back") ?? byId("image").querySelector(".word.new, .word.cut-off") ?? byId("image").querySelector(".fold.new, .fold.cut-off");
+const firstChanged = () => byId("image").querySelector(":scope.scene .word, :scope.scene .fold")
+    ?? byId("image").querySelector(".word.bound, .word.put-back") ?? byId("image").querySelector(".word.new, .word.cut-off")
+    ?? byId("image").querySelector(".fold.new, .fold.cut-off");
 
 // the list that was shown last
 let shownList = [];
@@ -240,7 +252,8 @@ async function beginAgain(fault) {
     view = { ...START, decimal: view.decimal, list: shownList };
     shownList = [];
     show(view);
-    setText(byId("note"), `${fault instanceof Fault ? "There was no memory for that" : "The linker has stopped"}: the page is as it was before this step.`);
+    setText(byId("note"),
+        `${fault instanceof Fault ? "There was no memory for that" : "The linker has stopped"}: the page is as it was before this step.`);
     byId("note").classList.add("refused");
 }
 
@@ -273,7 +286,8 @@ async function begin() {
     watchFaults();
     window.addEventListener("popstate", restore);
     restore();
-    if (wide.matches) for (const object of DATA.objects) if (object.text.length + object.data.length <= FEW) byId("cards").children[object.number].querySelector("details").open = true;
+    const few = wide.matches ? DATA.objects.filter(({ text, data }) => text.length + data.length <= FEW) : [];
+    for (const { number } of few) byId("cards").children[number].querySelector("details").open = true;
     watchLayout();
     document.body.classList.add("ready");
 }

@@ -79,7 +79,7 @@ MULTIPLY_DEFINED, RESERVED_NAME, ENTRY_NOT_IN_TEXT, UNDEFINED_NAME = 1, 2, 3, 4
 # enum v7_map_name_state
 NAME_IS_PLACED, NAME_IS_UNDEFINED, NAME_IS_MULTIPLE = 1, 2, 4
 # enum v7_map_use_kind
-DEFINES, MAKES_COMMON, WANTS, FORCES, TEXT_WORD, DATA_WORD = 1, 2, 3, 4, 5, 6
+DEFINES, MAKES_COMMON, WANTS, FORCES, TEXT_WORD, DATA_WORD, TEXT_NEAR, DATA_NEAR = 1, 2, 3, 4, 5, 6, 7, 8
 # enum v7_map_limit_kind
 LIMIT_TEXT, LIMIT_DATA, LIMIT_BSS, LIMIT_END, LIMIT_SYMBOLS, LIMIT_NUMBER, LIMIT_NAMES = 1, 2, 3, 4, 5, 6, 7
 # enum v7_want
@@ -114,7 +114,9 @@ _MapHead = _struct(
 )
 _MapObject = _struct((_U64, "text data bss"), (_SIZE, "symbols"), (_U16, "text_size data_size bss_size"))
 _MapName = _struct((_NAME, "name"), (_SIZE, "definer next_definer user"), (_U32, "state"), (_U16, "type value"))
-_MapUse = _struct((_U64, "address"), (_SIZE, "object name"), (_NAME, "label"), (_U32, "kind"), (_U16, "offset line beyond is_labelled"))
+_MapUse = _struct(
+    (_U64, "address"), (_SIZE, "object name"), (_NAME, "label"), (_U32, "kind"), (_U16, "offset line beyond is_labelled inside"),
+)
 _MapLimit = _struct((_U64, "used most"), (_U32, "kind"))
 _Map = _struct(
     (_MapHead, "head"), (_SIZE, "object_count name_count use_count limit_count"), (ctypes.c_void_p, "objects"), (_SIZE, "object_room"),
@@ -209,9 +211,9 @@ class MapName(NamedTuple):
 
 
 class MapUse(NamedTuple):
-    """A symbol of an object, or a word that leads to it: the numbers of the object and of the name, one of DEFINES to DATA_WORD, and of
-    a word its address and its place, the place of its line, and the label before that with the bytes beyond it. The place of a
-    symbol is its value. A forced name has no object."""
+    """A symbol of an object, or a word that leads to it, or beyond it by the bytes `inside`: the numbers of the object and of the name,
+    one of DEFINES to DATA_NEAR, and of a word its address and its place, the place of its line, and the label before that with the bytes
+    beyond it. The place of a symbol is its value. A forced name has no object."""
 
     object: Optional[int]
     name: int
@@ -221,6 +223,7 @@ class MapUse(NamedTuple):
     line: int
     label: Optional[str]
     beyond: int
+    inside: int
 
 
 class MapLimit(NamedTuple):
@@ -625,8 +628,8 @@ class _Run:
         # there may be a use for each word: a tuple is made by its own call, which is faster than that of its class
         new, none = tuple.__new__, _NO_OBJECT
         uses = [
-            new(MapUse, (None if of == none else of, name, kind, address, offset, line, known(label) if is_labelled else None, beyond))
-            for address, of, name, label, kind, offset, line, beyond, is_labelled in given["uses"]
+            new(MapUse, (None if of == none else of, name, kind, address, offset, line, known(label) if has else None, beyond, inside))
+            for address, of, name, label, kind, offset, line, beyond, has, inside in given["uses"]
         ]
         head, program = self.head, None if self.head.fault else self.program()
         segments = head.text_end, head.data_start, head.data_end, head.bss_start, head.bss_end

@@ -224,6 +224,8 @@ class Faults(unittest.TestCase):
 
     def test_interrupts(self):
         """Edits that Ctrl-C ends before the library makes them, or after that: the module knows which."""
+        # a shell has its background ignore the signal
+        signal.signal(signal.SIGINT, signal.default_int_handler)
         for is_made in (False, True):
             session = v7.Session([OBJECT])
             for name, *words in ("add", OBJECT), ("add", v7.make([WORD])), ("withdraw",):

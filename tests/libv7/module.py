@@ -1,83 +1,89 @@
-"""Makes the same calls of libv7 and, in node, of its module for the page, and compares what they give: on the files of the cases, the
-examples and the tests of libv7, on random files and damaged ones, and in sessions. Each fifth call is made again with no memory left after
-0, 1, 2 .. requests: it has to give the same, or the fault, and to give its memory back. The heap keeps what it lent, also where memory
-cannot grow.
+"""Makes the same calls of libv7 and, in node, of its module for the page, and compares all that they write: on the files of the cases, the
+examples and the tests of libv7, on random files and damaged ones, in links and in sessions, with rooms that are large enough and with
+others. Each twentieth call comes first with no memory left after 0, 1, 2 .. requests: until it gives the same it has to be refused, and
+to give its memory back. The heap keeps what it lent, also where memory cannot grow.
 
 usage: python3 -m tests.libv7.module             compares
        python3 -m tests.libv7.module -m COUNT    makes so many random changes of the module, and says which are not found
-tier: check, 120 seconds; programs: libv7.so; for: page/session.js packaging/heap.c tools/module.py; needs: node wasm-opt
+tier: check, 90 seconds; programs: libv7.so; for: page/session.js packaging/heap.c tools/module.py; needs: node wasm-opt
 """
+import ctypes
 import glob
 import hashlib
 import json
 import os
 import random
 import re
+import struct
 import subprocess
 import sys
 import tempfile
 from concurrent.futures import ThreadPoolExecutor
+from typing import NamedTuple
 
 from tests.cases.case_format import cases_in, read_case
 from tests.cases.cases import files_of, forced_in
 from tests.lib.compare import notices
 from tests.lib.files import TOP, read, read_bytes, write
+from tests.lib.objects import gnu_named, pack
 from tests.lib.programs import ran, v7
 from tests.oracles import agree
 from tests.page.page_tools import CLASS, Scripts, Tools, planted, report, same
 
-OPTIONS = [0, 16, 32, 1, 2, 4, 8, 64, 65, 5, 20, 3, 48, 128]
-# what a job gives, by the linker of the page; a fault is a list of its number and its word
+OPTIONS = [0, 16, 32, 1, 2, 4, 8, 64, 65, 68, 72, 5, 9, 20, 40, 3, 48, 128]
+# the buffers of a result: where each has its size, its place and its room, and how many bytes an item has
+BUFFERS = [(24, 40, 1), (32, 56, 1), (72, 80, 12), (96, 104, 16), (192, 224, 40), (200, 240, 40), (208, 256, 48), (216, 272, 24)]
+# the calls of a job, by the linker of the page: of each a digest of what it returns and writes
 PLAY = r"""(jobs) => {
-    const tried = (act) => {
-        try {
-            return act();
-        } catch (fault) {
-            if (!(fault instanceof Fault)) throw fault;
-            return ["fault", fault.fault, fault.word];
+    const { memory } = LINKER;
+    const all = 0xffffffffffffffffn;
+    let count = 0;
+    const play = (texts, session, [name, ...words]) => memory.whole(() => {
+        const [rooms, places] = [[], []];
+        const text = (number) => memory.given(bytesOf(texts[number]));
+        const room = (size) => {
+            rooms.push([memory.room(size), size]);
+            return rooms.at(-1)[0];
+        };
+        const given = {
+            number: (number) => [number], option: (option) => [{ option }], bytes: text, room: (size) => [room(size)],
+            session: () => [session],
+            request: (size, options, wants, entry, forced, ...objects) => {
+                const [place, slices] = [memory.room(REQUEST), memory.room(16 * objects.length)];
+                objects.forEach((object, i) => memory.setSizes(slices + 16 * i, ...text(object)));
+                memory.setSizes(place, size, options + wants * 2 ** 32, ...text(entry), ...text(forced), slices, objects.length);
+                return [place];
+            },
+            result: (size, ...buffers) => {
+                const result = room(RESULT);
+                memory.setSizes(result, size);
+                for (const [at, size, count] of buffers) {
+                    memory.setSizes(result + at, room(size), count);
+                    places.push(result + at);
+                }
+                return [result];
+            },
+        };
+        const made = words.flatMap(([kind, ...rest]) => given[kind](...rest));
+        const fault = name.endsWith("link") || name === "v7_run" ? made.at(-1) + FAULT_AT : made.at(-1);
+        const out = heap.heap_out(), isEdit = /_(new|add|withdraw|free)$/.test(name);
+        let value;
+        for (let limit = ++count % 20 === 0 ? 0 : -1; ; limit = limit < 40 ? limit + 1 : limit * 2) {
+            heap.heap_limit(limit < 0 ? all : BigInt(limit));
+            value = memory.call(name, ...made);
+            heap.heap_limit(all);
+            if (memory.u32(fault) !== NO_MEMORY) break;
+            if (limit < 0 || (!isEdit && heap.heap_out() !== out)) return `${name} is refused, after ${limit} requests`;
         }
-    };
-    const bytes = bytesOf;
-    const names = ({ text, data, bss, symbols }) => [text, data, bss, symbols.map(({ name, type, value }) => [name, type, value])];
-    const calls = {
-        check: (file) => LINKER.check(bytes(file)), disassemble: (file) => LINKER.disassemble(bytes(file)),
-        list: (file) => LINKER.list(bytes(file)),
-        listing: (file) => latin(LINKER.fromListing(bytes(file))), gnu: (file) => latin(LINKER.fromGnu(bytes(file))),
-        read: (file) => names(LINKER.read(bytes(file))),
-        remarks: (file) => LINKER.remarks(bytes(file)).map(({ part, word, text }) => [part, word, text]),
-        map: (files, options, forced) => LINKER.mapOf(files.map(bytes), { options, forced }),
-        session: (forced, entry, acts) => {
-            const session = LINKER.session(forced);
-            const act = (one) => tried(() => {
-                if (one === "-") return session.withdraw().fault;
-                if (one === "?") return session.state();
-                if (typeof one === "string") return session.add(bytes(one)).fault;
-                const { file, report } = session.link({ options: one, entry });
-                return [latin(file), report];
-            });
-            try {
-                return acts.map(act);
-            } finally {
-                session.free();
-            }
-        },
-    };
-    return jobs.map(([name, ...words], i) => {
-        const given = () => md5(JSON.stringify(tried(() => calls[name](...words))));
-        const [wanted, out] = [given(), heap.heap_out()];
-        if (i % 5 === 0) {
-            for (let limit = 0; limit >= 0; limit = limit < 8 ? limit + 1 : limit * 2) {
-                heap.heap_limit(BigInt(limit));
-                const came = tried(() => calls[name](...words));
-                const isRefused = JSON.stringify(came).includes('["fault",50,');
-                if (heap.heap_out() !== out) return `${name} keeps memory that it was lent, after ${limit} requests`;
-                if (!isRefused && md5(JSON.stringify(came)) !== wanted) return `${name} differs after ${limit} requests`;
-                if (!isRefused) break;
-            }
-            heap.heap_limit(0xffffffffffffffffn);
-        }
-        return wanted;
+        if (!isEdit && heap.heap_out() !== out) return `${name} keeps memory`;
+        for (const place of places) memory.setSizes(place, 0);
+        return md5([value ?? 0, memory.u32(session), ...rooms.map(([place, size]) => latin(memory.bytes(place, size)))].join(" "));
     });
+    return jobs.map(([texts, calls]) => memory.whole(() => {
+        const session = memory.room(SESSION), out = heap.heap_out();
+        const found = calls.map((call) => play(texts, session, call));
+        return heap.heap_out() === out ? found : ["the session keeps memory"];
+    }));
 }"""
 # a linker of an instance whose heap can be asked
 BEGIN = """async () => {
@@ -117,13 +123,108 @@ HEAP = r"""(seed, count) => {
 
 
 # ---- what is called
+class Request(NamedTuple):
+    """What is asked of a link."""
+
+    options: int
+    wants: int
+    objects: list
+    entry: bytes = b""
+    forced: bytes = b""
+    size: int = 64
+
+
+class Result(NamedTuple):
+    """How many items each buffer of a result has room for."""
+
+    counts: list
+    size: int = 288
+
+
+class Option(NamedTuple):
+    """A number of 32 bits."""
+
+    number: int
+
+
+class Job:
+    """Calls on one session, each with a digest of what libv7 returns and writes."""
+
+    def __init__(self, library):
+        self.library, self.session, self.calls, self.wanted, self.texts = library, ctypes.create_string_buffer(16), [], [], {}
+
+    def call(self, name, *words):
+        """Makes a call of numbers, options, bytes, rooms of the size in a list, None for the session, requests and results. Gives what
+        each room has then."""
+        kept, rooms, places = [], [], []
+
+        def place(data):
+            kept.append(ctypes.create_string_buffer(data, max(len(data), 1)))
+            return ctypes.addressof(kept[-1])
+
+        def room(size):
+            at = place(bytes(size))
+            rooms.append((kept[-1], size))
+            return at
+
+        def number_of(text):
+            return self.texts.setdefault(text, len(self.texts))
+
+        def given(word):
+            """The numbers of a word, and the word as the module's player takes it."""
+            if isinstance(word, bytes):
+                return [place(word), len(word)], ["bytes", number_of(word)]
+            if isinstance(word, list):
+                return [room(*word)], ["room", *word]
+            if isinstance(word, Option):
+                return [word.number], ["option", word.number]
+            if isinstance(word, Request):
+                slices = b"".join(struct.pack("<2Q", place(one), len(one)) for one in word.objects)
+                texts = [number for text in (word.entry, word.forced) for number in (place(text), len(text))]
+                made = struct.pack("<QII6Q", word.size, word.options, word.wants, *texts, place(slices), len(word.objects))
+                return [place(made)], ["request", word.size, word.options, word.wants,
+                                       *map(number_of, (word.entry, word.forced, *word.objects))]
+            if isinstance(word, Result):
+                at, buffers = room(288), [(at, count * each, count) for (_, at, each), count in zip(BUFFERS, word.counts)]
+                result = rooms[-1][0]
+                struct.pack_into("<Q", result, 0, word.size)
+                for field, size, count in buffers:
+                    struct.pack_into("<2Q", result, field, room(size), count)
+                    places.append((result, field))
+                return [at], ["result", word.size, *buffers]
+            return ([ctypes.addressof(self.session)], ["session"]) if word is None else ([word], ["number", word])
+
+        made, coded = zip(*map(given, words))
+        value = getattr(self.library, name)(*(ctypes.c_uint64(number) for numbers in made for number in numbers))
+        for result, field in places:
+            struct.pack_into("<Q", result, field, 0)
+        found = [buffer.raw[:size] for buffer, size in rooms]
+        self.calls.append([name, *coded])
+        texts = [str(value).encode(), str(struct.unpack_from("<I", self.session)[0]).encode(), *found]
+        self.wanted.append(hashlib.md5(b" ".join(texts)).hexdigest())
+        return found
+
+    def coded(self):
+        """The job as the module's player takes it."""
+        return [[text.decode("latin-1") for text in self.texts], self.calls]
+
+    def sized(self, rng, name, *words):
+        """A call that writes into a room: one that is empty, and others, one of which is as large as what is written."""
+        size = struct.unpack_from("<Q", self.call(name, *words, [0], 0, [32])[-1], 16)[0]
+        found = b""
+        for more in (0, *rng.sample((-1, 1, 100), 1)):
+            if size + more > 0:
+                found = self.call(name, *words, [size + more], size + more, [32])[0] if more == 0 else self.call(
+                    name, *words, [size + more], size + more, [32]) and found
+        return found
+
+
 def of_cases():
     """The files of each part of the cases, or the first of many, with the names that a session there forces."""
     for path in sorted(glob.glob(f"{TOP}/tests/cases/data/*.case")):
         for lines in cases_in(path):
             for part in read_case(lines).parts:
-                forced = {name.decode("latin-1")[:8] for item in part.plans if item.word == "state"
-                          for name in forced_in(item.arguments)[0]}
+                forced = {name[:8] for item in part.plans if item.word == "state" for name in forced_in(item.arguments)[0]}
                 yield [data for data in files_of(part).values() if data is not None and len(data) <= 2048][:8], sorted(forced)
 
 
@@ -141,7 +242,8 @@ def of_folders():
     return [read_bytes(path) for path in sorted(names) if path.endswith((".o", ".lst", ".gnu", ".out"))]
 
 
-NAMES = [b"_a", b"_main", b"_ninebyt", b"_end", b"_etext", b"_f", b"x", b"_b\xff"]
+NAMES = [*agree.NAMES, b"_ninebyt", b"_f", b"x", b"9", b"/x", b"text"]
+FORCED = [b"", b"", b"_a\0\0\0\0\0\0_z\0\0\0\0\0\0", b"_end\0\0\0\0", b"_ninebyt" * 2 + b"_ninebyu_nineby\0"]
 
 
 def of_chance(rng, count):
@@ -151,102 +253,168 @@ def of_chance(rng, count):
         yield made if rng.random() < 0.6 else agree.damage(rng, rng.choice([made, agree.bad_object_of(rng, NAMES)]))
 
 
-def session_of(rng, objects, forced=(), steps=24):
+def of_instructions(rng, count):
+    """Objects of words of each value, with names: the disassembler sees each instruction."""
+    words = rng.sample(range(65536), 65536)
+    for start in range(0, 65536, 65536 // count):
+        text = [(word, rng.choice([0] * 8 + [1, 2, 3, 4, 5, 6, 7, 0o10, 0o11])) for word in words[start:start + 65536 // count]]
+        symbols = [(b"_out", 0o40, 0)] + [(b"_%o" % n, 0o42 + rng.randrange(3), 2 * rng.randrange(len(text))) for n in range(40)]
+        yield pack(text, [(rng.choice([word, 0o66151, 0o12]), 0) for word, _ in text[:200]], rng.randrange(9) * 2, symbols)
+
+
+# the orders in which many values come to a sort
+ORDERS = [lambda rng, count: rng.sample(range(count), count), lambda _, count: range(count), lambda _, count: range(count, 0, -1),
+          lambda rng, count: [rng.randrange(3) for _ in range(count)], lambda _, count: [number % (count // 3) for number in range(count)],
+          lambda _, count: [abs(number - count // 2) for number in range(count)],
+          lambda rng, count: sorted(range(count), key=lambda number: number + rng.randrange(count // 4))]
+
+
+def of_orders(rng):
+    """Objects with many labels, uses of names, and names of GNU's form, in different orders."""
+    for count in (9, 20, 33, 70, 300, 1500):
+        for order in ORDERS:
+            values, names = order(rng, count), max(2, min(count // 2, 90))
+            text = [(rng.choice([0o4767, 0o16700, 0o12700, value]), rng.choice([0, 0o10 + 16 * (value % names)])) for value in values]
+            labels = [(b"L%o" % (number % 512), rng.choice([2, 2, 2, 3, 4]), 2 * value % 60000) for number, value in enumerate(values)]
+            yield pack(text, [], 60, [(b"_u%d" % number, 0o40, 0) for number in range(names)] + labels)
+            rows = [(b"_%o" % value + b"long" * (count % 2), rng.choice([5, 0o42, 4]), 0) for value in values]
+            yield gnu_named(values, [0] * count, rows)
+    for length in (7, 63, 64, 65, 66, 130):
+        for last in (b"x", b"y", b"y\0", b"\0"):
+            yield gnu_named([0, 0], [0o20, 0o21], [(b"n" * length + b"x", 0o40, 0), (b"n" * length + last, 0o40, 2)])
+    calls = [(number, 0) for word in range(0o104400, 0o104500) for number in (word, *rng.sample(range(65536), 4), 0o240)]
+    yield pack(calls, [], 0, [(b"_a%o" % at, 0o42, 2 * at) for at in range(0, len(calls), 7)])
+
+
+def of_file(rng, job, data):
+    """All calls about a file."""
+    job.call("v7_check", data, [32])
+    for name in ("v7_disassemble", "v7_from_listing"):
+        job.sized(rng, name, data)
+    listed = job.sized(rng, "v7_list", data)
+    for options in (0, rng.randrange(1, 9)):
+        job.sized(rng, "v7_from_gnu", Option(options), data)
+    size, count = struct.unpack_from("<2Q", job.call("v7_remarks", data, [0], 0, [0], 0, [32])[-1], 16)
+    for less, fewer in ((0, 0), rng.choice([(1, 0), (0, 1)])):
+        if size >= less and count >= fewer:
+            job.call("v7_remarks", data, [size - less], size - less, [40 * (count - fewer)], count - fewer, [32])
+    counts = struct.unpack_from("<3Q", job.call("v7_read", data, [16], [0], 0, [0], 0, [0], 0, [32], [32])[-2])
+    for less in ((0, 0, 0), rng.choice([(1, 0, 0), (0, 1, 0), (0, 0, 1)])):
+        if all(map(int.__ge__, counts, less)):
+            rooms = [word for count, fewer, each in zip(counts, less, (4, 4, 12)) for word in ([each * (count - fewer)], count - fewer)]
+            job.call("v7_read", data, [16], *rooms, [32], [32])
+    if 0 < len(listed) < 20_000:
+        for _ in range(2):
+            at = rng.randrange(len(listed) + 1)
+            other = rng.choice([b"x", b" ", b"9", b"/", b"\n", b"\0", b"text\n", b"0", b""])
+            job.sized(rng, "v7_from_listing", listed[:at] + other + listed[at + rng.randrange(2):])
+        job.sized(rng, "v7_from_listing", listed)
+
+
+def of_link(rng, job, name, request, *words):
+    """A link, by a result that has no rooms, those that it needs, and one too small."""
+    result = job.call(name, *words, request, Result([0] * 8))[0]
+    counts = [struct.unpack_from("<Q", result, at)[0] for at, _, _ in BUFFERS]
+    found = job.call(name, *words, request, Result(counts))
+    short = rng.randrange(8)
+    if counts[short]:
+        job.call(name, *words, request, Result([count - (number == short) for number, count in enumerate(counts)]))
+    return found
+
+
+def of_links(rng, job, objects, forced):
+    """Links of objects."""
+    for wants in (1, 15, rng.randrange(17)):
+        options, entry = rng.choice([0, *OPTIONS]), rng.choice([b"", b"", b"_a", b"_main", b"_ninebyte"])
+        of_link(rng, job, "v7_run", Request(options, wants, objects, entry, forced))
+    if rng.random() < 0.1:
+        sizes = rng.choice([(8, 288), (63, 288), (64, 8), (64, 39), (64, 120), (64, 287)])
+        job.call("v7_run", Request(0, rng.randrange(16), objects, b"", forced, sizes[0]), Result([999] * 8, sizes[1]))
+        names = b"".join(b"%08d" % number for number in range(rng.randrange(60, 68)))
+        job.call("v7_run", Request(0, 1, objects, b"", names + b"x" * rng.randrange(2)), Result([9999] * 8))
+
+
+def linked(library, rng, objects):
+    """The files of links in each layout, and without symbols."""
+    for options in (0, 1, 2, 16, 18, 32, 4):
+        found = of_link(rng, Job(library), "v7_run", Request(options, 0, objects))
+        if found[1]:
+            yield found[1]
+
+
+def of_session(rng, job, objects, forced, steps=20):
     """A session: additions, withdrawals, states, and links in each layout."""
-    acts, text = [], [data.decode("latin-1") for data in objects]
-    for one in text:
-        acts += [one, "?"]
-    acts += [*rng.sample(OPTIONS, 6), 0, 1]
-    for _ in range(steps if text else 2):
-        acts.append(rng.choice([rng.choice(text or [""]), "-", "-", "?", rng.choice(OPTIONS)]))
-    return ["session", list(forced), rng.choice(["", "", "_main", "_a"]), [*acts, "?", *["-"] * (len(text) + 1), "?"]]
+    def act(what):
+        if what == "link":
+            asked = Request(rng.choice(OPTIONS), rng.choice([1, 1, 2, 3, 0, 4, 8]), [], rng.choice([b"", b"_a"]))
+            of_link(rng, job, "v7_session_link", asked, None)
+        elif what == "state":
+            job.sized(rng, "v7_session_state", None)
+        elif what == "withdraw":
+            job.call("v7_session_withdraw", None, [32])
+        else:
+            job.call("v7_session_add", None, what, [32])
+
+    if rng.random() < 0.2:
+        act(rng.choice(["link", "state", "withdraw", b"", *objects]))
+    job.call("v7_session_new", None, forced, [32])
+    if rng.random() < 0.1:
+        job.call("v7_session_new", None, forced, [32])
+    is_large = sum(map(len, objects)) > 99_999
+    for one in objects:
+        act(one)
+        act("link" if is_large else "state")
+    for _ in range(0 if is_large else steps):
+        act(rng.choice(["link", "link", "state", "withdraw", "withdraw", *objects, *objects][:5 + 2 * len(objects)]))
+    for _ in range(len(objects) + 1):
+        act("withdraw")
+    act("state")
+    job.call("v7_session_free", None)
 
 
 def jobs_of(count):
     """All calls: of files, of links, and of sessions."""
     rng, jobs = random.Random(count), []
     files, limits = of_library()
-    groups = [*of_cases(), *((objects[:2], ()) for objects in limits)]
+    library = ctypes.CDLL(os.environ["LIBV7"])
     chance = [*of_chance(rng, count)]
-    groups += [(rng.sample(chance, rng.choice([1, 2, 3, 5])), rng.choice([(), (), ("_a", "_z")])) for _ in range(count // 4)]
-    seen = dict.fromkeys([*files, *of_folders(), *chance, *(data for group, _ in groups for data in group)])
-    for data in seen:
-        jobs += [[name, data.decode("latin-1")] for name in ("check", "disassemble", "list", "listing", "gnu", "read", "remarks")]
-    for data in list(seen)[::3]:
-        listed = native(["list", data.decode("latin-1")])
-        if isinstance(listed, str):
-            at = rng.randrange(len(listed) + 1)
-            jobs += [["listing", listed], ["listing", listed[:at] + rng.choice("x 9/\n\0") + listed[at + 1:]]]
+    groups = [(objects, b"".join(name.ljust(8, b"\0") for name in forced)) for objects, forced in of_cases()]
+    groups += [(objects, b"") for objects in limits]
+    groups += [(rng.sample(chance, rng.choice([1, 2, 3, 5])), rng.choice(FORCED)) for _ in range(count // 2)]
+
+    def job(act, *words):
+        jobs.append(Job(library))
+        act(rng, jobs[-1], *words)
+
+    folders, many = of_folders(), [*of_orders(rng)]
+    some = [folders[:5], folders, *(rng.sample(folders, 4) for _ in range(9))]
+    programs = [[data for data in objects if data[:2] == b"\7\1"] for objects in some]
+    files += [file for objects in programs for file in linked(library, rng, objects)]
+    groups += [(rng.sample(many, 3), b"") for _ in range(40)] + [([one], b"") for one in many]
+    files += [*folders, *chance, *many, *of_instructions(rng, 32), *(data for group, _ in groups for data in group)]
+    for data in dict.fromkeys(files):
+        job(of_file, data)
     for objects, forced in groups:
-        objects = [data for data in objects if data[:2] == b"\7\1"]
-        jobs.append(session_of(rng, objects, forced))
-        jobs.append(["map", [data.decode("latin-1") for data in objects], rng.choice(OPTIONS), list(forced)])
+        job(of_links, objects, forced)
+        job(of_session, objects, forced)
+    rng.shuffle(jobs)
     return jobs
 
 
-# ---- by libv7
-def tried(act):
-    try:
-        return act()
-    except v7.Fault as fault:
-        return ["fault", fault.fault, fault.word]
-
-
-def nothing(call, *words):
-    call(*words)
-    return 0
-
-
-def in_session(forced, entry, acts):
-    def act(one):
-        if one in ("-", "?"):
-            return nothing(session.withdraw) if one == "-" else session.state()
-        if isinstance(one, str):
-            return nothing(session.add, one.encode("latin-1"))
-        program = session.link(one)
-        return [program.file.decode("latin-1"), program.report]
-
-    with v7.Session((), entry, forced) as session:
-        return [tried(lambda one=one: act(one)) for one in acts]
-
-
-def parts_read(data):
-    parts = v7.read(data)[1]
-    return [[*map(list, parts.text)], [*map(list, parts.data)], parts.bss,
-            [[name.split("\0")[0], kind, value] for name, kind, value in parts.symbols]]
-
-
-CALLS = {"check": lambda data: v7.check(data), "disassemble": lambda data: v7.disassemble(data), "list": lambda data: v7.listing(data),
-         "listing": lambda data: v7.from_listing(data.decode("latin-1")).decode("latin-1"),
-         "gnu": lambda data: v7.from_gnu(data).decode("latin-1"),
-         "read": parts_read, "remarks": lambda data: [[one.part, one.word, one.text] for one in v7.remarks(data)]}
-
-
-def native(job):
-    """What a job gives by libv7."""
-    name, *words = job
-    if name == "session":
-        return tried(lambda: in_session(*words))
-    if name == "map":
-        return tried(lambda: [*v7.link_map([one.encode("latin-1") for one in words[0]], words[1], "", words[2]).segments])
-    return tried(lambda: CALLS[name](words[0].encode("latin-1")))
-
-
-def digest(value):
-    return hashlib.md5(json.dumps(value, ensure_ascii=False, separators=(",", ":")).encode("latin-1")).hexdigest()
-
-
 # ---- both
-def compare(scripts, jobs, wanted):
-    """How many jobs differ in the module."""
+def compare(scripts, jobs, wanted, most=1):
+    """How many jobs differ in the module, up to so many."""
     scripts.run(BEGIN)
     count = 0
-    for start in range(0, len(jobs), 100):
-        came = scripts.run(PLAY, jobs[start:start + 100])
-        came = [came] * 100 if isinstance(came, dict) else came
-        for job, one, other in zip(jobs[start:], came, wanted[start:start + 100]):
+    for start in range(0, len(jobs), 20):
+        came = scripts.run(PLAY, jobs[start:start + 20])
+        came = [came] * 20 if isinstance(came, dict) else came
+        for (_, calls), one, other in zip(jobs[start:], came, wanted[start:start + 20]):
+            at = next((at for at, both in enumerate(zip(one, other)) if both[0] != both[1]), 0)
             count += one != other
-            same(f"{job[0]} of the module, {str(job[1:])[:60]}", one, other)
+            same(f"{str(calls[at])[:80]}, call {at + 1} of {len(calls)}", one, other)
+        if count >= most:
+            break
     return count
 
 
@@ -271,47 +439,53 @@ def changed(line):
                     count=1)
 
 
-def mutate(tools, count):
-    """Changes the module at random places, and says how many changes are found."""
-    jobs = jobs_of(100)
-    wanted = [digest(native(job)) for job in jobs]
+def mutate(tools, jobs, count):
+    """Changes the module at random places, and says which changes are not found, and which of these no call reaches."""
     ran("wasm-dis", tools.module, "-o", f"{tools.folder}/v7.wat")
     lines = read(f"{tools.folder}/v7.wat").split("\n")
     spots = [number for number, line in enumerate(lines) if SPOT.search(line) and "(data " not in line and "(global " not in line]
+    write(f"{tools.folder}/jobs", json.dumps(jobs))
 
-    def is_found(number):
+    def is_seen(number, line):
         own = Tools(tempfile.mkdtemp(dir=tools.folder))
-        write(f"{own.folder}/m.wat", "\n".join([*lines[:number], changed(lines[number]), *lines[number + 1:]]))
+        write(f"{own.folder}/m.wat", "\n".join([*lines[:number], line, *lines[number + 1:]]))
         subprocess.run(["wasm-as", f"{own.folder}/m.wat", "-o", f"{own.folder}/m.wasm", "--all-features"], check=True)
         own.module = f"{own.folder}/m.wasm"
-        path = own.page_of(CLASS)
-        done = ran("timeout", "300", sys.executable, "-m", "tests.libv7.module", "-w", path, given=json.dumps([jobs, wanted]).encode())
+        # a change that loops ends by its limit of the processor: on a busy machine the clock would find changes
+        words = [sys.executable, "-m", "tests.libv7.module", "-w", own.page_of(CLASS), f"{tools.folder}/jobs"]
+        done = ran("prlimit", "--cpu=300", *words)
         return done.status != 0
 
-    rng = random.Random(count)
-    tried_here = rng.sample(spots, count)
+    def found(number):
+        line = lines[number]
+        if is_seen(number, changed(line)):
+            return "found"
+        # a constant is a whole expression; before another operator something has to stop
+        stopped = SPOT.sub("(unreachable)" if SPOT.search(line)[2] else r"(block (unreachable)) \g<0>", line, count=1)
+        what = "not found" if is_seen(number, stopped) else "no call reaches"
+        print(f"{what}: {number} {line.strip()} -> {changed(line).strip()}", flush=True)
+        return what
+
     with ThreadPoolExecutor(len(os.sched_getaffinity(0))) as pool:
-        found = [*pool.map(is_found, tried_here)]
-    for number, was_found in zip(tried_here, found):
-        if not was_found:
-            print(f"not found: {number} {lines[number].strip()} -> {changed(lines[number]).strip()}")
-    print(f"{sum(found)} of {count} changes of the module are found")
+        all_found = [*pool.map(found, random.Random(count).sample(spots, count))]
+    print(f"{all_found.count('found')} of {count} changes of the module are found, and no call reaches "
+          f"{all_found.count('no call reaches')} of the others")
 
 
 def main(*words):
     if words[:1] == ("-w",):
         with Scripts(words[1]) as scripts:
-            return int(compare(scripts, *json.load(sys.stdin)) > 0)
+            return compare(scripts, *json.loads(read(words[2])))
     notices(planted)
     with tempfile.TemporaryDirectory() as folder:
-        tools = Tools(folder)
+        tools, made = Tools(folder), jobs_of(100)
+        jobs = [job.coded() for job in made], [job.wanted for job in made]
         if words[:1] == ("-m",):
-            return mutate(tools, int(words[1]))
-        jobs = jobs_of(300)
+            return mutate(tools, jobs, int(words[1]))
         with Scripts(tools.page_of(CLASS)) as scripts:
-            compare(scripts, jobs, [digest(native(job)) for job in jobs])
+            compare(scripts, *jobs, 20)
         check_heap(tools)
-    print(f"{len(jobs)} calls of the module, and sessions")
+    print(f"{sum(len(job.calls) for job in made)} calls of the module")
     return report("by the module and by libv7")
 
 

@@ -112,14 +112,16 @@ function apart(boxes, what) {
 }
 // what has been scrolled out of its part of the page is not seen
 function isClipped(element) {
-    const room = element.closest(".stage, .names, .side, .known")?.getBoundingClientRect();
+    const room = element.closest(".stage, .names, .told, .side, .known")?.getBoundingClientRect();
     const box = element.getBoundingClientRect();
     return room !== undefined && (box.top < room.top || box.bottom > room.bottom);
 }
 const badges = [...document.querySelectorAll(".page .tag, .page .badge, .page kbd, .page .label")].filter((badge) => seen(badge)
     && !isClipped(badge));
 counts.badges = badges.length;
-apart(badges.map((badge) => ({ box: badge.getBoundingClientRect(), text: badge.textContent })), "the badges");
+const boxesOf = (elements) => elements.map((element) => ({ box: element.getBoundingClientRect(), text: element.textContent }));
+apart(boxesOf(badges), "the badges");
+apart(boxesOf([...document.querySelectorAll("#guide button")].filter((button) => seen(button) && !isClipped(button))), "the buttons");
 for (const row of document.querySelectorAll(".word, .name, .card .head, .mark")) if (seen(row)) apart(textBoxes(row), "the texts");
 // nothing that can be pressed is covered
 for (const button of document.querySelectorAll("button, summary, input, select")) {

@@ -7,7 +7,7 @@ from itertools import permutations
 from tests.page.page_stage import SEEN, first
 from tests.page.page_state import SEGMENT, Given, Session, Step, branch_of
 from tests.page.page_states import lines_on, read
-from tests.page.page_tools import WORD, addend_said, same
+from tests.page.page_tools import WORD, addend_said, same, words_of
 
 # shows a list of objects, or with the last one withdrawn
 SHOW = """
@@ -35,6 +35,8 @@ def says(_, page, files, most=1000):
             same(f"{what}: the status", status, step.status())
             same(f"{what}: the names", [name[:4] for name in shown["names"]], step.names())
             same(f"{what}: what is struck out", {word["id"]: word["was"] for word in shown["words"] if word["isOld"]}, step.struck())
+            same(f"{what}: what is marked", {word["id"] for word in shown["words"] if word["tag"] in ("bound", "put back")}, {*step.struck()})
+            same(f"{what}: the marks", sorted(map(words_of, shown["done" if is_gone else "marks"])), step.marks())
             session = step.before if is_gone else step.after
             same(f"{what}: labels", {word["id"]: sorted(word["labels"]) for word in shown["words"] if word["labels"]}, step.after.labels())
             same(f"{what}: headings", [head for head in shown["heads"] if not is_gone or " 00 (0.)" not in head

@@ -6,7 +6,7 @@ import re
 from tests.lib.files import read_bytes, write
 from tests.lib.objects import unpack
 from tests.page.page_stage import response
-from tests.page.page_state import Given, Session, Step
+from tests.page.page_state import Given, Session
 from tests.page.page_tools import CLASS, FIVE, IN_C, LAYOUTS, PARTS, TABLES, WORD, object_of, same, size_said, words_of
 
 # shows the whole image with each object unfolded, as key o and clicks on all folds do
@@ -55,14 +55,6 @@ def lines_on(shown):
              + (f" / {word['instruction']}" if word["instruction"] else "") for word in words]
     lines += [f"bss {shown['bss']}"] if shown["bss"] not in ("", size_said(0)) else []
     return [*lines, *sorted(f"name {name}: {known}" for name, known, *_ in names)]
-
-
-def compare_state(page, what, files):
-    """The words, names and marks of a state; gives what is shown."""
-    shown, objects = read(page), [Given(file) for file in files]
-    same(what, lines_on(shown), Session(objects).lines())
-    same(f"{what}: marks", sorted(map(words_of, shown["marks"])), Step(objects).marks() if objects else [])
-    return shown
 
 
 def sum_of(text):
@@ -120,41 +112,26 @@ def compare_addresses(tools, page, what, files):
     page.type("a")
 
 
-def compare_tags(shown, what, marks, tag):
-    """The words with a tag are those of which the marks tell."""
-    wanted = {(part, int(number, 8)) for part, number, was, *_ in map(str.split, marks) if part in ("text", "data") and was == "was"}
-    same(f"{what}: {tag}", {(word["segment"], word["number"]) for word in shown["words"] if word["tag"] == tag}, wanted)
-
-
-def chain(tools, page, files, order):
-    """Objects that are added by their keys in an order, with the links of each list, and then withdrawn by key w."""
-    page.open("")
-    lists = [[files[number] for number in order[:count]] for count in range(1, len(order) + 1)]
-    for number, here in zip(order, lists):
-        what = f"add {' '.join(map(os.path.basename, here))}"
-        page.type(str(number + 1))
-        shown = compare_state(page, what, here)
-        compare_tags(shown, what, shown["marks"], "bound")
-        compare_addresses(tools, page, what, here)
-    for before, here in [*zip(lists, [[], *lists])][::-1]:
-        what = f"withdraw to {' '.join(map(os.path.basename, here))}"
-        page.type("w")
-        shown = compare_state(page, what, here)
-        same(f"{what}: put back", sorted(map(words_of, shown["done"])), Step([Given(file) for file in before]).marks())
-        compare_tags(shown, what, shown["done"], "put back")
+def links(tools, page, files):
+    """The links of the first objects and of the last ones, each list one object longer."""
+    for order in (files, files[::-1]):
+        page.open("")
+        for number, file in enumerate(order, 1):
+            page.run("addObject(arguments[0])", files.index(file))
+            compare_addresses(tools, page, f"add {' '.join(map(os.path.basename, order[:number]))}", order[:number])
 
 
 def clicks(page, files):
     """By clicks: two objects, one taken back, and an address that is kept. The tabulator reaches each button, and Enter presses it."""
     page.open("")
+    one, two, other = (Session([Given(file) for file in some]).lines() for some in (files[:1], files[:2], files[1:2]))
     page.click("add1")
     page.click("add2")
-    added = compare_state(page, "click add2", files[:2])
+    added = read(page)
     same("what is marked", [word["tag"] for word in added["words"]], ["", "", "", "bound", "", "new", "new"])
-    page.click("withdraw")
-    compare_state(page, "click withdraw", files[:1])
-    page.click("flick")
-    same("the step before", lines_on(read(page)), lines_on(added))
+    for button, wanted in (("withdraw", one), ("flick", two)):
+        page.click(button)
+        same(f"click {button}", lines_on(read(page)), wanted)
     page.pick("addresses", "-n (n)")
     kept = read(page)
     same("address", kept["hash"], "#objects=1,2&addresses=-n&whole=1")
@@ -164,7 +141,7 @@ def clicks(page, files):
     same("decimal", [word["value"] for word in read(page)["words"]], [f"{int(word['value'], 8):\u2007>5}" for word in kept["words"]])
     page.open("")
     page.press("add2")
-    compare_state(page, "Enter", files[1:2])
+    same("Enter", lines_on(read(page)), other)
 
 
 def large(tools, page, given, path):
@@ -179,7 +156,8 @@ def large(tools, page, given, path):
         page.run("document.querySelector('#rest .fold').click()")
         sizes = [len(one.text) + len(one.data) for one in (unpack(read_bytes(file)) for file in here)]
         same(f"{order}: a click on a fold shows the words of its object", len(read(page, False)["words"]) >= sizes[0], True)
-        shown = compare_state(page, f"five objects, {order}", here)
+        shown = read(page)
+        same(f"five objects, {order}", lines_on(shown), Session([Given(file) for file in here]).lines())
         changed = {f"{mark[0]}-{int(mark[1], 8)}" for mark in map(str.split, shown["marks"]) if mark[0] in ("text", "data")
                    and mark[2] == "was"}
         same(f"{order}: what changed is shown, or counted", (bound <= changed, len(bound) + counted), (True, len(changed)))
@@ -194,8 +172,7 @@ def compare_states(tools, page, given):
     clicks(page, CLASS)
     for files in (CLASS, FIVE, IN_C, TABLES):
         page.load(tools.page_of(files))
-        for order in ([0, 1, 2, 3, 4], [4, 2, 3, 1, 0]):
-            chain(tools, page, files, order)
+        links(tools, page, files)
     large(tools, page, *given.large)
     full = write(f"{tools.folder}/full.o", object_of([(0, 0)] * 32_767, []))
     page.load(tools.page_of([full, CLASS[3]]))

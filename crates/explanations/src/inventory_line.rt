@@ -44,3 +44,20 @@ pub fn put_inventory_row(text: &mut Text, row: &InventoryRow, path: &str) {
     put_printed(text, path.as_bytes());
     text.put("\n");
 }
+
+/// Appends the line of totals of the rows of an inventory: how many there are, and how many are ok, odd and damaged. (own choice)
+pub fn put_inventory_totals(text: &mut Text, rows: &[u8]) {
+    let (mut files, mut ok, mut odd, mut damaged) = (0u64, 0u64, 0u64, 0u64);
+    for row in rows.split(|byte| *byte == b'\n') {
+        // the column of what is wrong or odd
+        match row.get(49..) {
+            None => continue,
+            Some([b'o', ..]) => ok = ok.saturating_add(1),
+            Some([b'd', ..]) => damaged = damaged.saturating_add(1),
+            Some([b'0'..=b'9', ..]) => odd = odd.saturating_add(1),
+            Some(_) => {}
+        }
+        files = files.saturating_add(1);
+    }
+    text.say(format_args!("total {files}: {ok} ok, {odd} odd, {damaged} damaged\n"));
+}

@@ -22,7 +22,7 @@
 //! - `put_lines`: appends notes, a line each, as a listing has them
 //! - `put_dump`: appends text and data in rows of words
 //! - `file_row`, `refused_row`, `plain_row`: what an inventory says of a file, of bytes that do not make one, and of what is not read
-//! - `put_inventory_row`: appends the line for it
+//! - `put_inventory_row`, `put_inventory_totals`: append the line for it, and that of the totals of such lines
 //!
 //! docs/OBJECTS.md has the form of a listing, and v7-explain(1) what is said in it. Proved: a listing reads back
 //! as its file. Only tested: what it remarks, dumps and inventories.
@@ -42,5 +42,5 @@ pub use file_kind::FileKind;
 pub use inventory::{
     Condition, InventoryRow, SegmentSizes, SymbolCounts, file_row, plain_row, refused_row,
 };
-pub use inventory_line::put_inventory_row;
+pub use inventory_line::{put_inventory_row, put_inventory_totals};
 pub use listing::{put_lines, write_explained, write_remains};

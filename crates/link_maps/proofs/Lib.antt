@@ -1,3 +1,5 @@
+pub mod KeyLemmas
+pub mod LeadLemmas
 pub mod LinkLemmas
 pub mod PaddedLemmas
 pub mod RecordLemmas

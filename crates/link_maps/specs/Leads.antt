@@ -3,9 +3,12 @@
 -- A word that a link relocates leads to the symbol whose number its relocation word has, or to an address in the segment that its relocation
 -- word names. A word of text that no link changes leads to an address of text if it is a branch, or the word of an operand that counts from
 -- the pc. A word leads to a symbol by its number, or if the symbol is at that address of that segment.
-use Rattle.std.specs.Prelude.{ℕ, ◌-◌, ◌*◌, ◌/◌, Bool, false, ◌&&◌, eqb, if◌then◌else◌, List, [], ◌∷◌, ◌++◌, Option, Some, None, slice_get}
+--
+-- A word that leads beyond a label of text, data or bss may reach what the label names, as `_arr+2` does. It may as well belong to a label
+-- between them that the assembler dropped. A word of text does not count for the function that it is in.
+use Rattle.std.specs.Prelude.{ℕ, ◌-◌, ◌*◌, ◌/◌, Bool, false, ◌&&◌, ◌||◌, eqb, if◌then◌else◌, List, [], ◌∷◌, ◌++◌, Option, Some, None, slice_get}
 use Rattle.std.specs.List.{flat_map}
-use Rattle.aout_core.specs.{WellFormed.{first_of, kind_of, symbol_number}, declared.symbol.Symbol.Symbol}
+use Rattle.aout_core.specs.{WellFormed.{first_of, kind_of, symbol_number}, declared.symbol.Symbol.Symbol, declared.symbol.Segment.Segment}
 use Rattle.aout_core.specs.{declared.symbol.Segment.TheVariants.{TextSeg, DataSeg, BssSeg}, declared.reloc.Reloc.Reloc}
 use Rattle.aout_core.specs.{declared.reloc.Kind.Kind, Addresses.{pc_target, target}, Contents.Contents, declared.part.Part.Part}
 use Rattle.aout_core.specs.{Placed.placed_words, declared.placed.PlacedWord.PlacedWord, declared.part.Part.TheVariants.{Text, Data}}
@@ -17,7 +20,8 @@ use Rattle.instructions.specs.{Operands.takes_word, Relocated.is_relocated, Targ
 use Rattle.disassemblies.specs.Naming.{is_at}
 use Rattle.link_maps.specs.{declared.leads.Aim.Aim, declared.leads.Lead.Lead, declared.references.ReferringWord.ReferringWord}
 use Rattle.link_maps.specs.declared.leads.Aim.TheVariants.{Numbered, Addressed}
-use Rattle.link_maps.specs.References.{address_in, line_of, reference_at}
+use Rattle.instructions.specs.declared.reference.Reference.{Reference}
+use Rattle.link_maps.specs.References.{address_in, label_before, line_of, reference_at}
 
 -- ---- words that a link relocates
 
@@ -89,7 +93,7 @@ aim_at starts o at = aim_of starts o at.part (2 * at.number) at.reloc at.word
 
 abbrev pub lead_by : Part → ℕ → Option Aim → List Lead
 lead_by part offset None = []
-lead_by part offset (Some aim) = record { part = part; offset = offset; aim = aim } ∷ []
+lead_by part offset (Some aim) = record { part = part; offset = offset; aim = aim; inside = 0 } ∷ []
 
 abbrev pub lead_at : List Bool → Contents → PlacedWord → List Lead
 lead_at starts o at = lead_by at.part (2 * at.number) (aim_at starts o at)
@@ -110,7 +114,43 @@ leads_to (Numbered n) number s = eqb n number
 leads_to (Addressed segment address) number s = is_at segment address s
 
 abbrev pub reference_if : List Bool → Contents → ℕ → Symbol → Lead → List ReferringWord
-reference_if starts o number s l = if leads_to l.aim number s then reference_at starts o l.part l.offset ∷ [] else []
+reference_if starts o number s l = if leads_to l.aim number s then reference_at starts o l.part l.offset l.inside ∷ [] else []
 
 abbrev pub references_to : List Bool → Contents → ℕ → Symbol → List ReferringWord
 references_to starts o number s = flat_map (reference_if starts o number s) (leads starts o)
+
+-- ---- the words that may reach what a symbol names
+
+-- the label before an address is at `start`
+abbrev pub begins_at : Option Reference → ℕ → ℕ → Bool
+begins_at None address start = false
+begins_at (Some b) address start = eqb (address - b.offset) start
+
+-- a word of text is itself in what begins at this address of text
+abbrev pub is_own : List Symbol → Part → ℕ → Segment → ℕ → Bool
+is_own symbols Text offset TextSeg start = begins_at (label_before symbols TextSeg offset) offset start
+is_own symbols _ offset _ start = false
+
+abbrev pub near_by : List Symbol → Lead → Segment → ℕ → Option Reference → Option Lead
+near_by symbols l segment address None = None
+near_by symbols l segment address (Some b) =
+    if eqb b.offset 0 || is_own symbols l.part l.offset segment (address - b.offset) then None
+    else Some (record { part = l.part; offset = l.offset; aim = Addressed segment (address - b.offset); inside = b.offset })
+
+-- a word that leads beyond a label, as one that leads to the label
+abbrev pub near_of : List Symbol → Aim → Lead → Option Lead
+near_of symbols (Numbered n) l = None
+near_of symbols (Addressed segment address) l = near_by symbols l segment address (label_before symbols segment address)
+
+abbrev pub if_any : Option Lead → List Lead
+if_any None = []
+if_any (Some l) = l ∷ []
+
+abbrev pub near_among : List Symbol → List Lead → List Lead
+near_among symbols ls = flat_map (λ l. if_any (near_of symbols l.aim l)) ls
+
+abbrev pub near_leads : List Bool → Contents → List Lead
+near_leads starts o = near_among o.symbols (leads starts o)
+
+abbrev pub near_to : List Bool → Contents → ℕ → Symbol → List ReferringWord
+near_to starts o number s = flat_map (reference_if starts o number s) (near_leads starts o)

@@ -7,7 +7,9 @@ pub mod Taking
 pub mod Rows
 pub mod Groups
 pub mod Records
+pub mod Unused
 pub mod MapLimits
 pub mod Maps
 pub mod Spots
 pub mod Links
+pub mod internal

@@ -2,7 +2,7 @@
 --
 -- Objects and names are numbered from 0, names in their order. The uses of a name are one after another, and after each the words
 -- of its object that refer to the name.
-use Rattle.std.specs.Prelude.{ℕ, suc, ◌+◌, Bool, not, ◌&&◌, is_some, if◌then◌else◌, Option, Some, None, List, [], ◌∷◌, ◌++◌, drop, map}
+use Rattle.std.specs.Prelude.{ℕ, suc, ◌+◌, Bool, not, ◌&&◌, eqb, is_some, if◌then◌else◌, Option, Some, None, List, [], ◌∷◌, ◌++◌, drop, map}
 use Rattle.std.specs.{Prelude.{replicate, zip, bytes_eq, position, slice_get}, List.flat_map}
 use Rattle.aout_core.specs.{Names.padded, declared.symbol.Symbol.Symbol, declared.part.Part.Part, declared.part.Part.TheVariants.Text}
 use Rattle.aout_core.specs.{declared.part.Part.TheVariants.Data}
@@ -144,12 +144,13 @@ use_record number u = record {
   line = 0;
   beyond = 0;
   is_labelled = 0;
+  inside = 0;
 }
 
--- 5 for a word of text, 6 for a word of data
-abbrev pub word_kind : Part → ℕ
-word_kind Text = 5
-word_kind Data = 6
+-- 5 for a word of text, 6 for a word of data; 7 and 8 if it leads so many bytes beyond the symbol
+abbrev pub word_kind : Part → ℕ → ℕ
+word_kind Text inside = if eqb inside 0 then 5 else 7
+word_kind Data inside = if eqb inside 0 then 6 else 8
 
 abbrev pub label_shown : Option Reference → List ℕ
 label_shown None = no_label
@@ -166,11 +167,12 @@ word_record at object number w = record {
   object = object;
   name = number;
   label = label_shown w.before;
-  kind = word_kind w.part;
+  kind = word_kind w.part w.inside;
   offset = w.offset;
   line = w.line;
   beyond = beyond_label w.before;
   is_labelled = bit (is_some w.before) 1;
+  inside = w.inside;
 }
 
 abbrev pub places_or_none : Option Places → Places
@@ -181,10 +183,11 @@ abbrev pub places_in : List Places → Option ℕ → Places
 places_in ats None = no_places
 places_in ats (Some n) = places_or_none (slice_get ats n)
 
--- a use, and the words that refer to its symbol
+-- a use, the words that refer to its symbol, and those that may reach what that names
 abbrev pub use_records : List Places → ℕ → Use → List UseRecord
 use_records ats number u =
     use_record number u ∷ map (word_record (places_in ats u.object) (number_or_none u.object) number) u.references
+    ++ map (word_record (places_in ats u.object) (number_or_none u.object) number) u.near
 
 -- the uses of these names, of which the first has this number
 abbrev pub records_from : List Places → ℕ → List (List Use) → List UseRecord

@@ -7,11 +7,10 @@
 use Rattle.std.specs.Prelude.{ℕ, ◌*◌, ◌/◌, Bool, false, ◌||◌, eqb, List, [], ◌∷◌, filter, Option, None}
 use Rattle.aout_core.specs.{WellFormed.{first_of, is_external}, declared.symbol.Symbol.Symbol}
 use Rattle.aout_core.specs.{declared.symbol.Segment.Segment, declared.symbol.Segment.TheVariants.{TextSeg, DataSeg, BssSeg}}
-use Rattle.aout_core.specs.{Contents.Contents, Words.plus, declared.part.Part.Part}
+use Rattle.aout_core.specs.{Addresses.data_start_in, Contents.Contents, Words.plus, declared.part.Part.Part}
 use Rattle.aout_core.specs.declared.part.Part.TheVariants.{Text, Data}
 use Rattle.instructions.specs.declared.reference.Reference.{Reference}
 use Rattle.disassemblies.specs.{Near.nearest_label, Starts.line_start}
-use Rattle.link_session.specs.Starts.{own}
 use Rattle.link_maps.specs.declared.references.ReferringWord.{ReferringWord}
 
 abbrev pub segment_of_part : Part → Segment
@@ -43,15 +42,25 @@ abbrev pub line_of : List Bool → Part → ℕ → ℕ
 line_of starts Text offset = 2 * line_start starts (offset / 2)
 line_of starts Data offset = offset
 
--- the address in the object of what is so many bytes after the first of a part
+-- where a part begins: a program with relocation may have its data on a boundary, or at 0
+abbrev pub start_of_part : Contents → Part → ℕ
+start_of_part o Text = 0
+start_of_part o Data = data_start_in o.header
+
+-- the address in the file of what is so many bytes after the first of a part
 abbrev pub address_in : Contents → Part → ℕ → ℕ
-address_in o part offset = plus offset (own o (segment_of_part part))
+address_in o part offset = plus offset (start_of_part o part)
 
 -- the label before a line
 abbrev pub before_line : Contents → Part → ℕ → Option Reference
 before_line o part line = label_before o.symbols (segment_of_part part) (address_in o part line)
 
--- the word of a part so many bytes after the first
-abbrev pub reference_at : List Bool → Contents → Part → ℕ → ReferringWord
-reference_at starts o part offset =
-    record { part = part; offset = offset; line = line_of starts part offset; before = before_line o part (line_of starts part offset) }
+-- the word of a part so many bytes after the first, which leads so many bytes beyond a symbol
+abbrev pub reference_at : List Bool → Contents → Part → ℕ → ℕ → ReferringWord
+reference_at starts o part offset inside = record {
+  part = part;
+  offset = offset;
+  line = line_of starts part offset;
+  before = before_line o part (line_of starts part offset);
+  inside = inside;
+}

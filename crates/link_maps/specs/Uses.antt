@@ -1,7 +1,7 @@
 -- The uses of names: the symbols that define a name or want it, and the words that lead to it. (ld(1), nm(1))
 --
--- Each external symbol of an object is a use of its name, with the words of the object that lead to the symbol. A forced
--- name is used by no object. The map has the uses in the order of their names; those of one name stay in the order of the
+-- Each external symbol of an object is a use of its name, with the words of the object that lead to the symbol, and those that may reach
+-- what it names. A forced name is used by no object. The map has the uses in the order of their names; those of one name stay in the order of the
 -- objects, forced ones first.
 use Rattle.std.specs.Prelude.{ℕ, ◌+◌, Bool, false, not, ◌&&◌, eqb, if◌then◌else◌, List, [], ◌∷◌, ◌++◌, map, Option, Some, None}
 use Rattle.std.specs.{Prelude.slice_get, List.list_any, Cmp.Lexicographic.slice_cmp, Ordering.{nat_cmp, is_lt}}
@@ -11,16 +11,18 @@ use Rattle.disassemblies.specs.Starts.{starts}
 use Rattle.link_session.specs.declared.state.State.TheVariants.{Wanted}
 use Rattle.link_out.specs.function.Reports.{is_missing}
 use Rattle.symtools.specs.NmLists.{in_order}
-use Rattle.link_maps.specs.{declared.references.ReferringWord.ReferringWord, Leads.references_to}
+use Rattle.link_maps.specs.{declared.references.ReferringWord.ReferringWord, Leads.{near_to, references_to}}
 
 -- the number of the object, counted from 0; none for a forced name
 pub record Use : Type 0 where
   pub object : Option ℕ
   pub symbol : Symbol
   pub references : List ReferringWord
+  pub near : List ReferringWord
 
 abbrev pub use_of : ℕ → List Bool → Contents → ℕ → Symbol → Use
-use_of object starts o number s = record { object = Some object; symbol = s; references = references_to starts o number s }
+use_of object starts o number s =
+    record { object = Some object; symbol = s; references = references_to starts o number s; near = near_to starts o number s }
 
 -- the use by the symbol of this number, if that is external
 abbrev pub use_by : ℕ → List Bool → Contents → ℕ → Symbol → List Use
@@ -40,7 +42,7 @@ uses_from object [] = []
 uses_from object (o ∷ os) = uses_in object o ++ uses_from (object + 1) os
 
 abbrev pub forced_use : List ℕ → Use
-forced_use name = record { object = None; symbol = record { name = name; type_bits = 0o40; value = 0 }; references = [] }
+forced_use name = record { object = None; symbol = record { name = name; type_bits = 0o40; value = 0 }; references = []; near = [] }
 
 -- the uses of all names, those of forced names first
 abbrev pub uses : List (List ℕ) → List Contents → List Use

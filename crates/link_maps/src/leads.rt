@@ -26,6 +26,8 @@ pub struct Lead {
     pub part: Part,
     pub offset: u16,
     pub aim: Aim,
+    /// How many bytes beyond its aim the word leads.
+    pub inside: u16,
 }
 
 /// Where a word with a relocation word leads, if it refers to an address. (a.out(5))
@@ -187,7 +189,12 @@ fn put_leads(
         let at = file.placed_word(part, number);
         let offset = (2 * number) as u16;
         if let Some(aim) = aim_of(file, starts, part, offset, at.reloc, at.word) {
-            found.push(Lead { part, offset, aim })?;
+            found.push(Lead {
+                part,
+                offset,
+                aim,
+                inside: 0,
+            })?;
         }
     }
     Ok(())

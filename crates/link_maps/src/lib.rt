@@ -19,6 +19,7 @@
 #![tactic(auto)]
 
 mod groups;
+mod keys;
 mod labels;
 mod leads;
 mod limit_records;
@@ -27,11 +28,13 @@ mod map_records;
 mod members;
 mod name_records;
 mod names;
+mod near;
 mod outcome;
 mod places;
 mod records;
 mod references;
 mod spots;
+mod unused;
 mod uses;
 
 pub use labels::{is_function, label_before};
@@ -44,6 +47,7 @@ pub use names::{is_any_definition, prevailing_symbol, stays_undefined};
 pub use outcome::Outcome;
 pub use places::Places;
 pub use records::{ObjectRecord, UseRecord, padded};
-pub use references::{ReferringWord, put_line_of, word_at, words_at, words_to};
+pub use references::{ReferringWord, Words, put_line_of, word_at, words_at, words_to};
 pub use spots::{Spot, has_address, has_place, is_within, spots_at};
+pub use unused::is_mention;
 pub use uses::Use;

@@ -98,7 +98,8 @@ fn name_state(is_placed: bool, is_multiple: bool, uses: &[Use]) -> u32
     bit(is_placed, 1) + (bit(stays_undefined(uses), 2) + bit(is_multiple, 4))
 }
 
-fn name_in(uses: &[Use]) -> Name
+/// The name of the first of these uses.
+pub(crate) fn name_in(uses: &[Use]) -> Name
     ensures { result ≡ name_in (slice_get uses.now 0) }
 {
     match uses.first() {

@@ -37,7 +37,8 @@ pub struct UseRecord {
     pub name: usize,
     /// The label before the line of a word, filled up with NULs.
     pub label: [u8; 8],
-    /// 1 for a definition, 2 for a common, 3 for another symbol, 4 for a forced name, 5 for a word of text, and 6 for a word of data.
+    /// 1 for a definition, 2 for a common, 3 for another symbol, 4 for a forced name, 5 for a word of text, and 6 for a word of data; 7
+    /// and 8 for those that may reach what the symbol names.
     pub kind: u32,
     /// The place of a word in its part, in bytes; else the value of the symbol.
     pub offset: u16,
@@ -47,6 +48,8 @@ pub struct UseRecord {
     pub beyond: u16,
     /// 1 if there is a label before the line of a word.
     pub is_labelled: u16,
+    /// How many bytes beyond the symbol a word leads.
+    pub inside: u16,
 }
 
 /// A name in eight bytes, filled up with NULs.
@@ -125,15 +128,18 @@ fn use_record(number: usize, used: &Use) -> UseRecord
         line: 0,
         beyond: 0,
         is_labelled: 0,
+        inside: 0,
     }
 }
 
-fn word_kind(part: Part) -> u32
-    ensures { result ≡ word_kind part }
+fn word_kind(part: Part, inside: u16) -> u32
+    ensures { result ≡ word_kind part inside }
 {
-    match part {
-        Part::Text => 5,
-        Part::Data => 6,
+    match (part, inside) {
+        (Part::Text, 0) => 5,
+        (Part::Data, 0) => 6,
+        (Part::Text, _) => 7,
+        (Part::Data, _) => 8,
     }
 }
 
@@ -150,11 +156,12 @@ fn word_record(at: &Places, object: usize, number: usize, word: &ReferringWord) 
         object,
         name: number,
         label,
-        kind: word_kind(word.part),
+        kind: word_kind(word.part, word.inside),
         offset: word.offset,
         line: word.line,
         beyond,
         is_labelled: u16::from(word.before.is_some()),
+        inside: word.inside,
     }
 }
 
@@ -168,24 +175,24 @@ fn places_in(places: &[Places], object: Option<usize>) -> Places
     }
 }
 
-/// Appends the words that refer to a symbol.
+/// Appends words of an object that refer to the name with a number.
 fn put_words(
     records: &mut Vec<UseRecord>,
     at: &Places,
+    object: usize,
     number: usize,
-    used: &Use,
+    words: &[ReferringWord],
 ) -> Result<(), AllocError>
     ensures { OnOk result (records.new.items ≡ records.old.items
-        ++ map (word_record at.now (number_or_none used.now.object) number) used.now.references) }
+        ++ map (word_record at.now object number) words.now) }
 {
-    let object = number_or_none(used.object);
-    for word in &used.references {
+    for word in words {
         records.push(word_record(at, object, number, word))?;
     }
     Ok(())
 }
 
-/// Appends a use, and the words that refer to its symbol.
+/// Appends a use, the words that refer to its symbol, and those that may reach what that names.
 fn put_use(
     records: &mut Vec<UseRecord>,
     places: &[Places],
@@ -196,7 +203,9 @@ fn put_use(
         (records.new.items ≡ records.old.items ++ use_records places.now number used.now) }
 {
     records.push(use_record(number, used))?;
-    put_words(records, &places_in(places, used.object), number, used)
+    let (at, object) = (&places_in(places, used.object), number_or_none(used.object));
+    put_words(records, at, object, number, &used.references)?;
+    put_words(records, at, object, number, &used.near)
 }
 
 /// Appends the uses of a name.

@@ -1,5 +1,5 @@
 //! The uses of names: the symbols that define a name or want it, and the words that lead to it.
-ghost use Rattle.std.specs.Prelude.{◌≡◌, ◌++◌, map, IfOk, OnOk};
+ghost use Rattle.std.specs.Prelude.{◌≡◌, ◌++◌, map, slice_get, Some, IfOk, OnOk};
 ghost use Rattle.disassemblies.specs.Starts.{starts};
 ghost use Rattle.instructions.specs.declared.unix.Decoder.TheVariants.{Unix};
 ghost use Rattle.symtools.specs.NmLists.{in_order};
@@ -16,14 +16,15 @@ use std::marker::Model;
 /// The type word of a symbol that is external and undefined. (a.out(5))
 const UNDEFINED_EXTERNAL: u16 = 0o40;
 
-/// A use of a name: a symbol of an object, and the words of the object that lead to it.
+/// A use of a name: a symbol of an object, the words of the object that lead to it, and those that lead beyond it and not to another label.
 #[derive(Debug, Drop)]
 pub struct Use {
     /// The object, counted from 0; none for a forced name.
     pub object: Option<usize>,
     pub symbol: Symbol,
-    /// In the order of their places, text before data.
+    /// In the order of their places, text before data, as are the words that may reach what the symbol names.
     pub references: Vec<ReferringWord>,
+    pub near: Vec<ReferringWord>,
 }
 
 impl Model for Use {
@@ -31,7 +32,7 @@ impl Model for Use {
 
     ghost Value = { spec.Use };
 
-    ghost view = { λ a. record { object = a.object; symbol = a.symbol; references = a.references.items } };
+    ghost view = { λ a. record { object = a.object; symbol = a.symbol; references = a.references.items; near = a.near.items } };
 }
 
 /// The use of a forced name: a plain mention.
@@ -46,6 +47,7 @@ fn forced_use(alloc: Global, name: Name) -> Use
             value: 0,
         },
         references: Vec::new(alloc),
+        near: Vec::new(alloc),
     }
 }
 
@@ -67,6 +69,7 @@ fn put_use(
     number: usize,
     symbol: &Symbol,
 ) -> Result<(), AllocError>
+    requires { slice_get lined.now.symbols number ≡ Some symbol.now }
     ensures { OnOk result (uses.new.items ≡ uses.old.items
         ++ use_by object (starts Unix lined.now) lined.now number symbol.now) }
 {
@@ -77,6 +80,7 @@ fn put_use(
         object: Some(object),
         symbol: *symbol,
         references: lined.references_to(alloc, number, symbol)?,
+        near: lined.near_to(alloc, number, symbol)?,
     })?;
     Ok(())
 }

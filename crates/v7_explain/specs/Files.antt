@@ -72,6 +72,13 @@ IsCheck e bytes c (Some fault) a = Ends 1 a
 
 -- ---- a line of an inventory
 
+-- an inventory, with the line of its totals after it
+pub record IsTotalled (said a : Answer) : Type 0 where
+  pub line : List ℕ
+  pub output : a.output ≡ said.output ++ line
+  pub errors : a.errors ≡ said.errors
+  pub has_status : a.status ≡ said.status
+
 -- a path that can't be opened, since a name in it is not UTF-8
 abbrev pub IsUnnamed : Answer → Type 0
 IsUnnamed a = a.status ≡ 2

@@ -10,7 +10,7 @@ use Rattle.surroundings.specs.Programs.{AnswersGiven, CallsOr, Quietly, Reads, S
 use Rattle.surroundings.specs.{Sources.{ReadsAt, ReadsFront, ReadsNone}, Answer.Answer, Nodes.ChecksOutput, declared.answer.Fault.Fault}
 use Rattle.surroundings.specs.declared.answer.Fault.TheVariants as faults
 use Rattle.v7_explain.specs.{Calls.{Call, ask, asked_in, explain, map_link, mapping, store, walk}, Maps.IsMapCall}
-use Rattle.v7_explain.specs.Files.{AnswersAt, GivesOr, IsSaid, IsShown, IsUnnamed, joined, nothing_said}
+use Rattle.v7_explain.specs.Files.{AnswersAt, GivesOr, IsSaid, IsShown, IsTotalled, IsUnnamed, joined, nothing_said}
 use Rattle.v7_explain.specs.declared.explaining.Mode.TheVariants.{Listing, Inventory}
 use Rattle.v7_explain.specs.{Walks.{AreWalked, Folders, Found, kind_in, path_found}, declared.explaining.Mode.Mode}
 
@@ -59,11 +59,18 @@ IsExplaining folders mode old new said (found ∷ all) result =
 
 -- ---- folders
 
--- the files of a walk are found before the first is opened, and then a line of an inventory is said of each; or memory runs out
+-- a line follows an inventory, if there is one
+abbrev pub EndsTotalled : Result Answer Fault → Result Answer Fault → Type 0
+EndsTotalled (Ok said) result = GivesOr (IsTotalled said) result
+EndsTotalled (Err fault) result = result ≡ Err fault
+
+-- the files of a walk are found before the first is opened, and then a line of an inventory is said of each, and one of the totals; or
+-- memory runs out
 abbrev pub IsWalk : Option Folders → History → History → List (List ℕ) → Result Answer Fault → Type 0
 IsWalk folders old new paths result =
     ((new ≡ old) × (result ≡ Err (faults.Memory refused)))
-    ⊎ ((found : List Found) × AreWalked folders paths found × IsExplaining folders Inventory old new nothing_said found result)
+    ⊎ ((found : List Found) × AreWalked folders paths found
+    × ((said : Result Answer Fault) × IsExplaining folders Inventory old new nothing_said found said × EndsTotalled said result))
 
 -- ---- a listing that is stored
 

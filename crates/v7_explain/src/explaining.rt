@@ -7,7 +7,7 @@ ghost use Rattle.v7_explain.specs.Runs.{Explains, ExplainsFound, ExplainsNamed, 
 
 use crate::checking::{check_file, check_refused};
 use crate::folders::{Explainable, Folders, walk_all};
-use crate::inventory::{inventory_answer, row_answer, unnamed_answer};
+use crate::inventory::{inventory_answer, row_answer, totalled, unnamed_answer};
 use crate::listing::{View, list_file, show_file};
 use crate::program::NAME;
 use crate::source::{Source, refuse};
@@ -191,7 +191,8 @@ pub(crate) fn explain_all<O: Office, F: Folders>(
     explain_each(alloc, office, folders, mode, paths)
 }
 
-/// A line of an inventory of each file at these paths, and in the folders there. All files are found before the first is opened.
+/// A line of an inventory of each file at these paths, and in the folders there, and the line of totals. All files are found before
+/// the first is opened.
 pub(crate) fn explain_walked<O: Office, F: Folders>(
     alloc: Global,
     office: &mut O,
@@ -202,5 +203,6 @@ pub(crate) fn explain_walked<O: Office, F: Folders>(
         (map string_bytes paths.now) result }
 {
     let found = walk_all(alloc, folders, paths)?;
-    explain_each(alloc, office, folders, Mode::Inventory, &found)
+    let said = explain_each(alloc, office, folders, Mode::Inventory, &found)?;
+    Ok(totalled(alloc, said)?)
 }

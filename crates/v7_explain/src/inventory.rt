@@ -1,11 +1,14 @@
 //! Files in an inventory, a line each. Only tested: the lines.
 ghost use Rattle.std.specs.Prelude.{IfOk};
-ghost use Rattle.v7_explain.specs.Files.{IsShown, IsUnnamed};
+ghost use Rattle.v7_explain.specs.Files.{IsShown, IsTotalled, IsUnnamed};
 
 use crate::source::{Source, put_text_line};
 use aout_core::{File, FileFault, ReadFault, object_fault};
 use checks::{wrong_bytes, wrong_in};
-use explanations::{FileKind, InventoryRow, file_row, plain_row, put_inventory_row, refused_row};
+use explanations::{
+    FileKind, InventoryRow, file_row, plain_row, put_inventory_row, put_inventory_totals,
+    refused_row,
+};
 use std::alloc::{AllocError, Global};
 use surroundings::{Answer, Path};
 use texts::Text;
@@ -62,4 +65,16 @@ pub(crate) fn unnamed_answer(alloc: Global, path: &str) -> Result<Answer, AllocE
         errors: errors.finish()?,
         status: 2,
     })
+}
+
+/// An inventory with the line of its totals.
+pub(crate) fn totalled(alloc: Global, said: Answer) -> Result<Answer, AllocError>
+    ensures { IfOk result (λ answer. IsTotalled said answer) }
+{
+    let mut text = Text::new(alloc);
+    put_inventory_totals(&mut text, &said.output);
+    let line = text.finish()?;
+    let mut said = said;
+    said.output.extend_from_slice(&line)?;
+    Ok(said)
 }

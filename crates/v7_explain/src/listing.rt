@@ -4,6 +4,7 @@ ghost use Rattle.std.specs.Prelude.{IfOk};
 ghost use Rattle.aout_core.specs.WellFormed.{first_object_fault};
 ghost use Rattle.v7_explain.specs.Files.{IsListing, IsShown, status_in};
 
+use crate::functions::{put_functions, with_functions};
 use crate::source::{GNU_NOTE, Source, by_cause, front_notes, put_odd, reported, status_in};
 use aout_core::{File, object_fault};
 use checks::{Evidence, Finding, Notes, all_odd_of, is_of_gnu, put_findings, put_header, wrong_in};
@@ -23,9 +24,24 @@ pub(crate) enum View {
     Rows,
 }
 
+/// Appends the text of a file as instructions; before it, of a program without symbols of text, the functions that its calls show.
+fn put_instructions(text: &mut Text, file: &File) -> Result<(), AllocError> {
+    let named = with_functions(text.allocator(), file)?;
+    if named.is_some() {
+        put_functions(text, file)?;
+    }
+    put_disassembly(text, Decoder::Unix, named.as_ref().unwrap_or(file));
+    Ok(())
+}
+
 /// Appends the contents of a file.
 pub(crate) fn put_body(text: &mut Text, view: View, file: &File) {
     match view {
+        View::Instructions(Decoder::Unix) => {
+            if let Err(error) = put_instructions(text, file) {
+                text.cut(error);
+            }
+        }
         View::Instructions(decoder) => put_disassembly(text, decoder, file),
         View::Rows => put_dump(text, file),
     }

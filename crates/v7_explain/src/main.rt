@@ -8,6 +8,7 @@ mod checking;
 mod disk_folders;
 mod explaining;
 mod folders;
+mod functions;
 mod help;
 mod inventory;
 mod listing;

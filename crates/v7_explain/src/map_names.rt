@@ -5,7 +5,7 @@ use aout_core::{Header, Name, Part, Segment, Symbol};
 use disassemblies::NamedFile;
 use instructions::Reference;
 use link_maps::{
-    Places, ReferringWord, Use, is_any_definition, prevailing_symbol, put_line_of, stays_undefined,
+    Places, ReferringWord, Use, is_mention, prevailing_symbol, put_line_of, stays_undefined,
     word_at, words_to,
 };
 use std::alloc::AllocError;
@@ -15,6 +15,9 @@ use texts::{Printable, Text};
 
 /// What is before the line of a word in a map.
 pub(crate) const INDENT: &str = "                ";
+
+/// The title of words that may reach what a name names.
+const PERHAPS: &str = "perhaps in";
 
 /// Which names a part of the map has.
 #[derive(Clone, Copy)]
@@ -27,27 +30,12 @@ pub(crate) enum Section {
     All,
     /// Those that are asked for.
     Asked,
-    /// Those that an object defines and nothing uses, but for the entry point.
+    /// Those that an object defines and nothing uses.
     Unused,
     /// Those that the object with this number defines.
     Defined(usize),
     /// Those that it needs: it has a symbol that does not define them.
     Needed(usize),
-}
-
-/// Whether an object uses a name: one that defines it does so by the words in it.
-fn is_mention(used: &Use) -> bool {
-    !used.is_definition() || !used.references.is_empty()
-}
-
-/// Whether a link is made in which an object defines a name, nothing uses it, and it is not at the entry point.
-fn is_idle(mapped: &Mapped<'_>, name: &Name, uses: &[Use]) -> bool {
-    let (Some(linked), Some(row)) = (mapped.map.linked(), mapped.row(name)) else {
-        return false;
-    };
-    let is_entry = row.segment() == Segment::TextSeg
-        && row.value == linked.file.header().entry_point;
-    is_any_definition(uses) && !uses.iter().any(|used| is_mention(used)) && !is_entry
 }
 
 /// Whether a part has the name of these uses.
@@ -58,7 +46,7 @@ fn has_name(mapped: &Mapped<'_>, section: Section, name: &Name, uses: &[Use]) ->
         Section::Multiple => mapped.map.is_multiple(&mapped.objects.session, name),
         Section::All => true,
         Section::Asked => asked.names.contains(name),
-        Section::Unused => is_idle(mapped, name, uses),
+        Section::Unused => mapped.map.is_unused(&mapped.objects.session, uses),
         Section::Defined(object) => uses
             .iter()
             .any(|used| used.object == Some(object) && used.is_definition()),
@@ -71,10 +59,25 @@ fn has_name(mapped: &Mapped<'_>, section: Section, name: &Name, uses: &[Use]) ->
 pub(crate) fn put_place(text: &mut Text, segment: &str, address: u64, before: &Option<Reference>) {
     text.say(format_args!("{segment} {address:06o}"));
     if let Some(before) = before {
-        text.say(format_args!("  {}", Printable(before.name.as_bytes())));
-        if before.offset > 0 {
-            text.say(format_args!("+{:o}", before.offset));
-        }
+        put_label(text, "  ", before);
+    }
+}
+
+/// Adds a label with how far beyond it something is.
+fn put_label(text: &mut Text, blanks: &str, label: &Reference) {
+    text.say(format_args!("{blanks}{}", Printable(label.name.as_bytes())));
+    if label.offset > 0 {
+        text.say(format_args!("+{:o}", label.offset));
+    }
+}
+
+/// Adds the label nearest to the line of a word of text, if that is of no function: a place in the function before it.
+fn put_inner_label(text: &mut Text, file: &NamedFile<'_>, word: &ReferringWord) {
+    let nearest = file.names().nearest_label(Segment::TextSeg, word.line);
+    if let (Part::Text, Some(function), Some(label)) = (word.part, word.before, nearest)
+        && label.name != function.name
+    {
+        put_label(text, ", ", &label);
     }
 }
 
@@ -85,7 +88,7 @@ fn label_of(part: Part) -> &'static str {
     }
 }
 
-/// Adds what follows the place of a word: of text the instruction.
+/// Adds what follows the place of a word: of text the instruction; and how many bytes beyond a name it leads.
 fn put_rest(text: &mut Text, file: &NamedFile<'_>, address: u64, word: &ReferringWord) {
     if word.part == Part::Text {
         if word.before.is_none() {
@@ -94,6 +97,9 @@ fn put_rest(text: &mut Text, file: &NamedFile<'_>, address: u64, word: &Referrin
         }
         text.put(": ");
         put_line_of(text, file, word);
+    }
+    if word.inside > 0 {
+        text.say(format_args!(" / +{:o}", word.inside));
     }
     text.put("\n");
 }
@@ -108,6 +114,7 @@ pub(crate) fn put_word(
 ) -> Result<(), AllocError> {
     let word = word_at(text.allocator(), file.file(), part, offset)?;
     put_place(text, label_of(part), address, &word.before);
+    put_inner_label(text, file, &word);
     put_rest(text, file, address, &word);
     Ok(())
 }
@@ -145,41 +152,56 @@ fn put_sources(text: &mut Text, mapped: &Mapped<'_>, uses: &[Use]) {
 /// The first name of each address of an object, by the number of the object, the type and the value: the words are under it.
 type Shown = BTreeMap<(usize, u16, u16), Name>;
 
-/// Adds the words that lead to a name in an object with a number, or the name of the same address under which they are.
-fn put_references(
-    text: &mut Text,
-    mapped: &Mapped<'_>,
-    shown: &mut Shown,
-    object: usize,
-    used: &Use,
-) {
-    let (Some(places), Some(file)) = (mapped.map.places.get(object), mapped.files.get(object))
-    else {
-        return;
-    };
-    if used.is_definition() {
-        let symbol = used.symbol;
-        let address = (object, symbol.masked_type(), symbol.value);
-        if let Some(first) = shown.get(&address) {
-            text.say(format_args!("{INDENT}as {}\n", Printable(first.as_bytes())));
-            return;
-        }
-        if let Err(error) = shown.insert(address, symbol.name) {
-            text.cut(AllocError::from(error));
-        }
+/// The name of the same address under which the words of a use are, if one was before; else its own name from now on.
+fn name_above(text: &mut Text, shown: &mut Shown, object: usize, used: &Use) -> Option<Name> {
+    let symbol = used.symbol;
+    if !used.is_definition() {
+        return None;
     }
-    put_words(text, file, places, &used.references);
+    let address = (object, symbol.masked_type(), symbol.value);
+    if let Some(first) = shown.get(&address) {
+        return Some(*first);
+    }
+    if let Err(error) = shown.insert(address, symbol.name) {
+        text.cut(AllocError::from(error));
+    }
+    None
 }
 
-/// Adds the objects that use a name, each with the words that lead to it.
+/// Adds how many words of an object use a name, and the words, or the name of the same address under which they are.
+fn put_uses(
+    text: &mut Text,
+    mapped: &Mapped<'_>,
+    object: usize,
+    label: &str,
+    words: &[ReferringWord],
+    above: Option<&Name>,
+) {
+    let (path, count) = (mapped.path(Some(object)), words.len());
+    text.say(format_args!("    {label:<12}{path} ({count})\n"));
+    if let Some(first) = above {
+        text.say(format_args!("{INDENT}as {}\n", Printable(first.as_bytes())));
+    } else if let (Some(places), Some(file)) = (
+        mapped.map.places.get(object),
+        mapped.files.get(object),
+    ) {
+        put_words(text, file, places, words);
+    }
+}
+
+/// Adds the objects that use a name, each with the words that lead to it, and apart from these those that may reach what it names.
 fn put_mentions(text: &mut Text, mapped: &Mapped<'_>, shown: &mut Shown, uses: &[Use]) {
     for used in uses.iter().filter(|used| is_mention(used)) {
-        if let Some(object) = used.object {
-            let (path, count) = (mapped.path(used.object), used.references.len());
-            text.say(format_args!("    used in     {path} ({count})\n"));
-            put_references(text, mapped, shown, object, used);
-        } else {
+        let Some(object) = used.object else {
             text.put("    used in     -u\n");
+            continue;
+        };
+        let above = name_above(text, shown, object, used);
+        if !used.is_definition() || !used.references.is_empty() {
+            put_uses(text, mapped, object, "used in", &used.references, above.as_ref());
+        }
+        if !used.near.is_empty() {
+            put_uses(text, mapped, object, PERHAPS, &used.near, above.as_ref());
         }
     }
 }
@@ -258,11 +280,12 @@ pub(crate) fn put_statics(text: &mut Text, mapped: &Mapped<'_>) -> Result<(), Al
             is_titled = true;
             put_line(text, Some(moved(symbol, file.header(), places)), symbol);
             text.say(format_args!("    defined in  {path}\n"));
-            let words = words_to(text.allocator(), file, number)?;
-            if !words.is_empty() {
-                text.say(format_args!("    used in     {path} ({})\n", words.len()));
+            let found = words_to(text.allocator(), file, number)?;
+            for (label, words) in [("used in", &found.references), (PERHAPS, &found.near)] {
+                if !words.is_empty() {
+                    put_uses(text, mapped, object, label, words, None);
+                }
             }
-            put_words(text, named, places, &words);
         }
     }
     Ok(())

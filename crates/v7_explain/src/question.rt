@@ -5,6 +5,7 @@ ghost use Rattle.v7_explain.specs.Files.{AnswersAt, IsAnswered, answer_status, h
 
 use crate::asked::{is_named, octal_number};
 use crate::explaining::MOST_BYTES;
+use crate::functions::with_functions;
 use crate::map_names::{put_line, put_word, put_words};
 use crate::map_spots::put_byte;
 use crate::program::NAME;
@@ -47,12 +48,16 @@ fn answer_status(file: &File, what: &str) -> u8
     if is_there { 0 } else { 1 }
 }
 
-/// Adds what a file has at an address, in each segment that has it.
+/// Adds what a file has at an address, in each segment that has it, and of the text of a program the words that lead there.
 fn put_address(text: &mut Text, named: &NamedFile<'_>, address: u64) -> Result<(), AllocError> {
     let (file, header) = (named.file(), named.file().header());
     let (at, value) = (places_in(header), (address % 65536) as u16);
     if is_within(at.text, header.text_size, address) {
         put_word(text, named, Part::Text, value, address)?;
+        if header.flag != 0 {
+            let callers = words_at(text.allocator(), file, Segment::TextSeg, value)?;
+            put_words(text, named, &at, &callers.references);
+        }
     }
     if is_within(at.data, header.data_size, address) {
         put_byte(text, file.symbols(), "data", address, value)?;
@@ -75,7 +80,11 @@ fn put_named(text: &mut Text, named: &NamedFile<'_>, name: &Name) -> Result<(), 
             } else {
                 words_at(text.allocator(), file, symbol.segment(), symbol.value)?
             };
-            put_words(text, named, &places_in(header), &words);
+            put_words(text, named, &places_in(header), &words.references);
+            if !words.near.is_empty() {
+                text.put("    perhaps\n");
+                put_words(text, named, &places_in(header), &words.near);
+            }
         }
     }
     Ok(())
@@ -150,10 +159,15 @@ fn put_answer(
     shows_function: bool,
 ) -> Result<(), AllocError> {
     let alloc = text.allocator();
-    if shows_function && let Some((start, end)) = function_of(alloc, file, what)? {
-        return put_function(text, file, start, end);
+    let functions = with_functions(alloc, file)?;
+    let shown = functions.as_ref().unwrap_or(file);
+    if shows_function
+        && answer_status(file, what) == 0
+        && let Some((start, end)) = function_of(alloc, shown, what)?
+    {
+        return put_function(text, shown, start, end);
     }
-    let named = NamedFile::new(alloc, file)?;
+    let named = NamedFile::new(alloc, shown)?;
     let name = Name::from_bytes(what.as_bytes());
     let address = octal_number(what.as_bytes());
     if is_named(file.symbols(), &name) {
@@ -164,7 +178,17 @@ fn put_answer(
     {
         return put_address(text, &named, address);
     }
-    text.say(format_args!("{}: not in the file\n", Printable(what.as_bytes())));
+    let is_decimal = address.is_none()
+        && what
+            .as_bytes()
+            .iter()
+            .all(|byte| matches!(byte, b'0'..=b'9'));
+    let hint = if is_decimal {
+        "; addresses are octal"
+    } else {
+        ""
+    };
+    text.say(format_args!("{}: not in the file{hint}\n", Printable(what.as_bytes())));
     Ok(())
 }
 

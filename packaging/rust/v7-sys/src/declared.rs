@@ -52,7 +52,7 @@ pub const V7_UNDEFINED_NAME: u32 = 4;
 pub const V7_NAME_IS_PLACED: u32 = 1; pub const V7_NAME_IS_UNDEFINED: u32 = 2; pub const V7_NAME_IS_MULTIPLE: u32 = 4;
 // enum v7_map_use_kind
 pub const V7_DEFINES: u32 = 1; pub const V7_MAKES_COMMON: u32 = 2; pub const V7_WANTS: u32 = 3; pub const V7_FORCES: u32 = 4;
-pub const V7_TEXT_WORD: u32 = 5; pub const V7_DATA_WORD: u32 = 6;
+pub const V7_TEXT_WORD: u32 = 5; pub const V7_DATA_WORD: u32 = 6; pub const V7_TEXT_NEAR: u32 = 7; pub const V7_DATA_NEAR: u32 = 8;
 // enum v7_map_limit_kind
 pub const V7_LIMIT_TEXT: u32 = 1; pub const V7_LIMIT_DATA: u32 = 2; pub const V7_LIMIT_BSS: u32 = 3; pub const V7_LIMIT_END: u32 = 4;
 pub const V7_LIMIT_SYMBOLS: u32 = 5; pub const V7_LIMIT_NUMBER: u32 = 6; pub const V7_LIMIT_NAMES: u32 = 7;
@@ -99,7 +99,7 @@ pub struct MapName {
 #[repr(C)] #[derive(Clone, Copy, Debug, Default, PartialEq, Eq)]
 pub struct MapUse {
     pub address: u64, pub object: Number, pub name: usize, pub label: Name, pub kind: u32, pub offset: u16, pub line: u16, pub beyond: u16,
-    pub is_labelled: u16
+    pub is_labelled: u16, pub inside: u16
 }
 /// `struct v7_map_limit`
 #[repr(C)] #[derive(Clone, Copy, Debug, Default, PartialEq, Eq)]
