@@ -17,6 +17,7 @@
 #: make planted               plants BUGS=NAME, or all, and sees that tests find them                      kit          25 minutes
 #: make demo                  proves v7, and shows a session and a link with it                            kit          10 minutes
 #: make recheck               proves two claims again, and shows how broken lines are refused             kit          6 minutes
+#: make measure               edges that tests reach, mutants that they notice, and libFuzzer on libv7      tools/needs  40 minutes
 #: make bench                 counts instructions, times and memory                                        valgrind     5 minutes
 #: make help                  shows this. `python3 -m tests list` names each test of a tier, `python3 -m tests NAME` runs it
 PREFIX ?= /usr/local
@@ -37,7 +38,7 @@ endif
 .SUFFIXES:
 .SECONDEXPANSION:
 .PHONY: all quick lib wheel dist page install install-lib uninstall clean help which check-text test gate check check-all \
-	check-wrong-bodies planted demo recheck bench build/quick/liblibv7.a
+	check-wrong-bodies planted demo recheck measure bench build/quick/liblibv7.a
 
 PROGRAMS := $(addprefix build/,v7 v7-from-gnu v7-object v7-explain v7-origin)
 all: $(PROGRAMS)
@@ -186,6 +187,10 @@ planted:
 
 recheck:
 	@sh tools/recheck.sh
+
+# at night, and not in CI
+measure:
+	@python3 -m tests.measure.measure $(PARTS)
 
 bench: build/v7 build/v7-explain build/v7-from-gnu build/v7-object
 	python3 -m tests.costs.heavy

@@ -1,6 +1,6 @@
 """Runs tests, the cheapest first, and lists those that a change concerns.
 
-usage: python3 -m tests NAME ..          tests, all of a folder (`oracles`), or all of a tier: `text`, `test`, `check` or `all`
+usage: python3 -m tests NAME ..          tests, all of a folder (`oracles`), or all of a tier: `text`, `test`, `check`, `all` or `measure`
        python3 -m tests list             all tests by tier, with their seconds, and the programs that they run
        python3 -m tests which [PATH ..]  the tests and the crates that a change of these files concerns; without a PATH of those that
                                          have changed since the commit SINCE, or HEAD
@@ -10,8 +10,8 @@ usage: python3 -m tests NAME ..          tests, all of a folder (`oracles`), or 
                                          this commit is not run again. A minute before V7_CI_SECONDS are over, 10,800 if they are not
                                          given, it stops what runs, and names what is left out; 0 is for no limit
 
-Each tier has what those before do not have. The tests of `test` run side by side with programs that are compiled here without any proof,
-and with the tests that are code, of each crate that has a function with `#[test]`. Those of `check` and `all` run with the programs of
+Each tier has what those before do not have; `measure` is for the night. The tests of `test` run side by side with programs that are
+compiled here without any proof, and with the tests that are code, of each crate that has a function with `#[test]`. Those of `check` and `all` run with the programs of
 build/, or of the folder V7_BUILD.
 
 A test says of itself in its head, as `tier: check, 60 seconds; programs: ..; for: ..; needs: ..; words: ..`, how long it takes on an idle
@@ -43,11 +43,12 @@ from tools.compiling import compile_program
 from tools.prove import SECONDS_EACH, crates_under
 from tools.sketch import compile_library
 
-TIERS = ["text", "test", "check", "all"]
+TIERS = ["text", "test", "check", "all", "measure"]
 HEAD = re.compile(r"^(?:# )?tier: (\w+), (\d+) seconds((?:;(?:\n#?)? \w+: [^;\n]+)*)$", re.M)
 # Debian's packages of commands, and of modules of Python, where they have another name
 PACKAGES = {"cc": "gcc libc6-dev", "c++": "g++", "venv": "python3-venv", "man": "man-db", "aspell": "aspell aspell-en",
-            "chromedriver": "chromium-driver", "selenium": "python3-selenium", "node": "nodejs", "wasm-opt": "binaryen", "pdp11": "simh"}
+            "chromedriver": "chromium-driver", "selenium": "python3-selenium", "node": "nodejs", "wasm-opt": "binaryen", "pdp11": "simh",
+            "fuzzer": "libclang-rt-dev"}
 # the lines that a test prints for those who run it, besides its last one
 SHOWN = re.compile(r"skipped: |(.*: )?not (run|assembled|measured|formatted)\b")
 # for a whole run of one crate, on a machine with other work too
@@ -102,6 +103,9 @@ def passes(*words, env=None):
 def is_there(tool):
     """Whether a tool is there, and with a compiler the headers of the C library: Debian has gcc without these. A module may be that of the
     system's Python, by which the test of the page goes on if another one comes first."""
+    if tool == "fuzzer":
+        return ran("clang", "-fsanitize=fuzzer,address", "-x", "c", "-o", os.devnull, "-",
+                   given=b"int LLVMFuzzerTestOneInput(void) { return 0; }\n").status == 0 if shutil.which("clang") else False
     if tool in ("venv", "selenium"):
         pythons = [sys.executable, *filter(os.path.exists, ["/usr/bin/python3"])]
         return any(ran(python, "-c", f"import {tool}").status == 0 for python in pythons)
@@ -125,7 +129,7 @@ def print_needs(tests, tier=""):
     """Prints Debian's packages that a tier and those before it need, and that are missing; or all that each tier needs."""
     for name in [] if tier else TIERS:
         print(f"{name}: make python3", *map(package, needed([test for test in tests if test.tier == name])))
-    before = TIERS[:TIERS.index(tier) + 1] if tier else []
+    before = ["text", "measure"] if tier == "measure" else TIERS[:TIERS.index(tier) + 1] if tier else []
     for it in missing([test for test in tests if test.tier in before]):
         print(package(it))
     return 0
@@ -143,7 +147,7 @@ def tools_there(tests):
 
 def side_by_side(tests):
     """How many tests run at once: one after another if one is of the tier `all`, and takes all processors."""
-    return 1 if any(it.tier == "all" for it in tests) else PROCESSORS
+    return 1 if any(TIERS.index(it.tier) > 2 for it in tests) else PROCESSORS
 
 
 def minutes(tests):
@@ -357,7 +361,7 @@ def which(*paths):
     for name in sorted({path.split("/")[1] for path in paths if path.startswith("crates/")} & crates_in(TOP).keys()):
         print_crate(name)
     reasons = [(test, {concern(path, test) for path in paths} - {""}) for test in listed()]
-    made = [test for test, why in reasons if why & {"made for it", "uses it"} and test.tier != "all"]
+    made = [test for test, why in reasons if why & {"made for it", "uses it"} and TIERS.index(test.tier) < 3]
     print_tests("tests of texts that were made for it, or use it", [it for it in made if it.tier == "text"], "")
     print_tests("other tests that were made for it, or use it, once make quick has compiled the programs and libv7 in 3 minutes",
          [it for it in made if it.tier != "text"])
@@ -381,7 +385,7 @@ def named(tests, word):
     """The tests of a tier, a folder or a name. One of the tier `all` is chosen by a folder or a name only if no other test is."""
     own = [it for it in tests if it.name == word]
     found = [it for it in tests if word in (it.name, it.title(), it.path.split("/")[-2])]
-    found = [it for it in tests if it.tier == word] or [it for it in found if it.tier != "all" or own == [it]] or found
+    found = [it for it in tests if it.tier == word] or [it for it in found if TIERS.index(it.tier) < 3 or own == [it]] or found
     if not found:
         sys.exit(f"there is no test {word}: python3 -m tests list")
     return found

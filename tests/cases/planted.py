@@ -6,15 +6,12 @@ usage: python3 -m tests.cases.planted [BUG ..]    tries the bugs of all rows, or
        python3 -m tests.cases.planted -a BUG ..   plays all cases with each bug, and prints those that fail
        python3 -m tests.cases.planted -c          looks only whether each edit fits the code, and the table the edits and the cases
 
-A bug CRATE/NAME is an edit of the crate that the prover refuses, as tests/wrong_bodies/edits.py finds it. Any other is an edit of
-tests/cases/planted/, with the path from the top. The rows of tests/programs/largest.py count as cases, and so do
-tests/page/page_data.py and tests/programs/terminal.py. The bug is made in a copy of the sources, and programs are compiled there
+A row has the text that changes. The rows of tests/programs/largest.py count as cases. The bug is made in a copy of the sources, and programs are compiled there
 without proof: those that use its crate, one after another, as long as a case that the row names does not fail. The other programs are
 those without a bug, in build/test. libv7 counts as a program.
 
 tier: text, 1 seconds; words: -c; for: crates tests/cases
 """
-import fnmatch
 import glob
 import os
 import re
@@ -35,12 +32,9 @@ from tools.compiling import compile_program
 from tools.sketch import compile_library
 
 PAGE = "tests/cases/PLANTED.md"
-ROW = re.compile(r"^\| `([\w/*]+)` \| .* \| `([\w/.]+)` \| (.*) \|$")
-# the edits of tests/cases/planted, by their names
-EDITS = {os.path.basename(path)[:-len(".edit")]: path for path in sorted(glob.glob(f"{TOP}/tests/cases/planted/*.edit"))}
-# what the scripts that count as cases print, whether they find something or not
-PRINTED = re.compile(
-    r"^[01] of 1 answers .*\n\Z|^\d+ things of pages were compared|(?:CalledProcess|JSONDecode)Error|^at a terminal: |^  came ", re.M)
+ROW = re.compile(r"^\| `(\w+)` \| [^`|]*(?:`[^`]*`[^`|]*)*\| `([\w/.]+)` \| `(.*)` becomes `(.*)` \| (.*) \|$")
+# what largest.py prints, whether it finds something or not
+PRINTED = re.compile(r"^[01] of 1 answers .*\n\Z", re.M)
 # what is compiled, and the crate of each
 COMPILED = {**PROGRAMS, "libv7": "libv7"}
 # the programs without a bug
@@ -52,9 +46,11 @@ SIDE_BY_SIDE = len(os.sched_getaffinity(0))
 
 
 class Row(NamedTuple):
-    """A bug, where it is below crates, and the cases that have to fail with it."""
+    """A bug, its file below crates, the text that changes with what it becomes, and the cases that have to fail with it."""
     bug: str
     where: str
+    old: str
+    new: str
     cases: list
 
 
@@ -68,29 +64,23 @@ def rows_of(table, runs):
 SCRIPTS = {
     **rows_of(largest.TABLE, lambda name: f"$ {name}\n" + "$ v7-object\n" * (name == "v7-explain")),
     **rows_of(largest.CALLS, lambda _: "$ libv7\n"),
-    "terminal.py: all": (["tests.programs.terminal"], "$ v7\n"),
 }
 
 
 def rows():
-    """The bugs of the table. A name with a `*` is that of several edits."""
+    """The bugs of the table."""
     found = filter(None, map(ROW.match, read(f"{TOP}/{PAGE}").split("\n")))
-    return [Row(bug, row[2], re.findall(r"`([^`]+)`", row[3])) for row in found for bug in (fnmatch.filter(EDITS, row[1]) or [row[1]])]
+    return [Row(row[1], row[2], row[3], row[4], re.findall(r"`([^`]+)`", row[5])) for row in found]
 
 
-def changed(bug):
-    """The files that a bug changes, by path, with its edit made."""
-    crate, _, name = bug.rpartition("/")
-    own = [body.text for body in edits.edits_of(crate) if body.name == name]
-    found = own if crate else [read(EDITS[name])] if name in EDITS else []
-    if len(found) != 1:
-        raise Failed(f"there are {len(found)} such edits")
-    start = f"crates/{crate}" if crate else "."
+def changed(row):
+    """The path of the file that a bug changes, and its text with the bug."""
+    crate, _, path = row.where.partition("/")
     try:
-        files = edits.changed(edits.pairs(found[0]), start)
+        [(path, text)] = edits.changed([(path, row.old, row.new)], f"crates/{crate}").items()
     except edits.Misfit as misfit:
         raise Failed(str(misfit)) from None
-    return {os.path.normpath(f"{start}/{path}"): text for path, text in files.items()}
+    return f"crates/{crate}/{path}", text
 
 
 def cases():
@@ -140,25 +130,24 @@ def cases_that_fail(folder, texts):
     return [name for name in texts if not re.search(rf"^ok {name}$", said, re.M)]
 
 
-def sources(top, files):
-    """Copies the sources, with some of the files changed."""
+def sources(top, path, text):
+    """Copies the sources, with one file changed."""
     shutil.copy(os.path.join(TOP, "crates.txt"), top)
     for path in glob.glob(os.path.join(TOP, "crates", "*", "src")):
         shutil.copytree(path, os.path.join(top, os.path.relpath(path, TOP)))
-    for path, code in files.items():
-        write(os.path.join(top, path), code)
+    write(os.path.join(top, path), text)
 
 
-def failing(bug, texts, is_whole=False):
+def failing(row, texts, is_whole=False):
     """Those of these cases that fail with a bug. With `is_whole` all programs that the bug reaches are compiled before the cases are
     played."""
-    files, uses = changed(bug), crates_in(TOP)
-    crate = next(iter(files)).split(os.sep)[1]
+    (path, text), uses = changed(row), crates_in(TOP)
+    crate = path.split("/")[1]
     using = [name for name in COMPILED if crate in below(COMPILED[name], uses)]
     counts = {name: sum(name in programs_of(text) for text in texts.values()) for name in using}
     reached = sorted(filter(counts.get, using), key=lambda name: -counts[name])
     with tempfile.TemporaryDirectory() as top:
-        sources(top, files)
+        sources(top, path, text)
         folder = os.path.join(top, "build")
         shutil.copytree(GOOD, folder, ignore=shutil.ignore_patterns("*.compiled"))
         found = []
@@ -187,24 +176,22 @@ def programs(names):
 
 
 def check_table():
-    """Whether each edit fits the code, each edit of tests/cases/planted has a row, and each case of a row is there."""
+    """Whether each edit fits the code, and each case of a row is there."""
     table, there = rows(), there_are()
-    planted = ["planted: no case planted", "planted: there are 0 such edits"]
-    same("faults of a row that is planted", [*faults_of(Row("planted", "", ["planted"]), there)], planted)
-    faults = [f"{bug}: no row" for bug in sorted(EDITS.keys() - {row.bug for row in table})]
-    faults += [fault for row in table for fault in faults_of(row, there)]
+    planted = Row("planted", "v7/src/main.rt", "planted", "", ["planted"])
+    same("how many faults a row has that is planted", len([*faults_of(planted, there)]), 2)
+    faults = [fault for row in table for fault in faults_of(row, there)]
     print(f"{PAGE} has {len(table)} bugs", *faults, sep="\n")
     return bool(faults) or not table
 
 
 def faults_of(row, there):
-    """What is wrong with a row of the table: cases that are not there, an edit that does not fit, and another place."""
+    """What is wrong with a row of the table: cases that are not there, and an edit that does not fit."""
     yield from (f"{row.bug}: no case {name}" for name in row.cases if name not in there)
     if not row.cases:
         yield f"{row.bug}: no case"
     try:
-        if not all(path.startswith(f"crates/{row.where}") for path in changed(row.bug)):
-            yield f"{row.bug}: not in {row.where}"
+        changed(row)
     except Failed as fault:
         yield f"{row.bug}: {fault}"
 
@@ -213,14 +200,14 @@ def list_failing(bugs):
     """Prints all cases that fail with each bug."""
     there = cases()
     programs(COMPILED)
-    for bug in bugs:
-        print(f"{bug}: {' '.join(failing(bug, there, True))}", flush=True)
+    for row in (it for it in rows() if it.bug in bugs):
+        print(f"{row.bug}: {' '.join(failing(row, there, True))}", flush=True)
 
 
 def try_row(row, there):
     """Plants a bug: what is wrong, if not all cases fail that its row names."""
     try:
-        found = failing(row.bug, {name: there[name] for name in row.cases})
+        found = failing(row, {name: there[name] for name in row.cases})
     except Failed as fault:
         return str(fault)
     passed = [name for name in row.cases if name not in found] if row.cases else ["no case is named"]

@@ -20,8 +20,11 @@ COLUMNS = "      -      -      -      -      -  -                  "
 def rows(*words):
     """The status, the kinds and paths of the lines, and the lines of errors."""
     done = ran(EXPLAIN, *words, seconds=60)
-    lines = [line.partition(COLUMNS) for line in done.out.decode().splitlines()]
-    return done.status, [(kind.strip(), path) for kind, _, path in lines], done.err.decode("utf-8", "replace").splitlines()
+    lines = done.out.decode().splitlines()
+    if "-R" in words:
+        same("the line of totals", lines.pop(), f"total {len(lines)}: 0 ok, 0 odd, 0 damaged")
+    found = [line.partition(COLUMNS) for line in lines]
+    return done.status, [(kind.strip(), path) for kind, _, path in found], done.err.decode("utf-8", "replace").splitlines()
 
 
 def inventory(*paths):

@@ -67,6 +67,9 @@ LIMITS = [
     ("v7_origin/src/reading.rt", "MOST_BYTES", {
         "man/v7-origin.1": "A file has more than {} bytes.",
     }),
+    ("v7_origin/src/scanning.rt", "MOST_WORK", {
+        "man/v7-origin.1": "The search ends once {} words are compared,",
+    }),
     ("v7_from_gnu/src/reading.rt", "MOST_BYTES", {
         "man/v7-from-gnu.1": "The file has more than {} bytes.",
     }),
