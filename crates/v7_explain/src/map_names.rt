@@ -198,7 +198,14 @@ fn put_mentions(text: &mut Text, mapped: &Mapped<'_>, shown: &mut Shown, uses: &
         };
         let above = name_above(text, shown, object, used);
         if !used.is_definition() || !used.references.is_empty() {
-            put_uses(text, mapped, object, "used in", &used.references, above.as_ref());
+            put_uses(
+                text,
+                mapped,
+                object,
+                "used in",
+                &used.references,
+                above.as_ref(),
+            );
         }
         if !used.near.is_empty() {
             put_uses(text, mapped, object, PERHAPS, &used.near, above.as_ref());
