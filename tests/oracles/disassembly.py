@@ -1,6 +1,6 @@
 """Compares what `v7-explain -d`, `-p` and listings show of instructions with what this script computes from v7-explain(1).
 
-tier: check, 26 seconds; programs: v7-explain; for: crates/instructions crates/disassemblies crates/explanations docs/OBJECTS.md
+tier: check, 26 seconds; programs: v7-explain; for: crates/instructions crates/disassemblies docs/OBJECTS.md
 
 Each of the 65,536 words is the first word of a line four times, each time with two other words after it: 262,144 lines. Then 400 made
 files are compared, objects and linked ones, with names, labels, relocated words, remarks and strings, and the text of their listings.

@@ -3,7 +3,7 @@ v7-explain(1). What is odd of instructions is left to mistakes.py; here `-c` has
 has to add what is called an object, and to answer what is noted of another file.
 
 tier: check, 100 seconds; programs: v7-explain v7 v7-object;
- for: crates/checks crates/explanations crates/v7_explain docs/FORMAT.md man/v7-explain.1
+ for: crates/checks crates/disassemblies crates/v7_explain docs/FORMAT.md man/v7-explain.1
 
 The files are made, the same in each run: objects whose numbers are at the edges of their ranges and beside them, and one file cut
 at each byte. There are objects with 15 to 18 bad relocation words, files with other magic numbers, flags and sizes, files of other forms,

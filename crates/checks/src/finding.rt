@@ -2,6 +2,7 @@
 ghost use Rattle.std.specs.Prelude.{◌≡◌};
 
 use crate::notes::Notes;
+use aout_core::Segment;
 use std::alloc::{AllocError, Global};
 use std::fmt::Display;
 use std::marker::Model;
@@ -101,6 +102,8 @@ pub struct Finding {
     pub kind: FindingKind,
     /// Whether it is not in doubt, as what is odd of a word is if that may be data.
     pub is_sure: bool,
+    /// The segment that a word refers to, if its address is outside of it.
+    pub outside: Option<Segment>,
     /// The same in words, with its numbers.
     pub text: Vec<u8>,
 }
@@ -124,6 +127,7 @@ impl Model for Findings {
 impl Findings {
     ghost use Rattle.std.specs.Prelude.{◌≡◌, [], false, true, IfOk};
     ghost use Rattle.checks.specs.Found.{each_found, Finds, found_as, found_if};
+    ghost use Rattle.checks.specs.declared.finding.FindingKind.TheVariants.{OutsideReference};
 
     /// None yet.
     pub fn new(alloc: Global) -> Findings
@@ -150,6 +154,19 @@ impl Findings {
     pub fn find_as(&mut self, is_sure: bool, place: usize, kind: FindingKind, text: Text)
         ensures { Finds self.old self.new (found_as is_sure true place kind) }
     {
+        self.push(is_sure, place, kind, None, text);
+    }
+
+    fn push(
+        &mut self,
+        is_sure: bool,
+        place: usize,
+        kind: FindingKind,
+        outside: Option<Segment>,
+        text: Text,
+    )
+        ensures { Finds self.old self.new (found_as is_sure true place kind) }
+    {
         let text = match text.finish() {
             Ok(text) => text,
             Err(error) => return self.cut(error),
@@ -158,10 +175,41 @@ impl Findings {
             place,
             kind,
             is_sure,
+            outside,
             text,
         }) {
             self.cut(AllocError::from(error));
         }
+    }
+
+    /// A text, which ends with an `if` unless what it says is sure.
+    fn text_as<D: Display + Drop>(&self, is_sure: bool, says: D) -> Text {
+        let mut text = self.text();
+        text.say(says);
+        if !is_sure {
+            text.put(": a mistake, if this is not meant");
+        }
+        text
+    }
+
+    /// Adds that a word refers to a segment, and to an address outside of it.
+    pub(crate) fn find_outside<D: Display + Drop>(
+        &mut self,
+        is_sure: bool,
+        place: usize,
+        segment: Segment,
+        says: D,
+    )
+        ensures { Finds self.old self.new (found_as is_sure true place OutsideReference) }
+    {
+        let text = self.text_as(is_sure, says);
+        self.push(
+            is_sure,
+            place,
+            FindingKind::OutsideReference,
+            Some(segment),
+            text,
+        );
     }
 
     /// Adds a finding that is sure, with this text, if a condition holds.
@@ -189,11 +237,7 @@ impl Findings {
         ensures { Finds self.old self.new (found_as is_sure holds place kind) }
     {
         if holds {
-            let mut text = self.text();
-            text.say(says);
-            if !is_sure {
-                text.put(": a mistake, if this is not meant");
-            }
+            let text = self.text_as(is_sure, says);
             self.find_as(is_sure, place, kind, text);
         }
     }

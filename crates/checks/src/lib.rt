@@ -46,7 +46,7 @@ pub use heading::{KindText, put_header};
 pub use notes::Notes;
 pub use odd::odd_of;
 pub use other_files::{OtherForm, header_of, is_of_gnu, likeness, other_form};
-pub use places::FilePlaces;
+pub use places::{FilePlaces, segment_name};
 pub use reached::reached_places;
 pub use remains::{decode_there, put_missing, relocs_there};
 pub use suspicions::{all_odd_of, suspicions_of};

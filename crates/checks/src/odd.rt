@@ -331,11 +331,10 @@ fn find_word(findings: &mut Findings, sweep: &Sweep<'_>, part: Part, number: usi
         ),
     );
     if !has_address(file.header(), segment, target) {
-        findings.find_if_as(
+        findings.find_outside(
             is_sure_word(sweep, part, number, segment, reloc, target),
-            true,
             at.reloc_place,
-            FindingKind::OutsideReference,
+            segment,
             format_args!(
                 "the word at {address:06o} is of kind {label} and refers to {target:06o}; {outside}"
             ),

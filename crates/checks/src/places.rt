@@ -82,7 +82,8 @@ pub(crate) fn range_of(header: &Header, segment: Segment) -> Range
     Range { start, end }
 }
 
-pub(crate) fn segment_name(segment: Segment) -> &'static str {
+/// The name of a segment that has addresses: text, data or bss.
+pub fn segment_name(segment: Segment) -> &'static str {
     match segment {
         Segment::DataSeg => "data",
         Segment::BssSeg => "bss",

@@ -86,8 +86,15 @@ fn put_rows(
     }
 }
 
-/// Appends the lines of a file's text in columns, with their labels. An error: out of memory.
-fn put_lines(text: &mut Text, decoder: Decoder, file: &File) -> Result<(), AllocError> {
+/// Appends the lines of a file's text in columns that begin at an address or after it, and before another one, with their labels; after the
+/// last line of the text the labels of its end. An error: out of memory.
+fn put_lines(
+    text: &mut Text,
+    decoder: Decoder,
+    file: &File,
+    first: usize,
+    last: usize,
+) -> Result<(), AllocError> {
     let named = NamedFile::new(text.allocator(), file)?;
     let lines = ListedLines::new(text.allocator(), file)?;
     let end = file.text_words().len();
@@ -95,16 +102,16 @@ fn put_lines(text: &mut Text, decoder: Decoder, file: &File) -> Result<(), Alloc
     while place < end {
         let line = lines.at(decoder, place);
         let count = lines.shown_words(place, &line);
-        put_rows(text, decoder, &named, place, &line, count);
+        let address = place.wrapping_mul(2);
+        if first <= address && address < last {
+            put_rows(text, decoder, &named, place, &line, count);
+        }
         place += count;
     }
-    put_labels(
-        text,
-        &named,
-        Segment::TextSeg,
-        (end.wrapping_mul(2) % 65536) as u16,
-        0,
-    );
+    let after = end.wrapping_mul(2);
+    if after < last {
+        put_labels(text, &named, Segment::TextSeg, (after % 65536) as u16, 0);
+    }
     Ok(())
 }
 
@@ -112,7 +119,20 @@ fn put_lines(text: &mut Text, decoder: Decoder, file: &File) -> Result<(), Alloc
 /// the text of the line with its remarks. A system call may have more words, which are in a row below it. Labels precede their lines, and
 /// those of the end of the text are last. (own choice)
 pub fn put_disassembly(text: &mut Text, decoder: Decoder, file: &File) {
-    if let Err(error) = put_lines(text, decoder, file) {
+    if let Err(error) = put_lines(text, decoder, file, 0, usize::MAX) {
+        text.cut(error);
+    }
+}
+
+/// Appends those of these lines that begin at an address or after it, and before another one. (own choice)
+pub fn put_disassembly_between(text: &mut Text, file: &File, first: u16, last: u16) {
+    if let Err(error) = put_lines(
+        text,
+        Decoder::Unix,
+        file,
+        usize::from(first),
+        usize::from(last),
+    ) {
         text.cut(error);
     }
 }

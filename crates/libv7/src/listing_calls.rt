@@ -10,9 +10,7 @@ use crate::cause::{Cause, Refusal};
 use crate::decoding::first_file;
 use crate::encoding::bytes_of;
 use aout_core::File;
-use checks::Notes;
-use disassemblies::Sweep;
-use explanations::write_explained;
+use disassemblies::{Sweep, write_explained};
 use listings::{Addresses, ListingFault, read_listing};
 use std::alloc::{AllocError, Global};
 
@@ -21,8 +19,7 @@ fn listing_of(alloc: Global, file: &File) -> Result<Vec<u8>, AllocError>
     ensures { IfOk result (λ text. IsListingOf file.now text.items) }
 {
     let sweep = Sweep::new(alloc, file)?;
-    let none = Notes::new(alloc);
-    write_explained(alloc, &sweep, &none, &none)
+    write_explained(alloc, &sweep, &[], &[])
 }
 
 /// The listing of the file that the bytes begin with, as v7-explain(1) prints it but for the lines that begin with a slash.

@@ -10,6 +10,5 @@ pub mod Records
 pub mod Unused
 pub mod MapLimits
 pub mod Maps
-pub mod Spots
 pub mod Links
 pub mod internal

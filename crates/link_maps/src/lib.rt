@@ -48,6 +48,6 @@ pub use outcome::Outcome;
 pub use places::Places;
 pub use records::{ObjectRecord, UseRecord, padded};
 pub use references::{ReferringWord, Words, put_line_of, word_at, words_at, words_to};
-pub use spots::{Spot, has_address, has_place, is_within, spots_at};
+pub use spots::{Spot, is_within, spots_at};
 pub use unused::is_mention;
 pub use uses::Use;

@@ -1,6 +1,4 @@
 pub mod FoundLemmas
-pub mod ExplainingLemmas
-pub mod TakingLemmas
+pub mod EachLemmas
 pub mod MapLemmas
 pub mod AskedLemmas
-pub mod WalkLemmas

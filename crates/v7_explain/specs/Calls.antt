@@ -2,7 +2,7 @@
 --
 -- Options and paths may be in any order, but for -m, which is the first argument: those after it are of a map. With no option the files
 -- at these paths are listed.
-use Rattle.std.specs.Prelude.{ℕ, Bool, false, ◌&&◌, not, if◌then◌else◌, bytes_eq, codes, List, [], ◌∷◌, ◌++◌, Option, Some, None, Result, Ok, Err}
+use Rattle.std.specs.Prelude.{ℕ, Bool, false, ◌&&◌, not, if◌then◌else◌, bytes_eq, codes, List, [], ◌∷◌, Option, Some, None, Result, Ok, Err}
 use Rattle.std.specs.Option.{option_or}
 use Rattle.aout_core.specs.{Words.letter_of}
 use Rattle.instructions.specs.declared.unix.Decoder.TheVariants.{Pdp11, Unix}
@@ -12,8 +12,8 @@ use Rattle.checks.specs.declared.evidence.Evidence.TheVariants.{Flow, Promise}
 use Rattle.v7_explain.specs.{declared.explaining.Mode.TheVariants.{Listing, Show, Check, Inventory}, declared.explaining.Mode.Mode}
 use Rattle.v7_explain.specs.{declared.listing.View.TheVariants.{Instructions, Rows}}
 
--- to explain files, or those in folders, to store the listing of a file, to ask a file for a name or an address, or the map that the arguments
--- after -m ask for
+-- to explain files, or those in folders, to store the listing of a file, to ask a file for a name or an address, or the map that the
+-- arguments after -m ask for
 pub data Call : Type 0 where
   explain : Mode → List (List ℕ) → Call
   walk : List (List ℕ) → Call
@@ -71,19 +71,8 @@ asked_in words = asked_or (after_map words) words
 
 -- ---- the arguments of a map
 
--- the arguments of -y, and those of ld
-pub record Mapping : Type 0 where
-  pub asked : List (List ℕ)
-  pub words : List (List ℕ)
-
--- the word after -y is its argument, after those so far; the other words are the arguments of ld. With -y alone there is no map
-abbrev pub mapping_after : List (List ℕ) → List (List ℕ) → Result Mapping Reason
-mapping_after asked [] = Ok (record { asked = asked; words = [] })
-mapping_after asked (word ∷ []) =
-    if bytes_eq word (codes "-y") then Err (NoValue (letter_of (codes "y"))) else Ok (record { asked = asked; words = word ∷ [] })
-mapping_after asked (word ∷ argument ∷ rest) =
-    if bytes_eq word (codes "-y") then mapping_after (asked ++ argument ∷ []) rest
-    else Ok (record { asked = asked; words = word ∷ argument ∷ rest })
-
-abbrev pub mapping : List (List ℕ) → Result Mapping Reason
-mapping words = mapping_after [] words
+-- those of ld, after each -y with its argument. With -y alone there is no map
+abbrev pub words_of_link : List (List ℕ) → Result (List (List ℕ)) Reason
+words_of_link [] = Ok []
+words_of_link (word ∷ []) = if bytes_eq word (codes "-y") then Err (NoValue (letter_of (codes "y"))) else Ok (word ∷ [])
+words_of_link (word ∷ argument ∷ rest) = if bytes_eq word (codes "-y") then words_of_link rest else Ok (word ∷ argument ∷ rest)

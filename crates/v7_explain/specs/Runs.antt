@@ -1,76 +1,72 @@
--- What v7-explain does with its arguments: what it opens, reads and stores, what it writes, and its status. (own choice)
+-- What v7-explain does with its arguments: what it opens, reads and stores, in order, and its status. (own choice)
 --
--- Each file is read whole and explained before the next one is opened. The answer has what is shown of each, in order, and the largest
--- status. If memory runs out, that is the answer, and nothing was stored.
-use Rattle.std.specs.Prelude.{◌≡◌, ◌⊎◌, ℕ, true, eqb, List, [], ◌∷◌, map, Option, Some, None, Result, Ok, Err}
+-- Each file is read and explained before the next one is opened. The answer has what is shown of each, in order, and the largest status.
+-- If memory runs out, that is the answer, and nothing was stored.
+use Rattle.std.specs.Prelude.{◌≡◌, ◌⊎◌, ℕ, ◌≤◌, true, eqb, List, [], ◌∷◌, map, Option, Result, Ok, Err, codes, is_err, if◌then◌else◌}
+use Rattle.std.specs.Prelude.{string_bytes}
 use Rattle.aout_core.specs.{Decoding.decode, Refusals.refused}
-use Rattle.explanations.specs.declared.file_kind.FileKind.{FileKind}
+use Rattle.command_words.specs.Calls.{AsksForNone, IsAsked, IsWhole, dashes_in, files_of}
+use Rattle.command_words.specs.{declared.words.Call.Call as LinkCall, declared.words.Call.TheVariants.Ld}
+use Rattle.command_words.specs.declared.fault.WordsFault.TheVariants.{Usage}
+use Rattle.link_out.specs.Inputs.{object_in}
 use Rattle.surroundings.specs.{Answers.{AnswersOr, EndsOr, IsPerformed, only_errors}, Events.{History, Surroundings, written}}
 use Rattle.surroundings.specs.Programs.{AnswersGiven, CallsOr, Quietly, Reads, Step, Stores, Then, either}
-use Rattle.surroundings.specs.{Sources.{ReadsAt, ReadsFront, ReadsNone}, Answer.Answer, Nodes.ChecksOutput, declared.answer.Fault.Fault}
+use Rattle.surroundings.specs.{Sources.{EndsReading, ReadsAt, ReadsFront}, Answer.Answer, Nodes.ChecksOutput, declared.answer.Fault.Fault}
 use Rattle.surroundings.specs.declared.answer.Fault.TheVariants as faults
-use Rattle.v7_explain.specs.{Calls.{Call, ask, asked_in, explain, map_link, mapping, store, walk}, Maps.IsMapCall}
-use Rattle.v7_explain.specs.Files.{AnswersAt, GivesOr, IsSaid, IsShown, IsTotalled, IsUnnamed, joined, nothing_said}
+use Rattle.v7_explain.specs.Calls.{Call, ask, asked_in, explain, map_link, store, walk, words_of_link}
+use Rattle.v7_explain.specs.{Files.{AnswersAt, GivesOr, HasStatus, IsSaid, joined, nothing_said}, declared.explaining.Mode.Mode}
 use Rattle.v7_explain.specs.declared.explaining.Mode.TheVariants.{Listing, Inventory}
-use Rattle.v7_explain.specs.{Walks.{AreWalked, Folders, Found, kind_in, path_found}, declared.explaining.Mode.Mode}
 
--- ---- files one after another
+-- ---- one file
+
+-- a fault that has an answer is one
+abbrev pub said_of : Fault → Result Answer Fault
+said_of (faults.Answered a) = Ok a
+said_of (faults.Memory r) = Err (faults.Memory r)
+
+-- the file at a path is read, and this is said of its bytes; or it is not read, and the answer says so, with the status 2
+abbrev pub Answers : (History → History → List ℕ → List ℕ → Type 0) → (List ℕ → Answer → Type 0) → List ℕ → Step Answer
+Answers ReadsBy Says path old new result =
+    ((bytes : List ℕ) × ReadsBy old new path bytes × GivesOr (Says bytes) result)
+    ⊎ ((fault : Fault) × EndsReading old new path fault × (result ≡ said_of fault))
 
 -- an inventory reads the front of a file: one byte more than the largest core file has, 1,024 bytes and 131,070 blocks of 64
 abbrev pub ReadsFor : Mode → History → History → List ℕ → List ℕ → Type 0
 ReadsFor Inventory old new path bytes = ReadsFront 8389505 old new path bytes
 ReadsFor _ old new path bytes = ReadsAt old new path bytes
 
--- the file at a path is read and explained, or it is not read, and the status is 2
-abbrev pub Explains : Mode → History → History → List ℕ → Result Answer Fault → Type 0
-Explains mode old new path result =
-    ((bytes : List ℕ) × ReadsFor mode old new path bytes × GivesOr (IsSaid mode bytes (decode bytes)) result)
-    ⊎ (ReadsNone old new path × EndsOr 2 result)
+abbrev pub Explains : Mode → List ℕ → Step Answer
+Explains mode path = Answers (ReadsFor mode) (λ bytes. IsSaid mode bytes (decode bytes)) path
 
--- an inventory does not read what has a kind of its own, as a device
-abbrev pub IsKind : Option Folders → Mode → List ℕ → Option FileKind → Type 0
-IsKind folders Inventory path kind = (at : Folders) → folders ≡ Some at → kind ≡ kind_in (at path)
-IsKind folders _ path kind = kind ≡ None
+-- what an inventory does not open: a device, a FIFO or a socket, or a path that is not UTF-8, with the status 2
+abbrev pub IsUnopened : Answer → Type 0
+IsUnopened a = (a.status ≡ 0) ⊎ (a.status ≡ 2)
 
-abbrev pub ExplainsBy : Option FileKind → Mode → History → History → List ℕ → Result Answer Fault → Type 0
-ExplainsBy None mode old new path result = Explains mode old new path result
-ExplainsBy (Some kind) mode old new path result = (new ≡ old) × GivesOr (IsShown 0) result
+abbrev pub ExplainsAt : Mode → List ℕ → Step Answer
+ExplainsAt mode path old new result =
+    Explains mode path old new result ⊎ ((mode ≡ Inventory) × (new ≡ old) × GivesOr IsUnopened result)
 
-abbrev pub ExplainsNamed : Option Folders → Mode → History → History → List ℕ → Result Answer Fault → Type 0
-ExplainsNamed folders mode old new path result =
-    (kind : Option FileKind) × IsKind folders mode path kind × ExplainsBy kind mode old new path result
-
--- what was found is explained; what is not named can't be opened
-abbrev pub ExplainsFound : Option Folders → Mode → History → History → Found → Result Answer Fault → Type 0
-ExplainsFound folders mode old new found result =
-    either found.is_named (ExplainsNamed folders mode old new found.path result) ((new ≡ old) × GivesOr IsUnnamed result)
+-- ---- one after another
 
 -- after one answer there are others, or memory ran out for it, or for all together
 abbrev pub Follows : (Answer → Type 0) → History → History → Result Answer Fault → Result Answer Fault → Type 0
 Follows Others between new (Ok more) result = ((new ≡ between) × (result ≡ Err (faults.Memory refused))) ⊎ Others more
 Follows Others between new (Err fault) result = (new ≡ between) × (result ≡ Err fault)
 
--- what is shown of each, after what was shown before
-abbrev pub IsExplaining : Option Folders → Mode → History → History → Answer → List Found → Result Answer Fault → Type 0
-IsExplaining folders mode old new said [] result = (new ≡ old) × AnswersOr result said
-IsExplaining folders mode old new said (found ∷ all) result =
-    (one : Result Answer Fault) × (between : History) × ExplainsFound folders mode old between found one
-    × Follows (λ more. IsExplaining folders mode between new (joined said more) all result) between new one result
-
--- ---- folders
-
--- a line follows an inventory, if there is one
-abbrev pub EndsTotalled : Result Answer Fault → Result Answer Fault → Type 0
-EndsTotalled (Ok said) result = GivesOr (IsTotalled said) result
-EndsTotalled (Err fault) result = result ≡ Err fault
+-- what is done at each path is answered, after what was said before
+abbrev pub IsEach : (List ℕ → Step Answer) → List (List ℕ) → Answer → Step Answer
+IsEach Does [] said old new result = (new ≡ old) × AnswersOr result said
+IsEach Does (path ∷ paths) said old new result =
+    (one : Result Answer Fault) × (between : History) × Does path old between one
+    × Follows (λ more. IsEach Does paths (joined said more) between new result) between new one result
 
 -- the files of a walk are found before the first is opened, and then a line of an inventory is said of each, and one of the totals; or
 -- memory runs out
-abbrev pub IsWalk : Option Folders → History → History → List (List ℕ) → Result Answer Fault → Type 0
-IsWalk folders old new paths result =
+abbrev pub IsWalk : Step Answer
+IsWalk old new result =
     ((new ≡ old) × (result ≡ Err (faults.Memory refused)))
-    ⊎ ((found : List Found) × AreWalked folders paths found
-    × ((said : Result Answer Fault) × IsExplaining folders Inventory old new nothing_said found said × EndsTotalled said result))
+    ⊎ ((found : List (List ℕ)) × Then (IsEach (ExplainsAt Inventory) found nothing_said)
+    (λ said. Quietly (GivesOr (HasStatus said.status))) old new result)
 
 -- ---- a listing that is stored
 
@@ -92,22 +88,52 @@ StoresListing to path =
     Then (Reads path) (λ bytes.
     Then (Quietly (GivesOr (IsSaid (Listing true) bytes (decode bytes)))) (IsStoring to)))
 
+-- ---- the map of a link
+
+-- 1 if bytes are not an object
+abbrev pub status_taken : List ℕ → ℕ
+status_taken bytes = if is_err (object_in (decode bytes)) then 1 else 0
+
+abbrev pub Takes : List ℕ → Step Answer
+Takes path = Answers ReadsAt (λ bytes. HasStatus (status_taken bytes)) path
+
+-- there is a map if each file is an object, and its status is 0 or 1; else the answer says which are not
+abbrev pub EndsMapped : Answer → Result Answer Fault → Type 0
+EndsMapped said result = either (eqb said.status 0) (GivesOr (λ a. a.status ≤ 1) result) (result ≡ Ok said)
+
+-- the files are those that `ld` takes with the same arguments; or memory runs out
+abbrev pub IsMapping : List (List ℕ) → Step Answer
+IsMapping paths old new result =
+    ((new ≡ old) × (result ≡ Err (faults.Memory refused)))
+    ⊎ Then (IsEach Takes paths nothing_said) (λ said. Quietly (EndsMapped said)) old new result
+
+abbrev pub MapsCall : LinkCall → Step Answer
+MapsCall (Ld options forced out files) old new result = IsMapping (map string_bytes files.items) old new result
+MapsCall _ old new result = (new ≡ old) × EndsOr 2 result
+
+abbrev pub link_words : List (List ℕ) → List (List ℕ)
+link_words words = codes "ld" ∷ words
+
+-- memory runs out for these arguments, or they ask for no call, or for one that is mapped
+abbrev pub MapsWords : List (List ℕ) → Step Answer
+MapsWords words old new result =
+    ((new ≡ old) × (result ≡ Err (faults.Memory refused)))
+    ⊎ (AsksForNone (link_words words) Usage × (new ≡ old) × EndsOr 2 result)
+    ⊎ ((call : LinkCall) × IsWhole call × IsAsked (link_words words) call × (dashes_in (link_words words) ≡ dashes_in (files_of call))
+    × MapsCall call old new result)
+
 -- ---- the program
 
--- the map of the link, or only of what is asked of it, that the arguments after -m ask for
-abbrev pub MapsAsked : List (List ℕ) → Step Answer
-MapsAsked words = CallsOr (λ m. IsMapCall m.asked m.words) (mapping words)
-
 -- what the arguments ask for
-abbrev pub IsCall : Option Folders → Call → Step Answer
-IsCall folders (explain mode paths) old new result = IsExplaining folders mode old new nothing_said (map path_found paths) result
-IsCall folders (walk paths) old new result = IsWalk folders old new paths result
-IsCall folders (store to path) old new result = StoresListing to path old new result
-IsCall folders (ask what path) old new result = AnswersAt what path old new result
-IsCall folders (map_link words) old new result = MapsAsked words old new result
+abbrev pub IsCall : Call → Step Answer
+IsCall (explain mode paths) = IsEach (ExplainsAt mode) paths nothing_said
+IsCall (walk paths) = IsWalk
+IsCall (store to path) = StoresListing to path
+IsCall (ask what path) = AnswersAt what path
+IsCall (map_link words) = CallsOr MapsWords (words_of_link words)
 
 -- what the arguments ask for is done, and its answer is written
-abbrev pub PerformsExplain : {W E : Type 0} → (W → Option (List ℕ)) → (E → Option (List ℕ)) → Option Folders → List (List ℕ) →
+abbrev pub PerformsExplain : {W E : Type 0} → (W → Option (List ℕ)) → (E → Option (List ℕ)) → List (List ℕ) →
     Surroundings W E → Surroundings W E → ℕ → Type 0
-PerformsExplain contents error_contents folders words before after status =
-    IsPerformed contents error_contents (AnswersGiven (IsCall folders) asked_in words) before after status
+PerformsExplain contents error_contents words before after status =
+    IsPerformed contents error_contents (AnswersGiven IsCall asked_in words) before after status

@@ -2,12 +2,11 @@
 ghost use Rattle.std.specs.{Prelude.{◌≡◌, None, IfOk}, List.list_any};
 ghost use Rattle.aout_core.specs.WellFormed.{first_object_fault};
 ghost use Rattle.checks.specs.Found.{each_found};
-ghost use Rattle.surroundings.specs.Answers.{Ends};
-ghost use Rattle.v7_explain.specs.Files.{IsCheck, status_of};
+ghost use Rattle.v7_explain.specs.Files.{HasStatus, status_checked, status_of};
 
-use crate::explaining::nothing_said;
 use crate::source::{
-    GNU_NOTE, Source, by_cause, likeness_of, put_front, put_odd_lines, put_reports, put_text_line,
+    GNU_NOTE, Source, fold_outside, likeness_of, put_front, put_odd_lines, put_reports,
+    put_text_line,
 };
 use aout_core::{File, ReadFault, object_fault};
 use checks::{
@@ -24,7 +23,7 @@ pub(crate) fn check_refused(
     source: Source<'_>,
     fault: ReadFault,
 ) -> Result<Answer, AllocError>
-    ensures { IfOk result (λ answer. Ends 1 answer) }
+    ensures { IfOk result (λ answer. HasStatus 1 answer) }
 {
     let wrong = wrong_bytes(alloc, source.bytes, fault)?;
     let mut lines = Text::new(alloc);
@@ -59,20 +58,13 @@ fn check_object(
     file: &File,
 ) -> Result<Answer, AllocError>
     ensures { IfOk result (λ answer.
-        IsCheck evidence source.entry.bytes.now file.now None answer) }
+        HasStatus (status_checked evidence source.entry.bytes.now file.now None) answer) }
 {
     let sweep = Sweep::new(alloc, file)?;
     let odd = all_odd_of(alloc, evidence, source.bytes, &sweep, false)?;
-    if odd.is_empty() {
-        return Ok(nothing_said(alloc));
-    }
     let status = status_of(&odd);
     let mut lines = Text::new(alloc);
-    put_odd_lines(
-        &mut lines,
-        source.path,
-        &by_cause(alloc, source.bytes, odd)?,
-    );
+    put_odd_lines(&mut lines, source.path, &fold_outside(alloc, odd)?);
     error_answer(alloc, lines, status)
 }
 
@@ -83,8 +75,8 @@ pub(crate) fn check_file(
     source: Source<'_>,
     file: &File,
 ) -> Result<Answer, AllocError>
-    ensures { IfOk result (λ answer. IsCheck evidence source.entry.bytes.now file.now
-        (first_object_fault file.now) answer) }
+    ensures { IfOk result (λ answer. HasStatus
+        (status_checked evidence source.entry.bytes.now file.now (first_object_fault file.now)) answer) }
 {
     let refused = object_fault(file);
     if refused.is_none() {

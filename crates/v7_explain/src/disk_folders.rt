@@ -1,8 +1,8 @@
 //! The folders of a runtime. No contract can say what a folder has, so these lines are to be read: the names are those at the very path
 //! that is asked for. Links are left out.
+use crate::file_kind::FileKind;
 use crate::folders::{Folder, Folders, path_in};
 use aout_core::Refused;
-use explanations::FileKind;
 use std::alloc::{AllocError, Global};
 use std::fs;
 use std::io::{self, BufRead, BufReader};

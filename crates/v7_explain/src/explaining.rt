@@ -1,19 +1,20 @@
 //! Files that are explained one after another: each is read whole and explained before the next one is opened.
-ghost use Rattle.std.specs.Prelude.{◌≡◌, OnOk, IfErr, IfOk, map, string_bytes};
+ghost use Rattle.std.specs.Prelude.{◌≡◌, OnOk, IfErr, IfOk, IfSome, map, string_bytes};
 ghost use Rattle.aout_core.specs.Decoding.{decode};
 ghost use Rattle.surroundings.specs.Sources.{EndsReading};
-ghost use Rattle.v7_explain.specs.{Files.{IsSaid, joined, nothing_said}, Walks.path_found};
-ghost use Rattle.v7_explain.specs.Runs.{Explains, ExplainsFound, ExplainsNamed, IsExplaining, IsKind, IsWalk, ReadsFor};
+ghost use Rattle.v7_explain.specs.Files.{IsSaid, joined, nothing_said};
+ghost use Rattle.v7_explain.specs.Runs.{Explains, ExplainsAt, IsEach, IsUnopened, IsWalk, ReadsFor};
+ghost use Rattle.v7_explain.specs.declared.explaining.Mode.TheVariants.{Inventory};
 
 use crate::checking::{check_file, check_refused};
 use crate::folders::{Explainable, Folders, walk_all};
 use crate::inventory::{inventory_answer, row_answer, totalled, unnamed_answer};
+use crate::inventory_row::plain_row;
 use crate::listing::{View, list_file, show_file};
 use crate::program::NAME;
 use crate::source::{Source, refuse};
 use aout_core::decode_file;
 use checks::Evidence;
-use explanations::{FileKind, plain_row};
 use std::alloc::{AllocError, Global};
 use surroundings::{Answer, Fault, Office, read_front, read_whole};
 
@@ -94,7 +95,7 @@ fn explain_at<O: Office>(
     mode: Mode,
     path: &str,
 ) -> Result<Answer, Fault>
-    ensures { Explains mode (O.history office.old) (O.history office.new) path.now result }
+    ensures { Explains mode path.now (O.history office.old) (O.history office.new) result }
 {
     match bytes_for(alloc, office, mode, path) {
         Ok(bytes) => {
@@ -109,36 +110,40 @@ fn explain_at<O: Office>(
     }
 }
 
-/// The kind of what is at a path, if an inventory does not read it.
-#[tactic(auto, using(crate::proofs::ExplainingLemmas::by_mode))]
-fn kind_for<F: Folders>(folders: &F, mode: Mode, path: &str) -> Option<FileKind>
-    ensures { IsKind (F.folders folders.now) mode path.now result }
+/// The line of what an inventory does not open: a device, a FIFO or a socket, or a path that is not UTF-8.
+fn unopened<F: Folders, P: Explainable>(
+    alloc: Global,
+    folders: &F,
+    found: &P,
+) -> Result<Option<Answer>, AllocError>
+    ensures { IfOk result (λ line. IfSome line IsUnopened) }
 {
-    match mode {
-        Mode::Inventory => folders.kind_at(path),
-        _ => None,
+    let path = found.path();
+    if !found.is_named() {
+        return Ok(Some(unnamed_answer(alloc, path)?));
+    }
+    match folders.kind_at(path) {
+        Some(kind) => Ok(Some(row_answer(alloc, path, &plain_row(kind))?)),
+        None => Ok(None),
     }
 }
 
-#[tactic(auto, using(crate::proofs::ExplainingLemmas::by_kind))]
-fn explain_named<O: Office, F: Folders>(
+/// The line of what was found.
+fn line_of<O: Office, F: Folders, P: Explainable>(
     alloc: Global,
     office: &mut O,
     folders: &F,
-    mode: Mode,
-    path: &str,
+    found: &P,
 ) -> Result<Answer, Fault>
-    ensures { ExplainsNamed (F.folders folders.now) mode
-        (O.history office.old) (O.history office.new) path.now result }
+    ensures { ExplainsAt Inventory (P.path found.now) (O.history office.old) (O.history office.new) result }
 {
-    match kind_for(folders, mode, path) {
-        Some(kind) => Ok(row_answer(alloc, path, &plain_row(kind))?),
-        None => explain_at(alloc, office, mode, path),
+    match unopened(alloc, folders, found)? {
+        Some(line) => Ok(line),
+        None => explain_at(alloc, office, Mode::Inventory, found.path()),
     }
 }
 
-/// What is said of what was found at a path.
-#[tactic(auto, using(crate::proofs::ExplainingLemmas::by_found))]
+/// What is said of what was found.
 fn explain_found<O: Office, F: Folders, P: Explainable>(
     alloc: Global,
     office: &mut O,
@@ -146,27 +151,24 @@ fn explain_found<O: Office, F: Folders, P: Explainable>(
     mode: Mode,
     found: &P,
 ) -> Result<Answer, Fault>
-    ensures { ExplainsFound (F.folders folders.now) mode
-        (O.history office.old) (O.history office.new) (P.found found.now) result }
+    ensures { ExplainsAt mode (P.path found.now) (O.history office.old) (O.history office.new) result }
 {
-    let path = found.path();
-    if found.is_named() {
-        explain_named(alloc, office, folders, mode, path)
-    } else {
-        Ok(unnamed_answer(alloc, path)?)
+    match mode {
+        Mode::Inventory => line_of(alloc, office, folders, found),
+        _ => explain_at(alloc, office, mode, found.path()),
     }
 }
 
 /// What is said of each, in order, and the largest status.
-fn explain_each<O: Office, F: Folders, P: Explainable>(
+pub(crate) fn explain_each<O: Office, F: Folders, P: Explainable>(
     alloc: Global,
     office: &mut O,
     folders: &F,
     mode: Mode,
     all: &[P],
 ) -> Result<Answer, Fault>
-    ensures { IsExplaining (F.folders folders.now) mode
-        (O.history office.old) (O.history office.new) nothing_said (map P.found all.now) result }
+    ensures { IsEach (ExplainsAt mode) (map P.path all.now) nothing_said
+        (O.history office.old) (O.history office.new) result }
 {
     let mut said = nothing_said(alloc);
     for found in all {
@@ -174,21 +176,6 @@ fn explain_each<O: Office, F: Folders, P: Explainable>(
         join(&mut said, &more)?;
     }
     Ok(said)
-}
-
-#[tactic(auto, using(crate::proofs::ExplainingLemmas::all_explained))]
-pub(crate) fn explain_all<O: Office, F: Folders>(
-    alloc: Global,
-    office: &mut O,
-    folders: &F,
-    mode: Mode,
-    paths: &[String],
-) -> Result<Answer, Fault>
-    ensures { IsExplaining (F.folders folders.now) mode
-        (O.history office.old) (O.history office.new) nothing_said
-        (map path_found (map string_bytes paths.now)) result }
-{
-    explain_each(alloc, office, folders, mode, paths)
 }
 
 /// A line of an inventory of each file at these paths, and in the folders there, and the line of totals. All files are found before
@@ -199,8 +186,7 @@ pub(crate) fn explain_walked<O: Office, F: Folders>(
     folders: &F,
     paths: &[String],
 ) -> Result<Answer, Fault>
-    ensures { IsWalk (F.folders folders.now) (O.history office.old) (O.history office.new)
-        (map string_bytes paths.now) result }
+    ensures { IsWalk (O.history office.old) (O.history office.new) result }
 {
     let found = walk_all(alloc, folders, paths)?;
     let said = explain_each(alloc, office, folders, Mode::Inventory, &found)?;

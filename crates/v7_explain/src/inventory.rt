@@ -1,14 +1,13 @@
 //! Files in an inventory, a line each. Only tested: the lines.
 ghost use Rattle.std.specs.Prelude.{IfOk};
-ghost use Rattle.v7_explain.specs.Files.{IsShown, IsTotalled, IsUnnamed};
+ghost use Rattle.v7_explain.specs.Files.{HasStatus};
 
+use crate::file_kind::FileKind;
+use crate::inventory_line::{put_inventory_row, put_inventory_totals};
+use crate::inventory_row::{InventoryRow, file_row, plain_row, refused_row};
 use crate::source::{Source, put_text_line};
 use aout_core::{File, FileFault, ReadFault, object_fault};
 use checks::{wrong_bytes, wrong_in};
-use explanations::{
-    FileKind, InventoryRow, file_row, plain_row, put_inventory_row, put_inventory_totals,
-    refused_row,
-};
 use std::alloc::{AllocError, Global};
 use surroundings::{Answer, Path};
 use texts::Text;
@@ -19,7 +18,7 @@ pub(crate) fn row_answer(
     path: &str,
     row: &InventoryRow,
 ) -> Result<Answer, AllocError>
-    ensures { IfOk result (λ answer. IsShown 0 answer) }
+    ensures { IfOk result (λ answer. HasStatus 0 answer) }
 {
     let mut text = Text::new(alloc);
     let path = format!(in alloc; "{}", Path(path))?;
@@ -37,7 +36,7 @@ pub(crate) fn inventory_answer(
     source: Source<'_>,
     read: &Result<File, ReadFault>,
 ) -> Result<Answer, AllocError>
-    ensures { IfOk result (λ answer. IsShown 0 answer) }
+    ensures { IfOk result (λ answer. HasStatus 0 answer) }
 {
     let bytes = source.bytes;
     let row = match read {
@@ -55,7 +54,7 @@ pub(crate) fn inventory_answer(
 
 /// The line of a path that can't be opened, since a name in it is not UTF-8, and the error.
 pub(crate) fn unnamed_answer(alloc: Global, path: &str) -> Result<Answer, AllocError>
-    ensures { IfOk result (λ answer. IsUnnamed answer) }
+    ensures { IfOk result (λ answer. HasStatus 2 answer) }
 {
     let line = row_answer(alloc, path, &plain_row(FileKind::NotUtf8))?;
     let mut errors = Text::new(alloc);
@@ -69,7 +68,7 @@ pub(crate) fn unnamed_answer(alloc: Global, path: &str) -> Result<Answer, AllocE
 
 /// An inventory with the line of its totals.
 pub(crate) fn totalled(alloc: Global, said: Answer) -> Result<Answer, AllocError>
-    ensures { IfOk result (λ answer. IsTotalled said answer) }
+    ensures { IfOk result (λ answer. HasStatus said.status answer) }
 {
     let mut text = Text::new(alloc);
     put_inventory_totals(&mut text, &said.output);

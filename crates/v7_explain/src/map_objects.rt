@@ -1,10 +1,9 @@
 //! The objects of a link, from their files.
-ghost use Rattle.std.specs.Prelude.{◌≡◌, ◌≢◌, [], true, IfErr, IfOk, Err, Ok, is_err, map, string_bytes};
-ghost use Rattle.aout_core.specs.{Decoding.decode, Refusals.refused};
-ghost use Rattle.link_maps.specs.Members.{all_of};
+ghost use Rattle.std.specs.Prelude.{◌≡◌, IfErr, IfOk, Ok, is_err, map, string_bytes};
+ghost use Rattle.aout_core.specs.Decoding.{decode};
 ghost use Rattle.link_out.specs.Inputs.{object_in};
-ghost use Rattle.surroundings.specs.{Answers.Stops, declared.answer.Fault.TheVariants.Memory};
-ghost use Rattle.v7_explain.specs.internal.Takes.{KeepsSplit, TakesAll, TakesNext, TakesOne};
+ghost use Rattle.surroundings.specs.Answers.{Stops};
+ghost use Rattle.v7_explain.specs.{Files.{GivesOr, HasStatus, nothing_said}, Runs.{IsEach, Takes, status_taken}};
 
 use crate::explaining::{MOST_BYTES, join, nothing_said};
 use crate::program::NAME;
@@ -43,42 +42,35 @@ fn object_in(alloc: Global, path: &str, bytes: &[u8]) -> Result<Object, Fault>
     }
 }
 
-/// Takes the object at a path, or returns why there is none.
+/// Takes the object in the bytes at a path, or says why there is none.
+#[tactic(auto, using(crate::proofs::EachLemmas::by_taken))]
+fn take(alloc: Global, objects: &mut Objects, path: &str, bytes: &[u8]) -> Result<Answer, Fault>
+    ensures { GivesOr (HasStatus (status_taken bytes.now)) result }
+{
+    match object_in(alloc, path, bytes) {
+        Ok(object) => {
+            let label = String::from_str(alloc, path)?;
+            objects.take(alloc, label, object)?;
+            Ok(nothing_said(alloc))
+        }
+        Err(Fault::Answered(answer)) => Ok(answer),
+        Err(Fault::Memory(refused)) => Err(Fault::Memory(refused)),
+    }
+}
+
+/// Takes the object at a path, or says why there is none.
 fn take_at<O: Office>(
     alloc: Global,
     office: &mut O,
     objects: &mut Objects,
     path: &str,
-) -> Result<(), Fault>
-    ensures taken { TakesOne (O.history office.old) (O.history office.new) path.now
-        (all_of objects.old) (all_of objects.new) result }
-    ensures forced { objects.new.session.forced ≡ objects.old.session.forced }
-    ensures split { result ≢ Err (Memory refused) → KeepsSplit objects.old → KeepsSplit objects.new }
+) -> Result<Answer, Fault>
+    ensures { Takes path.now (O.history office.old) (O.history office.new) result }
 {
-    let bytes = read_whole(alloc, office, NAME, path, MOST_BYTES)?;
-    let object = object_in(alloc, path, &bytes)?;
-    let label = String::from_str(alloc, path)?;
-    objects.take(alloc, label, object)?;
-    Ok(())
-}
-
-/// Takes the object at a path, or adds why there is none to what is said.
-fn take_next<O: Office>(
-    alloc: Global,
-    office: &mut O,
-    objects: &mut Objects,
-    said: &mut Answer,
-    path: &str,
-) -> Result<(), AllocError>
-    ensures taken { TakesNext (O.history office.old) (O.history office.new) path.now
-        (all_of objects.old) (all_of objects.new) said.old said.new result }
-    ensures forced { objects.new.session.forced ≡ objects.old.session.forced }
-    ensures split { IfOk result (λ _. KeepsSplit objects.old → KeepsSplit objects.new) }
-{
-    match take_at(alloc, office, objects, path) {
-        Ok(()) => Ok(()),
-        Err(Fault::Answered(more)) => join(said, &more),
-        Err(Fault::Memory(refused)) => Err(AllocError::from(refused)),
+    match read_whole(alloc, office, NAME, path, MOST_BYTES) {
+        Ok(bytes) => take(alloc, objects, path, &bytes),
+        Err(Fault::Answered(answer)) => Ok(answer),
+        Err(Fault::Memory(refused)) => Err(Fault::Memory(refused)),
     }
 }
 
@@ -89,14 +81,13 @@ pub(crate) fn take_objects<O: Office>(
     objects: &mut Objects,
     paths: &[String],
 ) -> Result<Answer, Fault>
-    ensures taken { all_of objects.old ≡ [] → TakesAll (O.history office.old) (O.history office.new)
-        (map string_bytes paths.now) (all_of objects.new) result }
-    ensures forced { objects.new.session.forced ≡ objects.old.session.forced }
-    ensures split { IfOk result (λ _. KeepsSplit objects.old → KeepsSplit objects.new) }
+    ensures { IsEach Takes (map string_bytes paths.now) nothing_said
+        (O.history office.old) (O.history office.new) result }
 {
     let mut said = nothing_said(alloc);
     for path in paths {
-        take_next(alloc, office, objects, &mut said, path.as_str())?;
+        let more = take_at(alloc, office, objects, path.as_str())?;
+        join(&mut said, &more)?;
     }
     Ok(said)
 }

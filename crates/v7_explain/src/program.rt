@@ -4,7 +4,7 @@ ghost use Rattle.surroundings.specs.Programs.{AnswersGiven, DoesWords};
 ghost use Rattle.v7_explain.specs.{Calls.{asked_in, asked_or, call_of}, Runs.{IsCall, PerformsExplain}, internal.Asked.call_in};
 
 use crate::arguments::{Call, after_map, call_of};
-use crate::explaining::{explain_all, explain_walked};
+use crate::explaining::{explain_each, explain_walked};
 use crate::folders::Folders;
 use crate::help::{HELP, USAGE};
 use crate::map::map_files;
@@ -26,11 +26,10 @@ fn do_call<O: Office, F: Folders>(
     folders: &F,
     call: Call<'_>,
 ) -> Result<Answer, Fault>
-    ensures { IsCall (F.folders folders.now) (call_in call.entry)
-        (O.history office.old) (O.history office.new) result }
+    ensures { IsCall (call_in call.entry) (O.history office.old) (O.history office.new) result }
 {
     match call {
-        Call::Explain(mode, paths) => explain_all(alloc, office, folders, mode, paths),
+        Call::Explain(mode, paths) => explain_each(alloc, office, folders, mode, paths),
         Call::Walk(paths) => explain_walked(alloc, office, folders, paths),
         Call::Store(to, path) => store_listing(alloc, office, to, path),
         Call::Ask(what, shows_function, path) => answer_at(
@@ -51,8 +50,7 @@ fn answer_given<O: Office, F: Folders>(
     folders: &F,
     given: &Given,
 ) -> Result<Answer, Fault>
-    ensures { DoesWords (IsCall (F.folders folders.now)) (call_of given.now)
-        (O.history office.old) (O.history office.new) result }
+    ensures { DoesWords IsCall (call_of given.now) (O.history office.old) (O.history office.new) result }
 {
     match call_of(given) {
         Ok(call) => do_call(alloc, office, folders, call),
@@ -68,9 +66,7 @@ fn answer_read<O: Office, F: Folders>(
     folders: &F,
     words: &[String],
 ) -> Result<Answer, Fault>
-    ensures { DoesWords (IsCall (F.folders folders.now))
-        (asked_or None (map string_bytes words.now))
-        (O.history office.old) (O.history office.new) result }
+    ensures { DoesWords IsCall (asked_or None (map string_bytes words.now)) (O.history office.old) (O.history office.new) result }
 {
     match given_in(alloc, b"cdlmpRst", b"oy", words)? {
         Ok(given) => answer_given(alloc, office, folders, &given),
@@ -86,8 +82,7 @@ fn answer_words<O: Office, F: Folders>(
     folders: &F,
     words: &[String],
 ) -> Result<Answer, Fault>
-    ensures { DoesWords (IsCall (F.folders folders.now))
-        (asked_in (map string_bytes words.now)) (O.history office.old) (O.history office.new) result }
+    ensures { DoesWords IsCall (asked_in (map string_bytes words.now)) (O.history office.old) (O.history office.new) result }
 {
     match after_map(words) {
         Some(rest) => map_files(alloc, office, rest),
@@ -103,8 +98,7 @@ fn answer<O: Office, F: Folders>(
     folders: &F,
     words: &[String],
 ) -> Result<Answer, Fault>
-    ensures { AnswersGiven (IsCall (F.folders folders.now)) asked_in
-        (map string_bytes words.now) (O.history office.old) (O.history office.new) result }
+    ensures { AnswersGiven IsCall asked_in (map string_bytes words.now) (O.history office.old) (O.history office.new) result }
 {
     match shown_in(words) {
         Some(shown) => Ok(shown_answer(alloc, NAME, HELP, shown)?),
@@ -121,8 +115,7 @@ pub fn perform<O: Office, F: Folders, W: Write, E: Write>(
     outputs: &mut Outputs<W, E>,
     words: &[String],
 ) -> u8
-    ensures { PerformsExplain W.contents E.contents (F.folders folders.now)
-        (map string_bytes words.now)
+    ensures { PerformsExplain W.contents E.contents (map string_bytes words.now)
         (record { asked = O.history office.old; output = outputs.old.output; error = outputs.old.error })
         (record { asked = O.history office.new; output = outputs.new.output; error = outputs.new.error }) result }
 {

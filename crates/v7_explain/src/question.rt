@@ -1,7 +1,7 @@
 //! What a file has under a name or at an address. Only tested: the text. Proved: whether what is asked is absent.
-ghost use Rattle.std.specs.Prelude.{◌≡◌, IfOk};
-ghost use Rattle.aout_core.specs.Decoding.{decode};
-ghost use Rattle.v7_explain.specs.Files.{AnswersAt, IsAnswered, answer_status, has_address, places_in};
+ghost use Rattle.std.specs.Prelude.{◌≡◌, ◌+◌, Ok, IfOk};
+ghost use Rattle.aout_core.specs.{Addresses.data_start_in, Decoding.decode};
+ghost use Rattle.v7_explain.specs.Files.{AnswersAt, HasStatus, has_address, status_asked};
 
 use crate::asked::{is_named, octal_number};
 use crate::explaining::MOST_BYTES;
@@ -11,16 +11,17 @@ use crate::map_spots::put_byte;
 use crate::program::NAME;
 use crate::source::{Source, refuse};
 use aout_core::{File, Header, Name, Part, Segment, decode_file};
-use disassemblies::{NamedFile, put_disassembly};
-use instructions::Decoder;
-use link_maps::{Places, has_place, is_function, is_within, label_before, words_at, words_to};
+use disassemblies::{NamedFile, put_disassembly_between};
+use link_maps::{Places, is_function, is_within, label_before, words_at, words_to};
 use std::alloc::{AllocError, Global};
 use surroundings::{Answer, Fault, Office, read_whole};
 use texts::{Printable, Text};
 
 /// Where the segments of a file lie.
 fn places_in(header: &Header) -> Places
-    ensures { result ≡ places_in header.now }
+    ensures text { result.text ≡ 0 }
+    ensures second { result.«data» ≡ data_start_in header.now }
+    ensures bss { result.bss ≡ data_start_in header.now + header.now.data_size }
 {
     let data = header.data_start() as u64;
     Places {
@@ -30,18 +31,24 @@ fn places_in(header: &Header) -> Places
     }
 }
 
+/// Whether text, data or bss has an address.
 fn has_address(header: &Header, address: Option<u64>) -> bool
     ensures { result ≡ has_address header.now address }
 {
+    let at = places_in(header);
     match address {
-        Some(address) => has_place(header, &places_in(header), address),
+        Some(address) => {
+            is_within(at.text, header.text_size, address)
+                || is_within(at.data, header.data_size, address)
+                || is_within(at.bss, header.bss_size, address)
+        }
         None => false,
     }
 }
 
 /// The status of an answer: 1 if a file has neither a symbol of this name nor this address in octal digits.
-fn answer_status(file: &File, what: &str) -> u8
-    ensures { result ≡ answer_status file.now what.now }
+fn status_asked(file: &File, what: &str) -> u8
+    ensures { result ≡ status_asked what.now (Ok file.now) }
 {
     let is_there = is_named(file.symbols(), &Name::from_bytes(what.as_bytes()))
         || has_address(file.header(), octal_number(what.as_bytes()));
@@ -119,38 +126,6 @@ fn function_of(alloc: Global, file: &File, what: &str) -> Result<Option<(u16, u1
     Ok(Some((start, end)))
 }
 
-/// The address with which a line of a disassembly begins, or that of the first row that it counts.
-fn address_of(line: &[u8]) -> Option<u64> {
-    let row = line.strip_prefix(b"/ ".as_slice()).unwrap_or(line);
-    match row.split_at_checked(6) {
-        Some((digits, rest)) if rest.first() == Some(&b' ') => octal_number(digits),
-        _ => None,
-    }
-}
-
-/// Adds the disassembly of text from one address to another, with its labels.
-fn put_function(text: &mut Text, file: &File, start: u16, end: u16) -> Result<(), AllocError> {
-    let alloc = text.allocator();
-    let mut whole = Text::new(alloc);
-    put_disassembly(&mut whole, Decoder::Unix, file);
-    let whole = whole.finish()?;
-    let mut lines = Text::new(alloc);
-    for line in whole.split(|byte| *byte == b'\n') {
-        if !line.is_empty() {
-            lines.put_bytes(line);
-            lines.put("\n");
-        }
-        if let Some(address) = address_of(line) {
-            let labelled = lines.finish()?;
-            lines = Text::new(alloc);
-            if u64::from(start) <= address && address < u64::from(end) {
-                text.put_bytes(&labelled);
-            }
-        }
-    }
-    Ok(())
-}
-
 /// Adds what a file has of what is asked, or the function that is asked for.
 fn put_answer(
     text: &mut Text,
@@ -162,10 +137,11 @@ fn put_answer(
     let functions = with_functions(alloc, file)?;
     let shown = functions.as_ref().unwrap_or(file);
     if shows_function
-        && answer_status(file, what) == 0
+        && status_asked(file, what) == 0
         && let Some((start, end)) = function_of(alloc, shown, what)?
     {
-        return put_function(text, shown, start, end);
+        put_disassembly_between(text, shown, start, end);
+        return Ok(());
     }
     let named = NamedFile::new(alloc, shown)?;
     let name = Name::from_bytes(what.as_bytes());
@@ -199,7 +175,8 @@ fn answer_bytes(
     shows_function: bool,
     source: Source<'_>,
 ) -> Result<Answer, AllocError>
-    ensures { IfOk result (λ answer. IsAnswered what.now (decode source.entry.bytes.now) answer) }
+    ensures { IfOk result (λ answer.
+        HasStatus (status_asked what.now (decode source.entry.bytes.now)) answer) }
 {
     let file = match decode_file(alloc, source.bytes)? {
         Ok(file) => file,
@@ -210,7 +187,7 @@ fn answer_bytes(
     Ok(Answer {
         output: text.finish()?,
         errors: Vec::new(alloc),
-        status: answer_status(&file, what),
+        status: status_asked(&file, what),
     })
 }
 

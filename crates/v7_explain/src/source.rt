@@ -1,16 +1,17 @@
 //! A file that is explained, and what is said of it whatever becomes of it. Only tested: what is said.
-ghost use Rattle.std.specs.Prelude.{◌≡◌, ◌<◌, [], false, IfOk};
-ghost use Rattle.v7_explain.specs.Files.{IsRefused, status_in};
+ghost use Rattle.std.specs.Prelude.{◌≡◌, IfOk};
+ghost use Rattle.v7_explain.specs.Files.{HasStatus, status_in};
 
 use crate::listing::{View, put_body};
 use crate::program::NAME;
-use aout_core::{Header, ObjectFault, ReadFault};
+use aout_core::{Header, ObjectFault, ReadFault, Segment};
 use checks::{
-    Finding, FindingKind, KindText, Notes, decode_there, header_of, is_damaged, is_of_gnu,
-    likeness, put_finding_text, put_findings, put_header, put_missing, relocs_there, wrong_bytes,
+    Finding, KindText, Notes, decode_there, header_of, is_damaged, is_of_gnu, likeness,
+    put_finding_text, put_findings, put_header, put_missing, relocs_there, segment_name,
+    wrong_bytes,
 };
-use disassemblies::Sweep;
-use explanations::{put_lines, write_remains};
+use disassemblies::{Sweep, write_remains};
+use listings::put_notes;
 use std::alloc::{AllocError, Global};
 use std::fmt::Display;
 use surroundings::{Answer, Path};
@@ -66,26 +67,14 @@ pub(crate) fn put_reports(lines: &mut Text, path: &str, wrong: &[Finding]) {
     }
 }
 
-/// A number below 8 for the kind of a word that refers outside of its segment, and for whether that is sure; 0 for any other finding.
-fn cause_of(bytes: &[u8], finding: &Finding) -> usize
-    ensures { result < 8 }
-{
-    match bytes.get(finding.place) {
-        Some(byte) if finding.kind == FindingKind::OutsideReference => {
-            usize::from(*byte / 2 % 4) + if finding.is_sure { 4 } else { 0 }
-        }
-        _ => 0,
-    }
-}
-
-/// A finding for so many words that have the cause of this one, the first of them.
+/// A finding for so many words that refer outside of a segment, of which this is the first.
 fn finding_for(
     alloc: Global,
     count: usize,
-    cause: usize,
+    segment: Segment,
     first: Finding,
 ) -> Result<Finding, AllocError> {
-    let label = ["bss", "text", "data", "bss"][cause % 4];
+    let label = segment_name(segment);
     let said = first.text.as_slice();
     let mut text = Text::new(alloc);
     text.say(format_args!("{count} words of kind {label} lie outside, the first"));
@@ -94,29 +83,44 @@ fn finding_for(
     Ok(Finding { text, ..first })
 }
 
-/// What is odd, with one finding for all words of a kind that refer outside of its segment, if there are more than a few.
-pub(crate) fn by_cause(
+/// What is odd, with one finding for all words that refer outside of a segment, and are all sure or all in doubt, if there are more than a
+/// few.
+fn folded(
     alloc: Global,
-    bytes: &[u8],
     odd: Vec<Finding>,
+    segment: Segment,
+    is_sure: bool,
 ) -> Result<Vec<Finding>, AllocError> {
-    let mut counts = [0usize; 8];
+    let mut count = 0usize;
     for finding in &odd {
-        let cause = cause_of(bytes, finding);
-        counts[cause] = counts[cause].saturating_add(1);
+        if finding.outside == Some(segment) && finding.is_sure == is_sure {
+            count = count.saturating_add(1);
+        }
+    }
+    if count <= MOST_ALIKE {
+        return Ok(odd);
     }
     let mut told = Vec::new(alloc);
+    let mut is_counted = false;
     for finding in odd {
-        let cause = cause_of(bytes, &finding);
-        let count = counts[cause];
-        if cause > 0 && count > MOST_ALIKE {
-            told.push(finding_for(alloc, count, cause, finding)?)?;
-            counts[cause] = 0;
-        } else if count > 0 {
+        if finding.outside != Some(segment) || finding.is_sure != is_sure {
             told.push(finding)?;
+        } else if !is_counted {
+            told.push(finding_for(alloc, count, segment, finding)?)?;
+            is_counted = true;
         }
     }
     Ok(told)
+}
+
+/// The same for each segment.
+pub(crate) fn fold_outside(alloc: Global, odd: Vec<Finding>) -> Result<Vec<Finding>, AllocError> {
+    let mut odd = odd;
+    for segment in [Segment::TextSeg, Segment::DataSeg, Segment::BssSeg] {
+        odd = folded(alloc, odd, segment, true)?;
+        odd = folded(alloc, odd, segment, false)?;
+    }
+    Ok(odd)
 }
 
 /// The findings that are shown one by one, and how many more there are.
@@ -140,15 +144,11 @@ pub(crate) fn reported(
     is_reported: bool,
     path: &str,
     wrong: &[Finding],
-) -> Result<Vec<u8>, AllocError>
-    ensures untold { is_reported ≡ false → IfOk result (λ lines. lines.items ≡ []) }
-    ensures nothing { wrong.now ≡ [] → IfOk result (λ lines. lines.items ≡ []) }
-{
-    if !is_reported || wrong.is_empty() {
-        return Ok(Vec::new(alloc));
-    }
+) -> Result<Vec<u8>, AllocError> {
     let mut lines = Text::new(alloc);
-    put_reports(&mut lines, path, wrong);
+    if is_reported {
+        put_reports(&mut lines, path, wrong);
+    }
     lines.finish()
 }
 
@@ -245,11 +245,12 @@ pub(crate) fn refuse(
     is_reported: bool,
     fault: ReadFault,
 ) -> Result<Answer, AllocError>
-    ensures { IfOk result (λ answer. IsRefused is_reported answer) }
+    ensures { IfOk result (λ answer. HasStatus 1 answer) }
 {
     let wrong = wrong_bytes(alloc, source.bytes, fault)?;
     let mut text = Text::new(alloc);
-    put_lines(&mut text, &refused_notes(alloc, source, fault, &wrong)?);
+    let notes = refused_notes(alloc, source, fault, &wrong)?;
+    put_notes(&mut text, notes.lines());
     put_remains(&mut text, view, fault, source.bytes)?;
     Ok(Answer {
         output: text.finish()?,

@@ -3,7 +3,7 @@ use Rattle.std.specs.Prelude.{ℕ, Bool, false, bytes_eq, codes, List, [], ◌�
 use Rattle.aout_core.specs.Words.{letter_of}
 use Rattle.surroundings.specs.{declared.reasons.Reason.Reason, declared.reasons.Reason.TheVariants.NoValue}
 use Rattle.v7_explain.specs.{declared.arguments.Call.TheVariants.{Explain, Walk, Store, Ask}, declared.arguments.Call.Call as Code}
-use Rattle.v7_explain.specs.Calls.{Call, Mapping, ask, explain, store, walk}
+use Rattle.v7_explain.specs.Calls.{Call, ask, explain, store, walk}
 
 abbrev pub call_in : Code → Call
 call_in (Explain mode paths) = explain mode (map string_bytes paths.now)
@@ -21,7 +21,7 @@ abbrev pub asks_of_map : List (List ℕ) → Bool
 asks_of_map [] = false
 asks_of_map (word ∷ words) = bytes_eq word (codes "-y")
 
--- the arguments of -y so far, and the words that are left; or one is missing
-abbrev pub mapping_with : List (List ℕ) → Option (List (List ℕ)) → Result Mapping Reason
-mapping_with asked None = Err (NoValue (letter_of (codes "y")))
-mapping_with asked (Some words) = Ok (record { asked = asked; words = words })
+-- the words that are left; or an argument is missing
+abbrev pub words_left : Option (List (List ℕ)) → Result (List (List ℕ)) Reason
+words_left None = Err (NoValue (letter_of (codes "y")))
+words_left (Some words) = Ok words

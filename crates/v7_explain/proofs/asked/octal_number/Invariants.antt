@@ -1,5 +1,5 @@
 use Rattle.std.proofs.Common.{◌≡◌, ◌<◌, drop}
-use Rattle.v7_explain.specs.Asked.{octal_from}
+use Rattle.v7_explain.specs.Files.{octal_from}
 use Rattle.v7_explain.proofs.asked.octal_number.Given as goal
 
 abbrev pub invariant-loop-digit : goal.invariant-loop-digit

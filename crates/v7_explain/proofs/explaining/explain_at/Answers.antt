@@ -1,13 +1,13 @@
 use Rattle.std.proofs.Common.{rules}
-use Rattle.v7_explain.proofs.ExplainingLemmas.{explains_none, explains_out, explains_unread}
+use Rattle.v7_explain.proofs.EachLemmas.{answers_none, answers_out, answers_unread}
 use Rattle.v7_explain.proofs.explaining.explain_at.Goals as goal
 
 pub returns-in_err-explain-in-Ok : goal.returns-in_err-explain-in-Ok
-returns-in_err-explain-in-Ok g c = explains_out _ _ _ _ c.in-Ok.bytes.items _ c.in-Ok.ensures.ok (search rules)
+returns-in_err-explain-in-Ok g c = answers_out _ _ _ _ _ c.in-Ok.bytes.items _ c.in-Ok.ensures.ok (search rules)
 
 pub returns-in-Err-Memory : goal.returns-in-Err-Memory
-returns-in-Err-Memory g c = explains_unread c.args.mode _ _ _ _ c.in-Err-Memory.ensures.err
+returns-in-Err-Memory g c = answers_unread _ _ _ _ _ _ (search rules) c.in-Err-Memory.ensures.err
 
 pub returns-in-Err-Answered : goal.returns-in-Err-Answered
 returns-in-Err-Answered g c =
-    explains_none c.args.mode _ _ _ _ c.in-Err-Answered.answer _ c.in-Err-Answered.field-0-is c.in-Err-Answered.ensures.err (search rules)
+    answers_none _ _ _ _ _ _ c.in-Err-Answered.answer _ c.in-Err-Answered.field-0-is c.in-Err-Answered.ensures.err (search rules)

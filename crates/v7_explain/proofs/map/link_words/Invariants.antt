@@ -1,5 +1,5 @@
 use Rattle.std.proofs.Common.{◌≡◌, ◌++◌, drop, map, string_bytes}
-use Rattle.v7_explain.specs.Maps.{link_words}
+use Rattle.v7_explain.specs.Runs.{link_words}
 use Rattle.v7_explain.proofs.map.link_words.Given as goal
 
 -- the arguments so far are there

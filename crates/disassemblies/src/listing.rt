@@ -1,25 +1,30 @@
-//! What a listing remarks of a file.
+//! A file as a listing, in the form that `read_listing` of `listings` reads, with remarks on its instructions, its labels and what its
+//! relocation words say. Only tested: the remarks.
+ghost use Rattle.std.specs.Prelude.{◌≡◌, Ok, IfOk};
+ghost use Rattle.listings.specs.{Reading.read, declared.draft.Addresses.TheVariants.Compared};
 
-use crate::words_in::put_word_text;
+use crate::label::put_labels;
+use crate::strings::put_string_in;
+use crate::sweep::Sweep;
+use crate::word_text::put_word_text;
 use aout_core::{Part, Segment, Symbol};
-use checks::Notes;
-use disassemblies::{Sweep, put_labels, put_string_in};
 use instructions::is_relocated;
-use listings::Remark;
+use listings::{Remark, write_cut_listing, write_listing};
+use std::alloc::{AllocError, Global};
 use symtools::letter;
 use texts::Text;
 
 /// How many words a segment has at most.
-pub(crate) const SEGMENT_WORDS: u16 = 32768;
+pub const SEGMENT_WORDS: u16 = 32768;
 
 /// A file that is listed, with what is remarked of it.
 #[derive(Clone, Copy)]
-pub(crate) struct Explained<'a> {
-    pub(crate) sweep: &'a Sweep<'a>,
+struct Explained<'a> {
+    sweep: &'a Sweep<'a>,
     /// Lines before the file, each without its slash.
-    pub(crate) notes: &'a Notes,
+    notes: &'a [Vec<u8>],
     /// Lines after it.
-    pub(crate) findings: &'a Notes,
+    findings: &'a [Vec<u8>],
 }
 
 /// Puts the labels of the line that begins at a place of the text, or of its end.
@@ -77,11 +82,11 @@ fn put_data_remark(sweep: &Sweep<'_>, remark: &mut Text, place: usize) {
 
 impl Remark for Explained<'_> {
     fn notes(&self) -> &[Vec<u8>] {
-        self.notes.lines()
+        self.notes
     }
 
     fn findings(&self) -> &[Vec<u8>] {
-        self.findings.lines()
+        self.findings
     }
 
     fn put_labels(&self, labels: &mut Text, part: Part, place: usize) {
@@ -101,4 +106,40 @@ impl Remark for Explained<'_> {
     fn put_symbol(&self, remark: &mut Text, symbol: &Symbol) {
         remark.put_byte(letter(symbol));
     }
+}
+
+/// The listing of a file with explanations, and with notes before it and findings after it. Reading the listing gives the file. (own
+/// choice)
+///
+/// Errors: `AllocError` if memory runs out.
+pub fn write_explained(
+    alloc: Global,
+    sweep: &Sweep<'_>,
+    notes: &[Vec<u8>],
+    findings: &[Vec<u8>],
+) -> Result<Vec<u8>, AllocError>
+    ensures { IfOk result (λ v. read Compared v.items ≡ Ok sweep.now) }
+{
+    let remarks = Explained {
+        sweep,
+        notes,
+        findings,
+    };
+    write_listing(alloc, sweep.file(), &remarks)
+}
+
+/// The listing of a file with its first relocation words alone, without notes.
+///
+/// Errors: `AllocError` if memory runs out.
+pub fn write_remains(
+    alloc: Global,
+    sweep: &Sweep<'_>,
+    relocs: usize,
+) -> Result<Vec<u8>, AllocError> {
+    let remarks = Explained {
+        sweep,
+        notes: &[],
+        findings: &[],
+    };
+    write_cut_listing(alloc, sweep.file(), relocs, &remarks)
 }

@@ -1,9 +1,8 @@
 //! A dump of the text and the data of a file.
 
-use crate::remarks::SEGMENT_WORDS;
 use crate::rows::{put_labels_at, put_rows};
 use aout_core::{File, Segment};
-use disassemblies::NamedFile;
+use disassemblies::{NamedFile, SEGMENT_WORDS};
 use texts::Text;
 
 /// Appends a segment, which begins at this address, and the labels of its end.
@@ -36,7 +35,7 @@ fn put_named(text: &mut Text, named: &NamedFile<'_>) {
 
 /// Appends the text and the data of a file, in rows of eight words with their addresses and with their bytes as characters, and with
 /// labels before their rows. (own choice)
-pub fn put_dump(text: &mut Text, file: &File) {
+pub(crate) fn put_dump(text: &mut Text, file: &File) {
     match NamedFile::new(text.allocator(), file) {
         Ok(named) => put_named(text, &named),
         Err(error) => text.cut(error),

@@ -1,6 +1,8 @@
 //! What a relocation word says, in words.
+
+use crate::named::NamedFile;
+use crate::remarks::put_pointed_text;
 use aout_core::{Kind, Name, Reloc};
-use disassemblies::{NamedFile, put_pointed_text};
 use texts::Text;
 
 /// Appends that no word may refer to a symbol, which has this number.

@@ -1,7 +1,7 @@
 //! A line of an inventory.
 
 use crate::file_kind::kind_text;
-use crate::inventory::{Condition, InventoryRow};
+use crate::inventory_row::{Condition, InventoryRow};
 use listings::put_printed;
 use texts::Text;
 
@@ -31,7 +31,7 @@ fn put_condition(text: &mut Text, condition: Condition) {
 
 /// Appends the line of a file with this path: its kind, the sizes of text, data and bss in bytes, how many symbols it has, how many
 /// names another object has to define, what is wrong or odd, and the path. (own choice)
-pub fn put_inventory_row(text: &mut Text, row: &InventoryRow, path: &str) {
+pub(crate) fn put_inventory_row(text: &mut Text, row: &InventoryRow, path: &str) {
     let (sizes, symbols) = (row.sizes, row.symbols);
     text.put_at_left(12, kind_text(row.kind).as_bytes());
     put_number(text, sizes.map(|sizes| u64::from(sizes.text)));
@@ -46,7 +46,7 @@ pub fn put_inventory_row(text: &mut Text, row: &InventoryRow, path: &str) {
 }
 
 /// Appends the line of totals of the rows of an inventory: how many there are, and how many are ok, odd and damaged. (own choice)
-pub fn put_inventory_totals(text: &mut Text, rows: &[u8]) {
+pub(crate) fn put_inventory_totals(text: &mut Text, rows: &[u8]) {
     let (mut files, mut ok, mut odd, mut damaged) = (0u64, 0u64, 0u64, 0u64);
     for row in rows.split(|byte| *byte == b'\n') {
         // the column of what is wrong or odd

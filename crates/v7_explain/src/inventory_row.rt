@@ -8,22 +8,22 @@ use std::alloc::{AllocError, Global};
 
 /// The sizes of segments in bytes.
 #[derive(Clone, Copy, Debug, PartialEq, Eq)]
-pub struct SegmentSizes {
-    pub text: u16,
-    pub data: u16,
-    pub bss: u16,
+pub(crate) struct SegmentSizes {
+    pub(crate) text: u16,
+    pub(crate) data: u16,
+    pub(crate) bss: u16,
 }
 
 /// How many symbols there are, and how many of them are names that another object has to define.
 #[derive(Clone, Copy, Debug, PartialEq, Eq)]
-pub struct SymbolCounts {
-    pub all: usize,
-    pub undefined: usize,
+pub(crate) struct SymbolCounts {
+    pub(crate) all: usize,
+    pub(crate) undefined: usize,
 }
 
 /// What is wrong or odd in a file.
 #[derive(Clone, Copy, Debug, PartialEq, Eq)]
-pub enum Condition {
+pub(crate) enum Condition {
     /// It is not looked for.
     NotExamined,
     /// The file is damaged, first at this byte.
@@ -34,11 +34,11 @@ pub enum Condition {
 
 /// What an inventory says of a file. `None` is for numbers that a kind of file does not have, or that are not counted.
 #[derive(Clone, Copy, Debug, PartialEq, Eq)]
-pub struct InventoryRow {
-    pub kind: FileKind,
-    pub sizes: Option<SegmentSizes>,
-    pub symbols: Option<SymbolCounts>,
-    pub condition: Condition,
+pub(crate) struct InventoryRow {
+    pub(crate) kind: FileKind,
+    pub(crate) sizes: Option<SegmentSizes>,
+    pub(crate) symbols: Option<SymbolCounts>,
+    pub(crate) condition: Condition,
 }
 
 fn sizes_in(header: &Header) -> SegmentSizes {
@@ -76,7 +76,7 @@ fn condition_of(wrong: &[Finding], count: usize) -> Condition {
 }
 
 /// The row of what has only a kind.
-pub fn plain_row(kind: FileKind) -> InventoryRow {
+pub(crate) fn plain_row(kind: FileKind) -> InventoryRow {
     InventoryRow {
         kind,
         sizes: None,
@@ -94,7 +94,7 @@ fn gnu_row(header: Option<Header>) -> InventoryRow {
 }
 
 /// The row of a file, of which this is wrong. An error: out of memory.
-pub fn file_row(
+pub(crate) fn file_row(
     alloc: Global,
     bytes: &[u8],
     file: &File,
@@ -113,7 +113,7 @@ pub fn file_row(
 }
 
 /// The row of bytes that do not make a file for this reason, of which this is wrong. An error: out of memory.
-pub fn refused_row(
+pub(crate) fn refused_row(
     alloc: Global,
     bytes: &[u8],
     fault: ReadFault,
