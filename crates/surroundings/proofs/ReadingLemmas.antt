@@ -1,9 +1,23 @@
 -- Files that are read up to so many bytes.
-use Rattle.std.proofs.Common.{◌≡◌, ◌≤◌, ◌<◌, ℕ, List, Result, Ok, Err, length, Some, None, true, ap, ◌∙◌, arith, length-take, subst, sym, take_all}
-use Rattle.std.specs.{Prelude.{IfErr, IfOk, Vec}, declared.alloc.Global.Global}
+use Rattle.std.proofs.Common.{◌≡◌, ◌≤◌, ◌<◌, ℕ, List, [], ◌∷◌, Bool, Result, Ok, Err, length, Option, Some, None, refl, true, false, ap, ◌∙◌, arith, inr}
+use Rattle.std.proofs.{Common.{length-take, subst, sym, take, take_all, nat_lt}, lemmas.Bool.{lt-ltb, ltb-true}}
+use Rattle.std.specs.{Prelude.{IfErr, IfOk, IfSome, Vec}, declared.alloc.Global.Global}
 use Rattle.aout_core.specs.{declared.whole.FileFault.FileFault, declared.whole.FileFault.TheVariants.{NotOpened, Failed, Memory}}
-use Rattle.surroundings.specs.{Answers.Stops, Events.History, declared.answer.Fault.Fault}
-use Rattle.surroundings.specs.{Sources.EndsReading, Sources.ReadsAt, Sources.ReadsFront, internal.Readings.ReadsNot}
+use Rattle.surroundings.specs.{Answers.Stops, Events.{Extends, History, closed, opened}, declared.answer.Fault.Fault, internal.Readings.{Takes, TakesAt, is_of_system}}
+use Rattle.surroundings.specs.Sources.{EndsBroken, EndsReading, ReadsAt, ReadsFront, is_longer}
+use Rattle.surroundings.proofs.EventLemmas.{asked_after}
+
+-- a file that was opened is read, and closed
+pub taken_at : (most : ℕ) (old mid new : History) (path : List ℕ) (known : Option (List ℕ)) (failed : Bool)
+    (result : Result (Vec ℕ Global) FileFault) → Extends old mid (opened path (Some known) ∷ []) → Extends mid new (closed failed ∷ []) →
+    Takes most known failed result → TakesAt most old new path result
+taken_at most old mid new path known failed (Ok bytes) opens closes (works, is) =
+    (known, asked_after old mid new _ _ opens (subst (λ (b : Bool). Extends mid new (closed b ∷ [])) works closes), is)
+taken_at most old mid new path known failed (Err Failed) opens closes is =
+    (known, asked_after old mid new _ _ opens (subst (λ (b : Bool). Extends mid new (closed b ∷ [])) is closes))
+taken_at most old mid new path known failed (Err (Memory r)) opens closes is =
+    (known, asked_after old mid new _ _ opens (subst (λ (b : Bool). Extends mid new (closed b ∷ [])) is closes))
+taken_at most old mid new path known failed (Err NotOpened) opens closes taken = absurd taken
 
 module _ (old new : History) (path : List ℕ) where
   -- what has fewer bytes than were asked for has them all
@@ -22,12 +36,22 @@ module _ (old new : History) (path : List ℕ) where
   reads_kept limit most bytes (Err fault) reads below same small = tt
 
   -- what has more is too long
-  pub reads_too_much : (limit : ℕ) (bytes : List ℕ) (result : Result (Vec ℕ Global) Fault) → ReadsFront limit old new path bytes →
-      IfErr result (λ fault. Stops true 2 fault) → IfErr result (λ fault. EndsReading old new path fault)
-  reads_too_much limit bytes (Ok kept) reads stops = tt
-  reads_too_much limit bytes (Err fault) (known, grows, is) stops = ((Some known, grows), stops)
+  stops_longer : (limit most : ℕ) (bytes : List ℕ) (known : Option (List ℕ)) (fault : Fault) → IfSome known (λ all. bytes ≡ take limit all) →
+      Stops (nat_lt most (length bytes)) 2 fault → Stops (is_longer most known) 2 fault
+  stops_longer limit most bytes known (Fault.Memory refused) is stops = tt
+  stops_longer limit most bytes None (Fault.Answered a) is stops = (refl, stops.1)
+  stops_longer limit most bytes (Some all) (Fault.Answered a) is stops =
+      (lt-ltb most (length all) (omega (arith, length-take limit all, ap length is, ltb-true most (length bytes) stops.0)), stops.1)
 
-  pub reads_not : (why : FileFault) (fault : Fault) → ReadsNot old new path why → Stops true 2 fault → EndsReading old new path fault
-  reads_not NotOpened fault grows stops = ((None, grows), stops)
-  reads_not Failed fault (known, grows) stops = ((Some known, grows), stops)
-  reads_not (Memory r) fault (known, grows) stops = ((Some known, grows), stops)
+  pub reads_too_much : (limit most : ℕ) (bytes : List ℕ) (result : Result (Vec ℕ Global) Fault) → ReadsFront limit old new path bytes →
+      IfErr result (λ fault. Stops (nat_lt most (length bytes)) 2 fault) → IfErr result (λ fault. EndsReading most old new path fault)
+  reads_too_much limit most bytes (Ok kept) reads stops = tt
+  reads_too_much limit most bytes (Err fault) (known, grows, is) stops =
+      inr (known, grows, stops_longer limit most bytes known fault is stops)
+
+  -- why it was not read, of the system or of memory
+  pub not_taken : (most : ℕ) (why : FileFault) (fault : Fault) → TakesAt most old new path (Err why) → Stops (is_of_system why) 2 fault →
+      EndsBroken old new path fault
+  not_taken most NotOpened fault grows stops = (None, false, grows, stops)
+  not_taken most Failed fault (known, grows) stops = (Some known, true, grows, stops)
+  not_taken most (Memory r) fault (known, grows) stops = (Some known, false, grows, stops)

@@ -1,15 +1,17 @@
 -- What a command asked of the system, which opens and stores its files, in order, and what came of it. (own choice)
 --
--- No contract can state what a disk holds. It can state what was asked of it: a file was opened, and what its bytes were, or a file
--- was to be stored, and whether it was, or to which file a path leads. The list of these events, in order, is what a command did.
-use Rattle.std.specs.Prelude.{◌≡◌, ℕ, List, ◌++◌, map, Option, Some, None, ⊤}
+-- No contract can state what a disk holds. It can state what was asked of it: a file was opened, and what its bytes were, or it was
+-- closed, and whether its device had failed, or a file was to be stored, and whether it was, or to which file a path leads. The list of
+-- these events, in order, is what a command did.
+use Rattle.std.specs.Prelude.{◌≡◌, ℕ, Bool, List, ◌++◌, map, Option, Some, None, ⊤}
 use Rattle.aout_core.specs.{Contents.Contents, Wires.Latched}
 use Rattle.surroundings.specs.{declared.nodes.Found.Found, declared.office.Stored.Stored}
 
--- A file could not be opened (`None`), or was, with its bytes if they are known. Or a file, or a text, was to be stored. Or the system
--- was asked what a path leads to.
+-- A file could not be opened (`None`), or was, with its bytes if they are known. Or it was closed, and its device had failed or had not.
+-- Or a file, or a text, was to be stored. Or the system was asked what a path leads to.
 pub data Event : Type 0 where
   opened : List ℕ → Option (Option (List ℕ)) → Event
+  closed : Bool → Event
   stored : List ℕ → Contents → Stored → Event
   written : List ℕ → List ℕ → Stored → Event
   looked : List ℕ → Found → Event

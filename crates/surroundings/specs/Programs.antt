@@ -29,10 +29,10 @@ either false first second = second
 abbrev pub Quietly : {A : Type 0} → (Result A Fault → Type 0) → Step A
 Quietly Holds old new result = (new ≡ old) × Holds result
 
--- the file at a path is read whole
-abbrev pub Reads : List ℕ → Step (List ℕ)
-Reads path old new (Ok bytes) = ReadsAt old new path bytes
-Reads path old new (Err fault) = EndsReading old new path fault
+-- the file at a path is read whole, or is not, as if it has more bytes than this
+abbrev pub Reads : ℕ → List ℕ → Step (List ℕ)
+Reads most path old new (Ok bytes) = ReadsAt old new path bytes
+Reads most path old new (Err fault) = EndsReading most old new path fault
 
 -- the answer once a file was to be stored: this one, or that it was not stored
 abbrev pub AnswersStored : Answer → Bool → Result Answer Fault → Type 0

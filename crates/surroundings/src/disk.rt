@@ -119,6 +119,9 @@ impl<'a, H> Disk<'a, H> {
 }
 
 impl<H: Runtime> Office for Disk<'_, H> {
+    ghost use Rattle.std.specs.Prelude.{None, [], ◌∷◌};
+    ghost use Rattle.surroundings.specs.Events.{Extends, closed};
+
     type Source = H::File;
 
     fn open(&mut self, path: &str) -> Option<H::File> {
@@ -126,6 +129,12 @@ impl<H: Runtime> Office for Disk<'_, H> {
             return None;
         }
         fs::open(self.rt, path).ok()
+    }
+
+    fn close(&mut self, source: Wire<H::File>)
+        ensures { Extends None None (closed source.has_failed ∷ []) }
+    {
+        drop(source);
     }
 
     fn node(&mut self, path: &str) -> Found {

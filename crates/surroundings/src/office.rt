@@ -1,9 +1,9 @@
 //! What opens and stores the files of a command.
 ghost use Rattle.std.specs.{Prelude.{◌≡◌, [], ◌∷◌, List, None, Option}, Option.option_map};
-ghost use Rattle.surroundings.specs.{Answers.is_none, Sources.{is_kept, stored_text}, Events.{Event, Extends, looked, opened, stored, written}};
+ghost use Rattle.surroundings.specs.{Answers.is_none, Sources.{is_kept, stored_text}, Events.{Event, Extends, closed, looked, opened, stored, written}};
 
 use crate::nodes::Found;
-use aout_core::{DeviceFault, File};
+use aout_core::{DeviceFault, File, Wire};
 use std::io::Read;
 
 /// What became of a file that was to be stored. (own choice)
@@ -28,6 +28,10 @@ pub trait Office {
     fn open(&mut self, path: &str) -> Option<Self::Source>
         ensures { Extends (history self.old) (history self.new)
             (opened path.now (option_map Self.Source.remaining result) ∷ []) };
+
+    /// Closes a file, whose device has failed or has not. (own choice)
+    fn close(&mut self, source: Wire<Self::Source>)
+        ensures { Extends (history self.old) (history self.new) (closed source.has_failed ∷ []) };
 
     /// What a path leads to. (own choice)
     fn node(&mut self, path: &str) -> Found

@@ -1,12 +1,40 @@
 //! Files that are read whole, or from the beginning.
-ghost use Rattle.std.specs.Prelude.{◌≡◌, ◌≤◌, ◌<◌, true, length, IfErr, IfOk};
-ghost use Rattle.surroundings.specs.{Answers.Stops, Sources.{EndsReading, ReadsAt, ReadsFront}, internal.Readings.ReadsNot};
+ghost use Rattle.std.specs.Prelude.{◌≡◌, ◌≤◌, false, length, nat_lt, IfErr, IfOk};
+ghost use Rattle.surroundings.specs.{Answers.Stops, Sources.{EndsBroken, EndsReading, ReadsAt, ReadsFront}};
+ghost use Rattle.surroundings.specs.internal.Readings.{Takes, TakesAt, is_of_system};
 
 use crate::answer::{Fault, fault_at};
 use crate::office::Office;
-use aout_core::{FileFault, read_bytes};
+use aout_core::{FileFault, Refused, Wire};
 use std::alloc::Global;
 use std::io::Read;
+
+/// How many bytes are read by one call of a file, at most.
+const PIECE_SIZE: usize = 4096;
+
+/// The bytes that a wire still gives, at most so many.
+fn bytes_on<R: Read>(alloc: Global, source: &mut Wire<R>, most: usize) -> Result<Vec<u8>, FileFault>
+    requires { source.old.has_failed ≡ false }
+    ensures { Takes most (R.remaining source.old.device) source.new.has_failed result }
+{
+    let mut bytes = Vec::new(alloc);
+    let mut piece = [0; PIECE_SIZE];
+    let mut left = most;
+    while left > 0 {
+        let room = left.min(PIECE_SIZE);
+        let Ok(count) = source.read(&mut piece[..room]) else {
+            return Err(FileFault::Failed);
+        };
+        if count == 0 {
+            return Ok(bytes);
+        }
+        if let Err(refused) = bytes.extend_from_slice(&piece[..count]) {
+            return Err(FileFault::Memory(Refused::from(refused)));
+        }
+        left -= count;
+    }
+    Ok(bytes)
+}
 
 /// The bytes of the file at a path, at most so many.
 fn bytes_at<O: Office>(
@@ -15,20 +43,30 @@ fn bytes_at<O: Office>(
     path: &str,
     most: u64,
 ) -> Result<Vec<u8>, FileFault>
-    ensures ok { IfOk result (λ bytes.
-        ReadsFront most (O.history office.old) (O.history office.new) path.now bytes.items) }
-    ensures err { IfErr result (λ fault.
-        ReadsNot (O.history office.old) (O.history office.new) path.now fault) }
+    ensures { TakesAt most (O.history office.old) (O.history office.new) path.now result }
 {
-    match office.open(path) {
-        Some(mut source) => read_bytes(alloc, &mut source.take(most)),
-        None => Err(FileFault::NotOpened),
+    let Some(source) = office.open(path) else {
+        return Err(FileFault::NotOpened);
+    };
+    let mut source = Wire::new(source);
+    let taken = bytes_on(alloc, &mut source, most as usize);
+    office.close(source);
+    taken
+}
+
+/// The fault in which a program says why the file at a path was not read.
+fn fault_of(alloc: Global, program: &str, path: &str, why: FileFault) -> Fault
+    ensures { Stops (is_of_system why) 2 result }
+{
+    match why {
+        FileFault::Memory(refused) => Fault::Memory(refused),
+        FileFault::NotOpened | FileFault::Failed => fault_at(alloc, program, path, why),
     }
 }
 
 /// The first bytes of the file at a path, at most so many, for a program of this name; or the line that it can't be opened or read.
 /// (own choice)
-#[tactic(auto, using(crate::proofs::ReadingLemmas::reads_not))]
+#[tactic(auto, using(crate::proofs::ReadingLemmas::not_taken))]
 pub fn read_front<O: Office>(
     alloc: Global,
     office: &mut O,
@@ -39,12 +77,11 @@ pub fn read_front<O: Office>(
     ensures ok { IfOk result (λ bytes.
         ReadsFront most (O.history office.old) (O.history office.new) path.now bytes.items) }
     ensures err { IfErr result (λ fault.
-        EndsReading (O.history office.old) (O.history office.new) path.now fault) }
+        EndsBroken (O.history office.old) (O.history office.new) path.now fault) }
 {
     match bytes_at(alloc, office, path, most) {
         Ok(bytes) => Ok(bytes),
-        Err(FileFault::Memory(refused)) => Err(Fault::Memory(refused)),
-        Err(fault) => Err(fault_at(alloc, program, path, fault)),
+        Err(why) => Err(fault_of(alloc, program, path, why)),
     }
 }
 
@@ -58,8 +95,7 @@ fn unless_long(
 ) -> Result<Vec<u8>, Fault>
     ensures same { IfOk result (λ kept. kept.items ≡ bytes.items) }
     ensures within { IfOk result (λ _. length bytes.items ≤ most) }
-    ensures long { IfErr result (λ _. most < length bytes.items) }
-    ensures err { IfErr result (λ fault. Stops true 2 fault) }
+    ensures err { IfErr result (λ fault. Stops (nat_lt most (length bytes.items)) 2 fault) }
 {
     if bytes.len() > most as usize {
         return Err(fault_at(alloc, program, path, "file too long"));
@@ -80,7 +116,7 @@ pub fn read_whole<O: Office>(
         ReadsAt (O.history office.old) (O.history office.new) path.now bytes.items) }
     ensures within { IfOk result (λ bytes. length bytes.items ≤ most) }
     ensures err { IfErr result (λ fault.
-        EndsReading (O.history office.old) (O.history office.new) path.now fault) }
+        EndsReading most (O.history office.old) (O.history office.new) path.now fault) }
 {
     let bytes = read_front(alloc, office, program, path, u64::from(most) + 1)?;
     unless_long(alloc, program, path, most, bytes)

@@ -8,4 +8,4 @@ returns-clause-ok g c =
     c.unless_long.ensures.within
 
 pub returns-clause-err : goal.returns-clause-err
-returns-clause-err g c = reads_too_much _ _ _ _ c.in_ok-bytes.bytes.items c.unless_long.result c.in_ok-bytes.ensures.ok c.unless_long.ensures.err
+returns-clause-err g c = reads_too_much _ _ _ _ c.args.most c.in_ok-bytes.bytes.items c.unless_long.result c.in_ok-bytes.ensures.ok c.unless_long.ensures.err
