@@ -52,11 +52,15 @@ abbrev pub IsStoring : List ℕ → Contents → Step Answer
 IsStoring to file old new result =
     ((new ≡ old) × (result ≡ Err (Memory refused))) ⊎ Stores (stored to file) (only_errors [] 0) old new result
 
+-- the most bytes of a listing that is read
+abbrev pub most_bytes : ℕ
+most_bytes = 16777216
+
 -- the output is refused, or else the listing is read, and its file stored if it has no mistake
 abbrev pub IsMaking : Call → Step Answer
 IsMaking call =
     Then (ChecksOutput call.listing call.to) (λ _.
-    Then (Reads call.listing) (λ bytes.
+    Then (Reads most_bytes call.listing) (λ bytes.
     Then (Quietly (FindsOr (file_in call.addresses bytes))) (λ file.
     IsStoring call.to file)))
 

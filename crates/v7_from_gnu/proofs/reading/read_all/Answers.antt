@@ -2,7 +2,7 @@ use Rattle.std.proofs.Common.{rules, ◌≡◌, [], ◌∷◌, ◌++◌, subst, 
 use Rattle.std.specs.Prelude.{Err}
 use Rattle.aout_core.specs.Refusals.{refused}
 use Rattle.surroundings.specs.{Sources.EndsReading, Sources.ReadsAt, declared.answer.Fault.TheVariants.Memory}
-use Rattle.v7_from_gnu.specs.{Readings.IsReading, Readings.source_of, internal.Lists.listed}
+use Rattle.v7_from_gnu.specs.{Readings.IsReading, Readings.most_bytes, Readings.source_of, internal.Lists.listed}
 use Rattle.v7_from_gnu.proofs.ReadingLemmas.{reading_ends, reading_more, reading_stops}
 use Rattle.v7_from_gnu.proofs.reading.read_all.Goals as goal
 
@@ -15,7 +15,7 @@ returns-in-Err g c =
     reading_ends old mid new c.loop-job.sources.items c.args.jobs.items c.loop-job.job-iterator.rest.items
     c.next.new.self.rest.items c.in-Some.job c.in-Err.fault
     c.loop-job.invariant c.in-Some.ensures.steps.0
-    (subst (λ path. EndsReading mid new path c.in-Err.fault) same c.in-Err.ensures.err)
+    (subst (λ path. EndsReading most_bytes mid new path c.in-Err.fault) same c.in-Err.ensures.err)
 
 pub returns-in_err-push : goal.returns-in_err-push
 returns-in_err-push g c =
