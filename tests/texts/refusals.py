@@ -27,8 +27,9 @@ KNOWN = [
 # the lines that put a device on a wire, whose fault is then one of that device
 WIRES = [
     "crates/v7/src/terminal.rt: let mut output = Wire::new(BlockWriter::new(Answers::new(io::writer(rt), &answer)));",
-    "crates/v7tools/src/files/commands.rt: Some(source) => load(alloc, path, &mut Wire::new(source)),",
-    "crates/v7tools/src/session/command.rt: Some(Wire::new(source))",
+    "crates/v7tools/src/files/commands.rt: let mut wire = Wire::new(source);",
+    "crates/v7tools/src/session/command.rt: let mut wire = Wire::new(source);",
+    "crates/surroundings/src/sources.rt: let mut source = Wire::new(source);",
     "crates/v7tools/src/session/command.rt: let mut script = Script::new(setting.alloc, Wire::new(reader))?;",
     "crates/v7tools/src/link/command.rt: inputs.push((path, Wire::new(source))).unwrap();",
     "crates/v7tools/src/program.rt: output: Wire::new(BlockWriter::new(io::writer(rt))),",

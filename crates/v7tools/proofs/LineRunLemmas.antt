@@ -1,22 +1,23 @@
 -- A line of a script, from the step or the link that answers it.
 use Rattle.aout_core.specs.{Refusals.device_fault, Wires.{AppendsPrefix, Latched, Puts}}
-use Rattle.std.proofs.Common.{◌≡◌, ℕ, List, [], ◌∷◌, Option, Some, None, Result, Ok, Err, refl, sym, ap, ◌∙◌, subst, inl, inr, append-nil}
+use Rattle.std.proofs.Common.{◌≡◌, ℕ, Bool, true, false, List, [], ◌∷◌, Option, Some, None, Result, Ok, Err, refl, sym, ap, ◌∙◌, subst, inl, inr, append-nil}
 use Rattle.std.proofs.KnownBytes.{Appends-kept}
-use Rattle.std.specs.Prelude.{IfErr, IfOk, IsErr, IsTrue, ◌↔◌, String, string_bytes}
-use Rattle.std.specs.{declared.alloc.Global.Global, Io.KnownBytes.Appends, Io.KnownBytes.Keeps}
+use Rattle.std.specs.Prelude.{IfErr, IfOk, IsErr, IsTrue, ◌↔◌}
+use Rattle.std.specs.{Io.KnownBytes.Appends, Io.KnownBytes.Keeps}
 use Rattle.link_session.specs.{Edits.last_of, Labelled.Labelled, Labelled.objects, Undo.Kept}
 use Rattle.tool_options.specs.Choices.{Choices}
 use Rattle.link_out.specs.Outcomes.{report_names, outcome_of}
 use Rattle.link_out.specs.{declared.linked.Linked.Linked, function.Link.Outcome, function.Link.link, Inputs.Cause, Inputs.kept_with}
 use Rattle.v7tools.specs.Answers.{absent, Verdict, done, refused, to_store, Stepped, add_step, input_from, failing, giving, withdraw_step}
 use Rattle.v7tools.specs.{Answers.{link_answer_text, link_status}, LineRuns.{DoesStep, IsAddOf, IsLineOf, LineRun, status_after}}
-use Rattle.v7tools.specs.internal.SessionParts.{AnswersLine, AnswersStep, IsCommandOf, IsNoLink, IsOpenedAt, PassesOn, TakesPlainStep}
-use Rattle.v7tools.specs.SessionSteps.{AddsIf, Does, GoesOut, IsAddBy, IsAddOn, IsStepOn, TakesStep, WithdrawsIf, verdict_of}
+use Rattle.v7tools.specs.internal.SessionParts.{AnswersLine, AnswersStep, IsAddAt, IsCommandOf, IsPlain, PassesOn, TakesAddition, TakesPlainStep}
+use Rattle.v7tools.specs.internal.StepParts.{IsAddOver}
+use Rattle.v7tools.specs.SessionSteps.{AddsIf, Does, GoesOut, IsStepOn, TakesStep, WithdrawsIf, verdict_of}
 use Rattle.v7tools.specs.declared.session.commands.Command.TheVariants.{Add, Withdraw, Externals, Undefined, Link, Bad}
 use Rattle.v7tools.specs.{FaultTexts.{cli_text, fault_of_link}, internal.StepParts.RefusesLink, declared.session.commands.Command.Command}
 use Rattle.v7tools.specs.{declared.session.commands.Step.Step, declared.fault.CliFault.CliFault}
 use Rattle.v7tools.specs.declared.fault.CliFault.TheVariants as faults
-use Rattle.surroundings.specs.{Events.Event, Events.History, Events.Extends, Events.opened, Events.stored, declared.office.Stored.Stored}
+use Rattle.surroundings.specs.{Events.Event, Events.History, Events.Extends, Events.stored, declared.office.Stored.Stored}
 use Rattle.command_words.specs.Scripts.{Asked, to_add, to_withdraw, for_externals, for_undefined, to_link, for_nothing}
 use Rattle.command_words.specs.{declared.lines.Line.Line, ScriptAnswers.asked_by}
 use Rattle.command_words.specs.declared.lines.Line.TheVariants as lines
@@ -47,28 +48,36 @@ is_no_link : (did other : Stepped) → did ≡ other → Stores did → (Stores 
 is_no_link did other e s never = never (subst Stores e s)
 
 module _ {R : Type 0} (remaining : R → Option (List ℕ)) where
-  add_on_stores : (known : Option (List ℕ)) (forced : List (List ℕ)) (kept : List Labelled) (path : List ℕ) (did : Stepped) →
-      IsAddOn known forced kept path did → Stores did → ⊥
-  add_on_stores (Some bytes) forced kept path did h s =
-      is_no_link did _ h s (adds_no_file kept path (input_from forced kept path (giving bytes)))
-  add_on_stores None forced kept path did h s = is_no_link did _ h.1 s (adds_no_file kept path (kept_with forced kept path h.0))
-
-  add_stores : (wire : Latched R) (forced : List (List ℕ)) (kept : List Labelled) (path : List ℕ) (did : Stepped) →
-      IsAddBy remaining wire forced kept path did → Stores did → ⊥
-  add_stores wire forced kept path did (inl e) s = is_no_link did _ e s (adds_no_file kept path (input_from forced kept path failing))
-  add_stores wire forced kept path did (inr (working, inl h)) s = refused_stores did (ap (λ (d : Stepped). d.verdict) h.0) s
-  add_stores wire forced kept path did (inr (working, inr h)) s = add_on_stores (remaining wire.device) forced kept path did h s
-
-  pub plain_stores : (o : Choices) (old : Kept) (command : Command R) (did : Stepped) → IsNoLink command →
+  pub plain_stores : (o : Choices) (old : Kept) (command : Command R) (did : Stepped) → IsPlain command →
       IsStepOn remaining old o command did → Stores did → ⊥
-  plain_stores o old (Add path None) did plain h s =
-      is_no_link did _ h s (adds_no_file old.entries (string_bytes path) (input_from old.forced old.entries (string_bytes path) absent))
-  plain_stores o old (Add path (Some wire)) did plain h s = add_stores wire old.forced old.entries (string_bytes path) did h s
+  plain_stores o old (Add path wire) did plain h s = absurd plain
   plain_stores o old Withdraw did plain h s = is_no_link did _ h s (takes_no_file old.entries (last_of old.entries))
   plain_stores o old Externals did plain h s = done_stores did (ap (λ (d : Stepped). d.verdict) h) s
   plain_stores o old Undefined did plain h s = done_stores did (ap (λ (d : Stepped). d.verdict) h) s
   plain_stores o old Link did plain h s = absurd plain
   plain_stores o old Bad did plain h s = refused_stores did (ap (λ (d : Stepped). d.verdict) h) s
+
+-- an addition is no link
+added_stores : (forced : List (List ℕ)) (o : Choices) (old : List Labelled) (path : List ℕ) (events : List Event) (did : Stepped) →
+    IsAddAt forced o old path events did → Stores did → ⊥
+added_stores forced o old path events did (inl (asked, is)) s =
+    is_no_link did _ is s (adds_no_file old path (input_from forced old path absent))
+added_stores forced o old path events did (inr (known, true, asked, is)) s =
+    is_no_link did _ is s (adds_no_file old path (input_from forced old path failing))
+added_stores forced o old path events did (inr (known, false, asked, inl h)) s = refused_stores did (ap (λ (d : Stepped). d.verdict) h.0) s
+added_stores forced o old path events did (inr (Some bytes, false, asked, inr is)) s =
+    is_no_link did _ is s (adds_no_file old path (input_from forced old path (giving bytes)))
+added_stores forced o old path events did (inr (None, false, asked, inr (found, sound, is))) s =
+    is_no_link did _ is s (adds_no_file old path (kept_with forced old path found))
+
+-- the step on a wire that was closed then
+pub added_closed : {R : Type 0} (remaining : R → Option (List ℕ)) (from to : Latched R) (forced : List (List ℕ)) (old : List Labelled)
+    (path : List ℕ) (did : Stepped) → IsAddOver remaining from to forced old path did →
+    IsAddOf (remaining from.device) to.has_failed forced old path did
+added_closed remaining from to forced old path did (inl (failed, is)) =
+    subst (λ (b : Bool). IsAddOf (remaining from.device) b forced old path did) (sym failed) is
+added_closed remaining from to forced old path did (inr (after, before, is)) =
+    subst (λ (b : Bool). IsAddOf (remaining from.device) b forced old path did) (sym after) is
 
 module _ {W : Type 0} (contents : W → Option (List ℕ)) where
   -- an answer of which a prefix went out
@@ -153,77 +162,86 @@ module _ {W : Type 0} (contents : W → Option (List ℕ)) where
   withdraw_names refused old new h = ap (λ (k : Kept). k.forced) h
   withdraw_names (to_store x) old new h = ap (λ (k : Kept). k.forced) h
 
+  -- ---- a line that adds a file
+
+  module _ (o : Choices) (path : List ℕ) (kept left : Kept) (old new : History) (before after : Latched W) where
+    addition_line : (events : List Event) (did : Stepped) → IsAddAt kept.forced o kept.entries path events did →
+        IsLineOf kept.forced o kept.entries (run_of (to_add path) events did) (to_add path)
+    addition_line events did (inl (asked, is)) = inl (record {
+      events = asked;
+      answer = ap (λ (d : Stepped). d.answer) is;
+      status = ap (λ (d : Stepped). status_after d.verdict) is;
+      kept = ap (λ (d : Stepped). d.kept) is;
+    })
+    addition_line events did (inr (known, failed, asked, is)) = inr (record {
+      known = known;
+      failed = failed;
+      did = did;
+      is_add = is;
+      does = record { events = asked; answer = refl; status = refl; kept = refl };
+    })
+
+    -- its answer went out whole
+    pub addition_answered : (s : Step) (status : ℕ) → TakesAddition contents o path old new kept left (Ok s) before after →
+        status ≡ status_after (verdict_of s) → AnswersLine contents o (to_add path) kept left old new (Ok status) before after
+    addition_answered s status (events, did, asked, at, adds, does) is =
+        let plain = added_stores kept.forced o kept.entries path events did at in
+        answered_by o (to_add path) events did kept left old new (Ok status) before after
+        (answers_status did left s status before after does (λ x e. plain (x, sym does.verdict ∙ e)) is)
+        (add_names did.verdict kept left adds) asked (addition_line events did at)
+
+    -- or only a prefix of it
+    pub addition_cut_short : (fault : CliFault) (result : Result ℕ CliFault) →
+        TakesAddition contents o path old new kept left (Err fault) before after → fault ≡ faults.WriteFailed device_fault →
+        result ≡ Err fault → AnswersLine contents o (to_add path) kept left old new result before after
+    addition_cut_short fault result (events, did, asked, at, adds, does) is e =
+        answered_by o (to_add path) events did kept left old new result before after
+        (answers_fault did left fault result before after does is e) (add_names did.verdict kept left adds) asked (addition_line events did at)
+
+  -- ---- a line that opens and stores no file
+
   module _ {R : Type 0} (remaining : R → Option (List ℕ)) (o : Choices) (kept left : Kept) (result : Result ℕ CliFault)
       (before after : Latched W) where
-    add_of : (wire : Latched R) (path : List ℕ) (did : Stepped) →
-        IsAddBy remaining wire kept.forced kept.entries path did → IsAddOf (remaining wire.device) kept.forced kept.entries path did
-    add_of wire path did (inl e) = inl e
-    add_of wire path did (inr (working, inl h)) = inr (inl h)
-    add_of wire path did (inr (working, inr h)) = inr (inr h)
-
-    pub added_line : (old new : History) (path : String Global) (at : List ℕ) (wire : Option (Latched R)) →
-        at ≡ string_bytes path → IsOpenedAt remaining old new at wire →
-        TakesPlainStep remaining contents o (Add path wire) kept left result before after →
-        AnswersLine contents o (to_add (string_bytes path)) kept left old new result before after
-    added_line old new path at None is asked (did, e, changes, told) =
-        let asks = to_add (string_bytes path) in
-        let events = opened (string_bytes path) None ∷ [] in
-        answered_by o asks events did kept left old new result before after told (add_names did.verdict kept left changes)
-        (subst (λ (p : List ℕ). Extends old new (opened p None ∷ [])) is asked) (inl (does_line asks events did _ e))
-    added_line old new path at (Some wire) is asked (did, by, changes, told) =
-        let asks = to_add (string_bytes path) in
-        let events = opened (string_bytes path) (Some (remaining wire.device)) ∷ [] in
-        answered_by o asks events did kept left old new result before after told (add_names did.verdict kept left changes)
-        (subst (λ (p : List ℕ). Extends old new (opened p (Some (remaining wire.device)) ∷ [])) is asked.1)
-        (inr (record {
-          known = remaining wire.device;
-          did = did;
-          is_add = add_of wire (string_bytes path) did by;
-          does = does_line asks events did did refl;
-        }))
-
     -- a line for which no file is opened
     told_line : (h : History) (asks : Asked) (did : Stepped) → IsLineOf kept.forced o kept.entries (run_of asks [] did) asks →
         left.forced ≡ kept.forced → AnswersStep contents did left result before after →
         AnswersLine contents o asks kept left h h result before after
     told_line h asks did is names told = answered_by o asks [] did kept left h h result before after told names (nothing_asked h) is
 
-    -- a line that is not a link, from the step that it asks for
-    pub line_by_step : (old new : History) (line : Line) (command : Command R) → IsCommandOf remaining old new line command →
+    -- a line, from the step that it asks for
+    pub line_by_step : (h : History) (line : Line) (command : Command R) → IsCommandOf line command →
         TakesPlainStep remaining contents o command kept left result before after →
-        AnswersLine contents o (asked_by line) kept left old new result before after
-    line_by_step old new (lines.Add path) command (wire, is, found) told =
-        added_line old new path (string_bytes path) wire refl found (rw is at told)
-    line_by_step old new lines.Withdraw command (is, same) told =
+        AnswersLine contents o (asked_by line) kept left h h result before after
+    line_by_step h (lines.Add path) command is told = absurd is
+    line_by_step h lines.Withdraw command is told =
         let (did, e, changes, step) = rw is at told in
-        rw same (told_line old to_withdraw did (does_line to_withdraw [] did _ e) (withdraw_names did.verdict kept left changes) step)
-    line_by_step old new lines.Externals command (is, same) told =
+        told_line h to_withdraw did (does_line to_withdraw [] did _ e) (withdraw_names did.verdict kept left changes) step
+    line_by_step h lines.Externals command is told =
         let (did, e, changes, step) = rw is at told in
-        rw same (told_line old for_externals did (does_line for_externals [] did _ e) (ap (λ (k : Kept). k.forced) changes) step)
-    line_by_step old new lines.Undefined command (is, same) told =
+        told_line h for_externals did (does_line for_externals [] did _ e) (ap (λ (k : Kept). k.forced) changes) step
+    line_by_step h lines.Undefined command is told =
         let (did, e, changes, step) = rw is at told in
-        rw same (told_line old for_undefined did (does_line for_undefined [] did _ e) (ap (λ (k : Kept). k.forced) changes) step)
-    line_by_step old new (lines.Link path) command h told = absurd h
-    line_by_step old new lines.Bad command (is, same) told =
+        told_line h for_undefined did (does_line for_undefined [] did _ e) (ap (λ (k : Kept). k.forced) changes) step
+    line_by_step h (lines.Link path) command is told = absurd is
+    line_by_step h lines.Bad command is told =
         let (did, e, changes, step) = rw is at told in
-        rw same (told_line old for_nothing did (does_line for_nothing [] did _ e) (ap (λ (k : Kept). k.forced) changes) step)
+        told_line h for_nothing did (does_line for_nothing [] did _ e) (ap (λ (k : Kept). k.forced) changes) step
 
   module _ {R : Type 0} (remaining : R → Option (List ℕ)) where
-    step_of_line : (old new : History) (line : Line) (command : Command R) → IsCommandOf remaining old new line command →
-        IsNoLink command
-    step_of_line old new (lines.Add path) command (wire, is, found) = rw is tt
-    step_of_line old new (lines.Link path) command h = absurd h
-    step_of_line old new line command h = rw h.0 tt
+    step_of_line : (line : Line) (command : Command R) → IsCommandOf line command → IsPlain command
+    step_of_line (lines.Add path) command is = absurd is
+    step_of_line (lines.Link path) command is = absurd is
+    step_of_line line command is = rw is tt
 
-    module _ (o : Choices) (kept left : Kept) (before after : Latched W) (old new : History) (line : Line) (command : Command R)
-        (asks : IsCommandOf remaining old new line command) where
+    module _ (o : Choices) (kept left : Kept) (before after : Latched W) (h : History) (line : Line) (command : Command R)
+        (asks : IsCommandOf line command) where
       -- its answer went out whole
       pub line_answered : (s : Step) (status : ℕ) → TakesStep remaining contents o command kept left (Ok s) before after →
           status ≡ status_after (verdict_of s) →
-          AnswersLine contents o (asked_by line) kept left old new (Ok status) before after
+          AnswersLine contents o (asked_by line) kept left h h (Ok status) before after
       line_answered s status (did, on, changes, does) is =
-          let plain = plain_stores remaining o kept command did (step_of_line old new line command asks) on in
-          line_by_step remaining o kept left (Ok status) before after old new line command asks (
+          let plain = plain_stores remaining o kept command did (step_of_line line command asks) on in
+          line_by_step remaining o kept left (Ok status) before after h line command asks (
             did,
             on,
             changes,
@@ -233,9 +251,9 @@ module _ {W : Type 0} (contents : W → Option (List ℕ)) where
       -- or only a prefix of it
       pub line_cut_short : (fault : CliFault) (result : Result ℕ CliFault) →
           TakesStep remaining contents o command kept left (Err fault) before after → fault ≡ faults.WriteFailed device_fault →
-          result ≡ Err fault → AnswersLine contents o (asked_by line) kept left old new result before after
+          result ≡ Err fault → AnswersLine contents o (asked_by line) kept left h h result before after
       line_cut_short fault result (did, on, changes, does) is e =
-          line_by_step remaining o kept left result before after old new line command asks
+          line_by_step remaining o kept left result before after h line command asks
           (did, on, changes, answers_fault did left fault result before after does is e)
 
   module _ (o : Choices) (path : List ℕ) (kept : Kept) (result : Result ℕ CliFault) (before after : Latched W) where

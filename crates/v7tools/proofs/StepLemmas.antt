@@ -11,11 +11,11 @@ use Rattle.link_out.specs.{declared.linked.LinkFault.LinkFault, function.Link.Ou
 use Rattle.link_out.specs.declared.linked.LinkFault.TheVariants as links
 use Rattle.link_session.proofs.EditLemmas.{last_of-put_last, without_last-put_last}
 use Rattle.v7tools.specs.{FaultTexts.{cli_text, fault_of_link}, Answers.{done, refused, Stepped, add_step, withdraw_step, link_step}}
-use Rattle.v7tools.specs.internal.StepParts.{IsRefusal, IsAccepted, IsAddition, IsAddOver, IsAddWorking, MakesLink, RefusesLink}
+use Rattle.v7tools.specs.internal.StepParts.{IsRefusal, IsAccepted, IsAddition, IsAddOver, MakesLink, RefusesLink}
 use Rattle.v7tools.specs.{internal.StepParts.{TakesWithdrawal, label_of}, SessionSteps.{Does, IsAddBy, IsLinkBy, verdict_of}}
 use Rattle.v7tools.specs.{declared.fault.CliFault.CliFault, declared.session.commands.Step.Step}
 use Rattle.v7tools.specs.{declared.session.commands.Step.TheVariants.{Refused, ToStore}, LinkAnswers.WantsMemory}
-use Rattle.v7tools.specs.internal.InputParts.{IsDeviceFault}
+use Rattle.v7tools.specs.{internal.InputParts.IsDeviceFault, LineRuns.IsAddWorking}
 use Rattle.v7tools.specs.declared.fault.CliFault.TheVariants as faults
 
 -- ---- the last object

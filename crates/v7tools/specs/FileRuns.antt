@@ -4,13 +4,14 @@
 -- file leaves all as it was (own choice).
 use Rattle.aout_core.specs.{Refusals.{device_fault, refused}, Contents.Contents, Decoding.decode, Reading.IsReadOf, Strip.stripped}
 use Rattle.aout_core.specs.Wires.{Latched, Puts}
+use Rattle.aout_core.specs.declared.file.ReadFault.{ReadFault}
 use Rattle.aout_core.specs.declared.file.ReadFault.TheVariants as reads
 use Rattle.std.specs.declared.alloc.Global.{Global}
 use Rattle.std.specs.Prelude.{◌≡◌, ◌≢◌, ◌↔◌, ◌⊎◌, ℕ, List, [], ◌∷◌, ◌++◌, map, Option, Some, None, Result, Ok, Err, IfErr, IfOk, IfSome}
-use Rattle.std.specs.Prelude.{IsTrue, String, string_bytes}
+use Rattle.std.specs.{List.flat_map, Prelude.{Bool, IsTrue, String, string_bytes, true, false}}
 use Rattle.symtools.specs.{Files.by_bytes, NmLists.ListsUpTo}
 use Rattle.tool_options.specs.declared.nm_options.NmOptions.{NmOptions}
-use Rattle.surroundings.specs.{Events.{Event, History, Extends, Opened, opened, opens, stored}, declared.office.Stored.Stored}
+use Rattle.surroundings.specs.{Events.{Event, History, Extends, Opened, opened, stored}, Sources.reading, declared.office.Stored.Stored}
 use Rattle.surroundings.specs.declared.office.Stored.TheVariants.{Kept, NotCreated, Failed}
 use Rattle.v7tools.specs.{LinkRuns.Refuses, declared.fault.CliFault.CliFault}
 use Rattle.v7tools.specs.declared.fault.CliFault.TheVariants as faults
@@ -19,16 +20,23 @@ use Rattle.v7tools.specs.declared.fault.CliFault.TheVariants as faults
 abbrev pub Loaded : Type 0
 Loaded = String Global × Contents
 
--- the file at a path was opened, and this holds of its bytes, if they are known
-abbrev pub OpensOn : History → History → String Global → (List ℕ → Type 0) → Type 0
-OpensOn old new path holds = (known : Option (List ℕ)) × Extends old new (opened (string_bytes path) (Some known) ∷ []) × IfSome known holds
+-- a device failed while a file was read
+abbrev pub is_broken : ReadFault → Bool
+is_broken (reads.Device _) = true
+is_broken _ = false
 
--- the file at a path was opened and read, or why it was not; memory runs out only for what its header announces
+-- the file at a path was opened and closed, its device had failed or had not, and this holds of its bytes, if they are known
+abbrev pub ReadsOn : History → History → String Global → Bool → (List ℕ → Type 0) → Type 0
+ReadsOn old new path failed holds =
+    (known : Option (List ℕ)) × Extends old new (reading (string_bytes path) (Some known) failed) × IfSome known holds
+
+-- the file at a path was opened, read and closed, or why it was not read: that its device failed is told if and only if it did; memory
+-- runs out only for what its header announces
 abbrev pub IsLoadAt : History → History → String Global → Result Loaded CliFault → Type 0
-IsLoadAt old new path (Ok loaded) = (loaded.0 ≡ path) × OpensOn old new path (λ bytes. decode bytes ≡ Ok loaded.1)
+IsLoadAt old new path (Ok loaded) = (loaded.0 ≡ path) × ReadsOn old new path false (λ bytes. decode bytes ≡ Ok loaded.1)
 IsLoadAt old new path (Err (faults.CannotOpen at)) = (at ≡ path) × Extends old new (opened (string_bytes path) None ∷ [])
-IsLoadAt old new path (Err (faults.BadFile at fault)) = (at ≡ path) × (fault ≢ reads.Memory refused) × OpensOn old new path (IsReadOf (Err fault))
-IsLoadAt old new path (Err (faults.Memory _)) = OpensOn old new path (IsReadOf (Err (reads.Memory refused)))
+IsLoadAt old new path (Err (faults.BadFile at fault)) = (at ≡ path) × (fault ≢ reads.Memory refused) × ReadsOn old new path (is_broken fault) (IsReadOf (Err fault))
+IsLoadAt old new path (Err (faults.Memory _)) = ReadsOn old new path false (IsReadOf (Err (reads.Memory refused)))
 IsLoadAt old new path (Err _) = ⊥
 
 -- what was read at each path is what the bytes of the file that was opened there give, if they are known
@@ -37,11 +45,15 @@ AreRead [] [] = Unit {0}
 AreRead (f ∷ fs) (l ∷ ls) = ((f.0 ≡ string_bytes l.0) × IfSome f.1 (λ bytes. decode bytes ≡ Ok l.1)) × AreRead fs ls
 AreRead _ _ = ⊥
 
--- some files were opened and read in order, each before the next one was opened
+-- the files were opened and closed, and no device had failed
+abbrev pub readings : List Opened → List Event
+readings found = flat_map (λ f. reading f.0 (Some f.1) false) found
+
+-- some files were opened, read and closed in order, each before the next one was opened
 pub record Reads (old new : History) (loaded : List Loaded) : Type 0 where
   pub found : List Opened
   pub read : AreRead found loaded
-  pub asked : Extends old new (opens found)
+  pub asked : Extends old new (readings found)
 
 -- the files before one were opened and read, and that one was not
 pub record ReadsUpTo (old new : History) (files : List (String Global)) (fault : CliFault) : Type 0 where

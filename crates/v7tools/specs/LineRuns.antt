@@ -2,14 +2,16 @@
 --
 -- A line opens at most the file that it names, stores at most the link that it asks for, and has an answer and a status: 0, or 1
 -- if it was refused or its link had something to report.
-use Rattle.std.specs.Prelude.{◌≡◌, ◌⊎◌, ℕ, List, [], ◌∷◌, Option, Some, None, Ok, IfSome}
+use Rattle.std.specs.Prelude.{◌≡◌, ◌≢◌, ◌⊎◌, ℕ, Bool, true, false, List, [], ◌∷◌, Option, Some, None, Result, Ok, Err, IfSome}
+use Rattle.aout_core.specs.{Contents.Contents, Refusals.device_fault}
+use Rattle.aout_core.specs.declared.file.ReadFault.TheVariants as reads
 use Rattle.link_session.specs.Labelled.{Labelled, objects}
 use Rattle.tool_options.specs.Choices.{Choices}
-use Rattle.link_out.specs.function.Link.{Outcome, link}
-use Rattle.v7tools.specs.Answers.{absent, failing, adding, withdrawing, listing_externals, listing_undefined, anything_else, Verdict, done}
+use Rattle.link_out.specs.{function.Link.{Outcome, link}, Inputs.{Cause, bad_file, kept_with}}
+use Rattle.v7tools.specs.Answers.{absent, failing, giving, adding, withdrawing, listing_externals, listing_undefined, anything_else, Verdict, done}
 use Rattle.v7tools.specs.{Answers.{refused, Stepped, add_step, input_from, step, link_answer_text, link_status}, LinkAnswers.WantsMemory}
-use Rattle.v7tools.specs.SessionSteps.{IsAddOn, IsLinkBy, without_memory}
-use Rattle.surroundings.specs.{Events.Event, Events.opened, Events.stored, declared.office.Stored.Stored}
+use Rattle.v7tools.specs.SessionSteps.{IsLinkBy, without_memory}
+use Rattle.surroundings.specs.{Events.Event, Events.opened, Events.stored, Sources.reading, declared.office.Stored.Stored}
 use Rattle.command_words.specs.Scripts.{Asked, to_add, to_withdraw, for_externals, for_undefined, to_link, for_nothing}
 
 -- a line: what it asked for, what it asked of the system, its answer, its status, and the objects that are kept after it
@@ -32,19 +34,26 @@ pub record DoesStep (asked : List Event) (did : Stepped) (r : LineRun) : Type 0 
   pub status : r.status ≡ status_after did.verdict
   pub kept : r.kept ≡ did.kept
 
--- the file that was opened is added by its bytes, if they are known; its device may fail, and memory may run out,
--- if it is wanted
-abbrev pub IsAddOf : Option (List ℕ) → List (List ℕ) → List Labelled → List ℕ → Stepped → Type 0
-IsAddOf known forced old path did =
-    (did ≡ add_step old path (input_from forced old path failing))
-    ⊎ (((did ≡ without_memory old) × IfSome known (WantsMemory forced old path)) ⊎ IsAddOn known forced old path did)
+-- the file at a path is added by its bytes, if they are known; else as some file, or refused for some cause but a device that failed
+abbrev pub IsAddWorking : Option (List ℕ) → List (List ℕ) → List Labelled → List ℕ → Stepped → Type 0
+IsAddWorking (Some bytes) forced kept path did = did ≡ add_step kept path (input_from forced kept path (giving bytes))
+IsAddWorking None forced kept path did =
+    (found : Result Contents Cause) × (found ≢ Err (bad_file (reads.Device device_fault)))
+    × (did ≡ add_step kept path (kept_with forced kept path found))
 
--- the file at the path that is named was opened
+-- the file that was opened is added, or the answer is that its device failed, if it did; else memory may run out, if it is wanted
+abbrev pub IsAddOf : Option (List ℕ) → Bool → List (List ℕ) → List Labelled → List ℕ → Stepped → Type 0
+IsAddOf known true forced old path did = did ≡ add_step old path (input_from forced old path failing)
+IsAddOf known false forced old path did =
+    ((did ≡ without_memory old) × IfSome known (WantsMemory forced old path)) ⊎ IsAddWorking known forced old path did
+
+-- the file at the path that is named was opened and closed, and its device had failed or had not
 pub record OpensOne (forced : List (List ℕ)) (old : List Labelled) (path : List ℕ) (r : LineRun) : Type 0 where
   pub known : Option (List ℕ)
+  pub failed : Bool
   pub did : Stepped
-  pub is_add : IsAddOf known forced old path did
-  pub does : DoesStep (opened path (Some known) ∷ []) did r
+  pub is_add : IsAddOf known failed forced old path did
+  pub does : DoesStep (reading path (Some known) failed) did r
 
 -- there is no link: nothing is stored
 pub record LinksNone (forced : List (List ℕ)) (o : Choices) (old : List Labelled) (r : LineRun) : Type 0 where

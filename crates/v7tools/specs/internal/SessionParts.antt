@@ -1,42 +1,49 @@
 -- How a session answers a line: the file that is opened, the step that is taken, and what goes out.
 use Rattle.aout_core.specs.{Refusals.device_fault, Wires.{Latched, Puts}}
-use Rattle.std.specs.Prelude.{◌≡◌, ◌↔◌, ℕ, false, List, [], ◌∷◌, Option, Some, None, Result, IfErr, IfOk, IsErr, IsTrue, string_bytes}
+use Rattle.std.specs.Prelude.{◌≡◌, ◌↔◌, ◌⊎◌, ℕ, Bool, List, [], ◌∷◌, Option, Some, None, Result, IfErr, IfOk, IsErr, IsTrue}
 use Rattle.std.specs.Io.KnownBytes.{Keeps}
-use Rattle.link_session.specs.Undo.{Kept}
+use Rattle.link_session.specs.{Labelled.Labelled, Undo.Kept}
 use Rattle.tool_options.specs.Choices.{Choices}
 use Rattle.v7tools.specs.declared.session.commands.Command.TheVariants.{Add, Withdraw, Externals, Undefined, Link, Bad}
-use Rattle.v7tools.specs.{Answers.Stepped, SessionSteps.Changes, SessionSteps.IsStepOn, declared.session.commands.Command.Command}
-use Rattle.v7tools.specs.{declared.fault.CliFault.CliFault, LineRuns.IsLineOf, LineRuns.LineRun, LineRuns.status_after}
+use Rattle.v7tools.specs.{Answers.{Stepped, absent, adding, step}, SessionSteps.{AddsIf, Changes, Does, IsStepOn}, declared.session.commands.Command.Command}
+use Rattle.v7tools.specs.{declared.fault.CliFault.CliFault, LineRuns.{IsAddOf, IsLineOf, LineRun, status_after}}
+use Rattle.v7tools.specs.declared.session.commands.Step.{Step}
 use Rattle.v7tools.specs.declared.fault.CliFault.TheVariants as faults
-use Rattle.surroundings.specs.Events.{History, Extends, opened}
+use Rattle.surroundings.specs.{Events.{Event, History, Extends, opened}, Sources.reading}
 use Rattle.command_words.specs.{declared.lines.Line.Line, Scripts.Asked}
 use Rattle.command_words.specs.declared.lines.Line.TheVariants as lines
 
--- the file at a path was opened, on a wire that has not failed, or could not be
-abbrev pub IsOpenedAt : {R : Type 0} → (R → Option (List ℕ)) → History → History → List ℕ → Option (Latched R) → Type 0
-IsOpenedAt remaining old new path None = Extends old new (opened path None ∷ [])
-IsOpenedAt remaining old new path (Some wire) =
-    (wire.has_failed ≡ false) × Extends old new (opened path (Some (remaining wire.device)) ∷ [])
+-- a line that opens and stores no file
+abbrev pub IsPlainLine : Line → Type 0
+IsPlainLine (lines.Add path) = ⊥
+IsPlainLine (lines.Link path) = ⊥
+IsPlainLine _ = Unit {0}
 
--- a line that does not ask for a link
-abbrev pub IsNoLinkLine : Line → Type 0
-IsNoLinkLine (lines.Link path) = ⊥
-IsNoLinkLine _ = Unit {0}
+-- the step that such a line asks for
+abbrev pub IsCommandOf : {R : Type 0} → Line → Command R → Type 0
+IsCommandOf lines.Withdraw command = command ≡ Withdraw
+IsCommandOf lines.Externals command = command ≡ Externals
+IsCommandOf lines.Undefined command = command ≡ Undefined
+IsCommandOf lines.Bad command = command ≡ Bad
+IsCommandOf _ command = ⊥
 
--- the step that a line asks for, with the file at its path opened
-abbrev pub IsCommandOf : {R : Type 0} → (R → Option (List ℕ)) → History → History → Line → Command R → Type 0
-IsCommandOf {R} remaining old new (lines.Add path) command =
-    (wire : Option (Latched R)) × (command ≡ Add path wire) × IsOpenedAt remaining old new (string_bytes path) wire
-IsCommandOf remaining old new lines.Withdraw command = (command ≡ Withdraw) × (new ≡ old)
-IsCommandOf remaining old new lines.Externals command = (command ≡ Externals) × (new ≡ old)
-IsCommandOf remaining old new lines.Undefined command = (command ≡ Undefined) × (new ≡ old)
-IsCommandOf remaining old new (lines.Link path) command = ⊥
-IsCommandOf remaining old new lines.Bad command = (command ≡ Bad) × (new ≡ old)
+abbrev pub IsPlain : {R : Type 0} → Command R → Type 0
+IsPlain (Add path wire) = ⊥
+IsPlain Link = ⊥
+IsPlain _ = Unit {0}
 
--- a step that is not a link
-abbrev pub IsNoLink : {R : Type 0} → Command R → Type 0
-IsNoLink Link = ⊥
-IsNoLink _ = Unit {0}
+-- what a line that adds a file asks of the system, and the step that it does
+abbrev pub IsAddAt : List (List ℕ) → Choices → List Labelled → List ℕ → List Event → Stepped → Type 0
+IsAddAt forced o old path events did =
+    ((events ≡ opened path None ∷ []) × (did ≡ step forced o old (adding path absent)))
+    ⊎ ((known : Option (List ℕ)) × (failed : Bool) × (events ≡ reading path (Some known) failed) × IsAddOf known failed forced old path did)
+
+-- it is done, and its answer went out
+abbrev pub TakesAddition : {W : Type 0} → (W → Option (List ℕ)) → Choices → List ℕ → History → History → Kept → Kept →
+    Result Step CliFault → Latched W → Latched W → Type 0
+TakesAddition contents o path asked now old new result before after =
+    (events : List Event) × (did : Stepped) × Extends asked now events × IsAddAt old.forced o old.entries path events did
+    × AddsIf did.verdict old new × Does contents did new result before after
 
 -- the status of a step is returned, and its answer went out, or on a fault a prefix of it
 pub record AnswersStep {W : Type 0} (contents : W → Option (List ℕ)) (did : Stepped) (left : Kept)

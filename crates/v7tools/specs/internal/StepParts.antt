@@ -1,13 +1,14 @@
 -- What the parts of a step find and do.
 use Rattle.aout_core.specs.{Refusals.device_fault, Refusals.refused, Contents.Contents, Decoding.decode, Wires.Latched, Wires.Writes}
 use Rattle.aout_core.specs.declared.file.ReadFault.TheVariants as reads
-use Rattle.std.specs.Prelude.{◌≡◌, ◌≢◌, ◌⊎◌, ℕ, false, cond, List, [], Option, Some, None, Result, Ok, Err, IfSome, IsTrue, String}
+use Rattle.std.specs.Prelude.{◌≡◌, ◌⊎◌, ℕ, false, cond, List, [], Option, Some, None, Result, Ok, Err, IfSome, IsTrue, String}
 use Rattle.std.specs.{Prelude.string_bytes, declared.alloc.Global.Global}
 use Rattle.link_session.specs.{declared.state.State.State, Edits.last_of, Labelled.Labelled, Sessions.Adds, Undo.Kept}
 use Rattle.link_out.specs.{declared.linked.LinkFault.LinkFault, declared.linked.Linked.Linked, Outcomes.{IsLinkOf, outcome_of}}
 use Rattle.link_out.specs.{function.Reports.{is_missing, line}, function.Link.Outcome, Inputs.{Cause, bad_file, object_in, kept_with}}
 use Rattle.v7tools.specs.FaultTexts.{cli_text, fault_at, fault_of_link}
-use Rattle.v7tools.specs.Answers.{failing, giving, Stepped, add_step, withdraw_step, input_from}
+use Rattle.v7tools.specs.Answers.{failing, Stepped, add_step, withdraw_step, input_from}
+use Rattle.v7tools.specs.LineRuns.{IsAddWorking}
 use Rattle.v7tools.specs.SessionSteps.{without_memory, AddsIf, WithdrawsIf, Does}
 use Rattle.v7tools.specs.{declared.fault.CliFault.CliFault, declared.session.commands.Step.Step, LinkAnswers.WantsMemory}
 use Rattle.v7tools.specs.declared.fault.CliFault.TheVariants as faults
@@ -45,14 +46,6 @@ IsAddition known old new path (Ok _) = (object : Contents) × IsAccepted known o
 IsAddition known old new path (Err fault) =
     (new ≡ old) × (((fault ≡ faults.Memory refused) × IfSome known (WantsMemory old.forced old.entries (string_bytes path)))
     ⊎ IsRefusal known old path fault)
-
--- the file at a path is added by its bytes, if they are known; else as some file, or refused for some cause but a
--- device that failed
-abbrev pub IsAddWorking : Option (List ℕ) → List (List ℕ) → List Labelled → List ℕ → Stepped → Type 0
-IsAddWorking (Some bytes) forced kept path did = did ≡ add_step kept path (input_from forced kept path (giving bytes))
-IsAddWorking None forced kept path did =
-    (found : Result Contents Cause) × (found ≢ Err (bad_file (reads.Device device_fault)))
-    × (did ≡ add_step kept path (kept_with forced kept path found))
 
 -- an addition, with its wire before and after: the answer is that of a device that failed if and only if the wire has
 abbrev pub IsAddOver : {R : Type 0} → (R → Option (List ℕ)) → Latched R → Latched R → List (List ℕ) → List Labelled →

@@ -12,7 +12,7 @@ use std::alloc::Global;
 use surroundings::{Office, Stored};
 use symtools::{NmOptions, nm, size};
 
-/// Opens and reads the file at a path.
+/// Opens, reads and closes the file at a path.
 fn load_at<O: Office>(
     alloc: Global,
     office: &mut O,
@@ -21,12 +21,17 @@ fn load_at<O: Office>(
     ensures { IsLoadAt (O.history office.old) (O.history office.new) path result }
 {
     match office.open(path.as_str()) {
-        Some(source) => load(alloc, path, &mut Wire::new(source)),
+        Some(source) => {
+            let mut wire = Wire::new(source);
+            let loaded = load(alloc, path, &mut wire);
+            office.close(wire);
+            loaded
+        }
         None => Err(CliFault::CannotOpen(path)),
     }
 }
 
-/// Opens and reads the files in order, each before the next one is opened.
+/// Opens, reads and closes the files in order, each before the next one is opened.
 fn load_all<O: Office>(
     alloc: Global,
     office: &mut O,

@@ -1,17 +1,17 @@
 //! The session as a command, over any `Office`: each line of a script is answered before the next one is asked for.
-ghost use Rattle.std.specs.Prelude.{◌≡◌, ◌↔◌, Err, IsTrue};
-ghost use Rattle.aout_core.specs.Wires.{IsPassedOn};
+ghost use Rattle.std.specs.Prelude.{◌≡◌, ◌↔◌, Err, IfErr, IsTrue, string_bytes};
+ghost use Rattle.aout_core.specs.{Refusals.device_fault, Wires.IsPassedOn};
 ghost use Rattle.link_session.specs.Sessions.{nothing_kept};
-ghost use Rattle.v7tools.specs.{declared.fault.CliFault.TheVariants.ScriptFailed, LineRuns.status_after, SessionRuns.IsSessionRun};
+ghost use Rattle.v7tools.specs.{declared.fault.CliFault.TheVariants.{ScriptFailed, WriteFailed}, LineRuns.status_after, SessionRuns.IsSessionRun};
 ghost use Rattle.v7tools.specs.SessionSteps.{verdict_of};
-ghost use Rattle.v7tools.specs.internal.SessionParts.{AnswersLine, IsCommandOf, IsNoLinkLine, IsOpenedAt, PassesOn};
+ghost use Rattle.v7tools.specs.internal.SessionParts.{AnswersLine, IsCommandOf, IsPlainLine, PassesOn, TakesAddition};
 ghost use Rattle.command_words.specs.{Scripts.to_link, ScriptAnswers.{asked_by, begun}};
 
 use crate::fault::CliFault;
 use crate::session::commands::{Command, Step};
 use crate::session::link_answers::link_answer;
 use crate::session::script::Script;
-use crate::session::steps::{make_link, step};
+use crate::session::steps::{add, make_link, refuse, step};
 use crate::setting::Setting;
 use crate::status::Status;
 use aout_core::{BufferedWrite, Wire};
@@ -20,31 +20,41 @@ use link_session::{Forced, Session};
 use std::io::{Read, Write};
 use surroundings::Office;
 
-fn open_wire<O: Office>(office: &mut O, path: &str) -> Option<Wire<O::Source>>
-    ensures { IsOpenedAt O.Source.remaining
-        (O.history office.old) (O.history office.new) path.now result }
-{
-    let source = office.open(path)?;
-    Some(Wire::new(source))
-}
-
-/// What a line asks a step to do, with the file at its path opened. A link is answered by `answer_link`.
-fn command_of<O: Office>(office: &mut O, line: Line) -> Command<O::Source>
-    requires { IsNoLinkLine line }
-    ensures { IsCommandOf O.Source.remaining
-        (O.history office.old) (O.history office.new) line result }
+/// What a line asks a step to do. A line that opens or stores a file is answered by `add_at` or `answer_link`.
+fn command_of<R>(line: Line) -> Command<R>
+    requires { IsPlainLine line }
+    ensures { IsCommandOf line result }
 {
     match line {
-        Line::Add(path) => {
-            let wire = open_wire(office, path.as_str());
-            Command::Add(path, wire)
-        }
+        Line::Add(_) | Line::Link(_) => unreachable!(),
         Line::Withdraw => Command::Withdraw,
         Line::Externals => Command::Externals,
         Line::Undefined => Command::Undefined,
-        Line::Link(_) => unreachable!(),
         Line::Bad => Command::Bad,
     }
+}
+
+/// Adds the file at a path, which is opened before and closed after that, and answers with its label.
+fn add_at<O: Office, W: Write>(
+    setting: &Setting<'_>,
+    office: &mut O,
+    session: &mut Session,
+    path: String,
+    answers: &mut Wire<W>,
+) -> Result<Step, CliFault>
+    ensures write_failed { IfErr result (λ fault. fault ≡ WriteFailed device_fault) }
+    ensures latched { IsTrue answers.old.has_failed → (answers.new ≡ answers.old) }
+    ensures step { TakesAddition W.contents setting.now.options.now (string_bytes path)
+        (O.history office.old) (O.history office.new) session.old session.new
+        result answers.old answers.new }
+{
+    let Some(source) = office.open(path.as_str()) else {
+        return refuse(&CliFault::CannotOpen(path), answers);
+    };
+    let mut wire = Wire::new(source);
+    let taken = add(setting.alloc, session, path, &mut wire, answers);
+    office.close(wire);
+    taken
 }
 
 /// The status of a line by what its step did: 0 if it was done.
@@ -110,8 +120,12 @@ fn answer_line<O: Office, W: BufferedWrite>(
             let status = answer_link(setting, office, session, path.as_str(), answers)?;
             pass_on(status, answers)
         }
+        Line::Add(path) => {
+            let taken = add_at(setting, office, session, path, answers)?;
+            pass_on(status_of(taken), answers)
+        }
         other => {
-            let command = command_of(office, other);
+            let command: Command<O::Source> = command_of(other);
             let taken = step(setting.alloc, session, setting.options, command, answers)?;
             pass_on(status_of(taken), answers)
         }

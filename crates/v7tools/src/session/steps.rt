@@ -34,7 +34,7 @@ fn put_fault<W: Write>(fault: &CliFault, answers: &mut Wire<W>) -> Result<(), De
 }
 
 /// Answers with the text of a fault.
-fn refuse<W: Write>(fault: &CliFault, answers: &mut Wire<W>) -> Result<Step, CliFault>
+pub(crate) fn refuse<W: Write>(fault: &CliFault, answers: &mut Wire<W>) -> Result<Step, CliFault>
     ensures written { Writes W.contents result answers.old answers.new (line (cli_text fault.now)) }
     ensures write_failed { IfErr result (λ fault. fault ≡ WriteFailed device_fault) }
     ensures step { IfOk result (λ step. step ≡ Refused) }
@@ -54,7 +54,7 @@ fn last_label(session: &Session) -> &str
 }
 
 /// Adds the file at a path, and answers with its label.
-fn add<R: Read, W: Write>(
+pub(crate) fn add<R: Read, W: Write>(
     alloc: Global,
     session: &mut Session,
     path: String,
