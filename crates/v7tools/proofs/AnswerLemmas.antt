@@ -14,8 +14,8 @@ use Rattle.link_out.specs.Outcomes as outcomes
 use Rattle.tool_options.specs.Choices.{Choices}
 use Rattle.v7tools.specs.LinkAnswers.{Input, Said, said_by, refuses, breaks, runs_out, never, Takes, Rejects, WantsMemory, StopsAt}
 use Rattle.v7tools.specs.LinkAnswers.{TakesAll, StopsIn, HasNoLink, MayLackMemory, IsNotLinked, IsLinkOver, known_inputs, IsTrueOf}
-use Rattle.v7tools.specs.LinkAnswers.{IsLinkOfBytes, IsLinkOf}
-use Rattle.v7tools.specs.internal.InputParts.{AreTaken, IsFinalLink, IsPossible, StopsWith, without_session}
+use Rattle.v7tools.specs.LinkAnswers.{IsDeviceFault, IsLinkOfBytes, IsLinkOf}
+use Rattle.v7tools.specs.internal.InputParts.{AreTaken, IsFinalLink, IsPossible, StopsWith}
 use Rattle.v7tools.specs.{declared.fault.CliFault.CliFault, FaultTexts.fault_at, FaultTexts.fault_of_link, internal.StepParts.IsAccepted}
 use Rattle.v7tools.specs.{internal.StepParts.IsAddition, internal.StepParts.IsFound}
 use Rattle.v7tools.specs.declared.fault.CliFault.TheVariants as faults
@@ -283,14 +283,9 @@ no_names forced o is (Err f) some e =
     subst (λ (x : CliFault). IsLinkOf forced o is (Err x)) (sym e)
     (is_link_of forced o is (Err (faults.Memory refused)) (runs_out_for forced is some))
 
--- what holds of a link that comes with its session
-pub without_err : (r : Result (Linked × Kept) CliFault) (P : CliFault → Type 0) → IsErrAnd r P → IsErrAnd (without_session r) P
-without_err (Ok made) P e = absurd e
-without_err (Err f) P e = e
-
-pub final_err : (x : Result Outcome LinkFault) (fault : CliFault) (r : Result (Linked × Kept) CliFault) → IsErrAnd r (λ f. f ≡ fault) →
-    IsFinalLink x (Err fault) → IsFinalLink x (without_session r)
-final_err x fault (Ok made) e h = absurd e
-final_err x fault (Err f) e h = subst (λ (y : CliFault). IsFinalLink x (Err y)) (sym e) h
+-- no device failed in a link of what was taken
+pub final_works : (x : Result Outcome LinkFault) (fault : CliFault) → IsFinalLink x (Err fault) → IsDeviceFault fault → ⊥
+final_works x (faults.BadFile path fault) h device = absurd h
+final_works x fault h device = absurd device
 
 pub ruleset by_final = (final_fault)

@@ -1,13 +1,13 @@
 -- A link over an office, from its parts.
-use Rattle.std.proofs.Common.{rules, arith, ◌≡◌, ℕ, List, [], ◌∷◌, map, Option, Result, Ok, Err, refl, inl, inr}
+use Rattle.std.proofs.Common.{rules, ◌≡◌, ◌↔◌, ℕ, Bool, true, List, [], ◌∷◌, map, Option, Some, Result, Ok, Err, refl, inl, inr}
 use Rattle.std.specs.{declared.alloc.Global.Global, Prelude.String, Prelude.string_bytes, List.AllByRecursion}
 use Rattle.aout_core.specs.Wires.{Latched}
 use Rattle.link_out.specs.{declared.linked.Linked.Linked, Outcomes.report_names}
 use Rattle.tool_options.specs.Choices.{Choices}
 use Rattle.surroundings.specs.{Events.History, Events.Extends, Events.stored, declared.office.Stored.Stored}
 use Rattle.v7tools.specs.internal.Openings.{sources, IsOpening, IsWorking, OpensAll}
-use Rattle.v7tools.specs.LinkRuns.{inputs_opened, IsLinkOfFiles, IsLinkRun, ReportsIf}
-use Rattle.v7tools.specs.{LinkAnswers.inputs_of, LinkAnswers.IsLinkOf, declared.fault.CliFault.CliFault}
+use Rattle.v7tools.specs.LinkRuns.{inputs_opened, IsLinkOfFiles, IsLinkRun, ReportsIf, closings}
+use Rattle.v7tools.specs.{LinkAnswers.inputs_of, LinkAnswers.IsDeviceFault, LinkAnswers.IsLinkOf, declared.fault.CliFault.CliFault}
 use Rattle.v7tools.specs.declared.fault.CliFault.TheVariants as faults
 use Rattle.surroundings.proofs.EventLemmas.{asked_after}
 use Rattle.v7tools.proofs.EventLemmas.{paths_opened}
@@ -35,10 +35,19 @@ module _ {R : Type 0} (remaining : R → Option (List ℕ)) where
     not_opened new (faults.Memory _) h is same = inl (h, record { refusal = is; silent = same })
     not_opened new fault h is same = absurd h
 
-    pub no_link : (new : History) (inputs : List (String Global × Latched R)) (fault : CliFault) → OpensAll remaining old new files inputs →
-        IsLinkOf forced o (inputs_of remaining inputs) (Err fault) → result ≡ Err fault → after ≡ before →
+    pub no_link : (mid new : History) (inputs : List (String Global × Latched R)) (fault : CliFault) (stopped : Option Bool) →
+        OpensAll remaining old mid files inputs → IsLinkOf forced o (inputs_of remaining inputs) (Err fault) →
+        (IsDeviceFault fault ↔ (stopped ≡ Some true)) → Extends mid new (closings stopped) → result ≡ Err fault → after ≡ before →
         IsLinkRun contents forced o out (map string_bytes files) old new result before after
-    no_link new inputs fault h link is same = grind (arith, link_of_files forced o files inputs)
+    no_link mid new inputs fault stopped h link told closes is same = inr (inr (inl (record {
+      fault = fault;
+      found = sources remaining inputs;
+      answer = link_of_files _ o _ _ _ h.1 h.2 link;
+      stopped = stopped;
+      told = told;
+      asked = asked_after _ _ _ _ _ h.0 closes;
+      refuses = record { refusal = is; silent = same };
+    })))
 
     pub stores_link : (mid new : History) (inputs : List (String Global × Latched R)) (made : Linked) (what : Stored) →
         OpensAll remaining old mid files inputs →

@@ -15,7 +15,7 @@ use Rattle.v7tools.specs.internal.StepParts.{IsRefusal, IsAccepted, IsAddition, 
 use Rattle.v7tools.specs.{internal.StepParts.{TakesWithdrawal, label_of}, SessionSteps.{Does, IsAddBy, IsLinkBy, verdict_of}}
 use Rattle.v7tools.specs.{declared.fault.CliFault.CliFault, declared.session.commands.Step.Step}
 use Rattle.v7tools.specs.{declared.session.commands.Step.TheVariants.{Refused, ToStore}, LinkAnswers.WantsMemory}
-use Rattle.v7tools.specs.{internal.InputParts.IsDeviceFault, LineRuns.IsAddWorking}
+use Rattle.v7tools.specs.{LinkAnswers.IsDeviceFault, LineRuns.IsAddWorking}
 use Rattle.v7tools.specs.declared.fault.CliFault.TheVariants as faults
 
 -- ---- the last object

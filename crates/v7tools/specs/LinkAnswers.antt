@@ -53,6 +53,11 @@ said_by (faults.NotLinked fault) = refuses (not_linked fault)
 said_by (faults.Memory _) = runs_out
 said_by _ = never
 
+-- a device failed
+abbrev pub IsDeviceFault : CliFault → Type 0
+IsDeviceFault (faults.BadFile path (reads.Device _)) = Unit {0}
+IsDeviceFault _ = ⊥
+
 -- ---- input by input
 
 -- an input is taken: its object is appended to those that are kept

@@ -4,13 +4,13 @@
 -- reported.
 use Rattle.aout_core.specs.{Refusals.{device_fault, refused}, Wires.{Latched, Writes}}
 use Rattle.std.specs.declared.alloc.Global.{Global}
-use Rattle.std.specs.Prelude.{◌≡◌, ◌⊎◌, ℕ, List, [], ◌∷◌, ◌++◌, map, false, Option, None, Result, Ok, Err, IfErr, IfOk, String}
+use Rattle.std.specs.Prelude.{◌≡◌, ◌⊎◌, ◌↔◌, ℕ, Bool, List, [], ◌∷◌, ◌++◌, map, true, false, Option, Some, None, Result, Ok, Err, IfErr, IfOk, String}
 use Rattle.std.specs.Prelude.{string_bytes}
 use Rattle.link_out.specs.{function.Reports.{ReportNames, report_text, status_of}, declared.linked.Linked.Linked, Outcomes.report_names}
 use Rattle.tool_options.specs.Choices.{Choices}
-use Rattle.surroundings.specs.{Events.{History, Extends, Opened, opened, opens, paths_of, stored}, declared.office.Stored.Stored}
+use Rattle.surroundings.specs.{Events.{Event, History, Extends, Opened, closed, opened, opens, paths_of, stored}, declared.office.Stored.Stored}
 use Rattle.surroundings.specs.declared.office.Stored.TheVariants.{Kept, NotCreated, Failed}
-use Rattle.v7tools.specs.{LinkAnswers.Input, LinkAnswers.IsLinkOf, declared.fault.CliFault.CliFault}
+use Rattle.v7tools.specs.{LinkAnswers.{Input, IsDeviceFault, IsLinkOf}, declared.fault.CliFault.CliFault}
 use Rattle.v7tools.specs.declared.fault.CliFault.TheVariants as faults
 
 -- the files were opened one after another up to the one at this path, which can't be
@@ -56,13 +56,20 @@ pub record CannotOpenOne {W : Type 0} (files : List (List ℕ)) (old new : Histo
   pub stops : StopsAt old new files (string_bytes path)
   pub refuses : Refuses (faults.CannotOpen path) result before after
 
--- there is no link: nothing is stored
+-- a file at which a link stops is closed, and its device has failed or has not
+abbrev pub closings : Option Bool → List Event
+closings None = []
+closings (Some failed) = closed failed ∷ []
+
+-- there is no link: nothing is stored. That a device failed is told if and only if that of the file did at which the link stopped
 pub record MakesNoLink {W : Type 0} (forced : List (List ℕ)) (o : Choices) (files : List (List ℕ)) (old new : History)
     (result : Result ℕ CliFault) (before after : Latched W) : Type 0 where
   pub fault : CliFault
   pub found : List Opened
   pub answer : IsLinkOfFiles forced o files found (Err fault)
-  pub asked : Extends old new (opens found)
+  pub stopped : Option Bool
+  pub told : IsDeviceFault fault ↔ (stopped ≡ Some true)
+  pub asked : Extends old new (opens found ++ closings stopped)
   pub refuses : Refuses fault result before after
 
 -- there is a link: after all files were opened its file is to be stored, and if that is done the link is reported

@@ -1,17 +1,11 @@
 -- What becomes of the inputs of a link, one by one.
-use Rattle.std.specs.{declared.alloc.Global.Global, Prelude.{◌≡◌, ◌⊎◌, ℕ, List, [], ◌∷◌, Some, None, Result, Ok, Err, IsOk, String}}
+use Rattle.std.specs.{declared.alloc.Global.Global, Prelude.{◌≡◌, ◌⊎◌, ℕ, List, [], ◌∷◌, Bool, Option, Some, None, option_map, Result, Ok, Err, IsOk, String}}
 use Rattle.aout_core.specs.{declared.object.ObjectFault.ObjectFault, Contents.Contents, WellFormed.first_object_fault, Wires.Latched}
-use Rattle.aout_core.specs.declared.file.ReadFault.TheVariants as reads
 use Rattle.link_session.specs.{Labelled.Labelled, Undo.Kept}
 use Rattle.link_out.specs.{declared.linked.Linked.Linked, declared.linked.LinkFault.LinkFault, function.Link.Outcome, Outcomes.outcome_of}
 use Rattle.link_out.specs.declared.linked.LinkFault.TheVariants as links
 use Rattle.v7tools.specs.{declared.fault.CliFault.CliFault, LinkAnswers.{Input, Said, never, said_by, StopsAt, Takes, TakesAll}}
 use Rattle.v7tools.specs.declared.fault.CliFault.TheVariants as faults
-
--- a device failed
-abbrev pub IsDeviceFault : CliFault → Type 0
-IsDeviceFault (faults.BadFile path (reads.Device _)) = Unit {0}
-IsDeviceFault _ = ⊥
 
 -- a fault that may come from a link
 abbrev pub IsPossible : Said → Type 0
@@ -23,10 +17,14 @@ abbrev pub without_wire : {R : Type 0} → Result (Unit {0}) (CliFault × Latche
 without_wire (Ok x) = Ok x
 without_wire (Err refused) = Err refused.0
 
--- a link without the session that comes with it
-abbrev pub without_session : Result (Linked × Kept) CliFault → Result Linked CliFault
+-- a link without the session that comes with it, or a fault without the wire
+abbrev pub without_session : {R : Type 0} → Result (Linked × Kept) (CliFault × Option (Latched R)) → Result Linked CliFault
 without_session (Ok made) = Ok made.0
-without_session (Err fault) = Err fault
+without_session (Err refused) = Err refused.0
+
+-- whether a link stopped at an input, on a wire that has failed or has not
+abbrev pub stopped_at : {R : Type 0} → Option (Latched R) → Option Bool
+stopped_at stopped = option_map (λ wire. wire.has_failed) stopped
 
 -- the inputs before one are taken, which leaves these objects, and the link stops at that one
 abbrev pub StopsWith : List (List ℕ) → List Labelled → List Input → Said → List Labelled → Type 0

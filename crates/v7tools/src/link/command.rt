@@ -2,7 +2,8 @@
 ghost use Rattle.std.specs.Prelude.{map, string_bytes};
 ghost use Rattle.aout_core.specs.Wires.{IsPassedOn};
 ghost use Rattle.link_out.specs.Outcomes.{report_names};
-ghost use Rattle.v7tools.specs.{LinkRuns.{IsLinkRun, Reports, ReportsIf}, internal.Openings.IsOpening};
+ghost use Rattle.v7tools.specs.{LinkRuns.{IsLinkRun, Reports, ReportsIf, closings}, internal.{InputParts.stopped_at, Openings.IsOpening}};
+ghost use Rattle.surroundings.specs.Events.{Extends};
 
 use crate::fault::CliFault;
 use crate::link::linking::ld_of_session;
@@ -32,6 +33,15 @@ fn open_all<O: Office>(
         inputs.push((path, Wire::new(source))).unwrap();
     }
     Ok(inputs)
+}
+
+/// Closes the file at which a link stopped, if it did at one.
+fn close_stopped<O: Office>(office: &mut O, stopped: Option<Wire<O::Source>>)
+    ensures { Extends (O.history office.old) (O.history office.new) (closings (stopped_at stopped)) }
+{
+    if let Some(wire) = stopped {
+        office.close(wire);
+    }
 }
 
 /// Writes a report and flushes it, and returns its status.
@@ -77,7 +87,13 @@ pub(crate) fn link_files<O: Office, W: BufferedWrite>(
     ensures passed { IsPassedOn W.waiting output.old → IsPassedOn W.waiting output.new }
 {
     let inputs = open_all(setting.alloc, office, files)?;
-    let (linked, session) = ld_of_session(setting.alloc, inputs, forced, setting.options)?;
+    let (linked, session) = match ld_of_session(setting.alloc, inputs, forced, setting.options) {
+        Ok(made) => made,
+        Err((fault, stopped)) => {
+            close_stopped(office, stopped);
+            return Err(fault);
+        }
+    };
     // the program ends soon, and the system takes all memory back at once
     forget(session);
     let stored = office.store(out.as_str(), &linked.file);

@@ -1,10 +1,10 @@
 //! The link of files.
-ghost use Rattle.std.specs.Prelude.{◌≡◌, ◌↔◌, true, IfErr, IfOk, IsTrue};
+ghost use Rattle.std.specs.Prelude.{◌≡◌, ◌↔◌, Some, true, IfErr, IfOk, IsTrue};
 ghost use Rattle.aout_core.specs.WellFormed.{IsWellFormed};
 ghost use Rattle.link_session.specs.Labelled.{objects};
 ghost use Rattle.link_out.specs.function.Link.{link};
-ghost use Rattle.v7tools.specs.internal.InputParts.{AreTaken, IsDeviceFault, IsFinalLink, without_session, without_wire};
-ghost use Rattle.v7tools.specs.LinkAnswers.{inputs_of, IsLinkOf};
+ghost use Rattle.v7tools.specs.internal.InputParts.{AreTaken, IsFinalLink, stopped_at, without_session, without_wire};
+ghost use Rattle.v7tools.specs.LinkAnswers.{inputs_of, IsDeviceFault, IsLinkOf};
 
 use crate::fault::CliFault;
 use crate::link::additions::add_file;
@@ -46,24 +46,32 @@ fn link_inputs(alloc: Global, session: &Session, options: &Options) -> Result<Li
     Ok(finish(alloc, session, options)?)
 }
 
-/// The link that `ld` makes, and its session: a program that ends soon need not free each of its lists.
+/// The link that `ld` makes, and its session: a program that ends soon need not free each of its lists. With a fault comes the wire of the
+/// input at which the link stopped, if it did at one.
 pub(crate) fn ld_of_session<R: Read + Drop>(
     alloc: Global,
     inputs: Vec<(String, Wire<R>)>,
     forced: &Forced,
     options: &Options,
-) -> Result<(Linked, Session), CliFault>
+) -> Result<(Linked, Session), (CliFault, Option<Wire<R>>)>
+    ensures device { IfErr result (λ refused.
+        IsDeviceFault refused.0 ↔ (stopped_at refused.1 ≡ Some true)) }
     ensures value { IsLinkOf forced.now options.now (inputs_of R.remaining inputs.items)
         (without_session result) }
     ensures object { options.now.relocatable ≡ true
         → IfOk result (λ made. IsWellFormed made.0.file) }
 {
-    let mut session = Session::with_forced(alloc, forced)?;
-    if let Err((fault, _)) = take_inputs(alloc, &mut session, inputs) {
-        return Err(fault);
+    let mut session = match Session::with_forced(alloc, forced) {
+        Ok(session) => session,
+        Err(refused) => return Err((CliFault::from(refused), None)),
+    };
+    if let Err((fault, wire)) = take_inputs(alloc, &mut session, inputs) {
+        return Err((fault, Some(wire)));
     }
-    let linked = link_inputs(alloc, &session, options)?;
-    Ok((linked, session))
+    match link_inputs(alloc, &session, options) {
+        Ok(linked) => Ok((linked, session)),
+        Err(fault) => Err((fault, None)),
+    }
 }
 
 /// Links the files of the inputs, pairs of a path and a reader, in their order, after the forced names. Each is
@@ -86,6 +94,8 @@ pub fn ld<R: Read + Drop>(
     ensures object { options.now.relocatable ≡ true
         → IfOk result (λ linked. IsWellFormed linked.file) }
 {
-    let (linked, _session) = ld_of_session(alloc, inputs, forced, options)?;
-    Ok(linked)
+    match ld_of_session(alloc, inputs, forced, options) {
+        Ok((linked, _)) => Ok(linked),
+        Err((fault, _)) => Err(fault),
+    }
 }
