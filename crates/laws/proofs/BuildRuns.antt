@@ -1,6 +1,6 @@
 -- What one run of ld did, by the bytes of its inputs.
-use Rattle.std.proofs.Common.{◌≡◌, ◌⊎◌, ℕ, ◌≤◌, List, [], ◌∷◌, ◌++◌, map, Option, Some, Result, Ok, Err, refl, sym, ap, ◌∙◌, subst, inl}
-use Rattle.std.proofs.{Common.{inr, arith, append-nil}, lemmas.List.append_cancel_left}
+use Rattle.std.proofs.Common.{◌≡◌, ◌⊎◌, ◌↔◌, ℕ, ◌≤◌, Bool, true, List, [], ◌∷◌, ◌++◌, map, Option, Some, None, Result, Ok, Err, refl, sym, ap}
+use Rattle.std.proofs.{Common.{◌∙◌, subst, inl, inr, arith}, lemmas.List.append_cancel_left}
 use Rattle.std.specs.{Prelude.{string_bytes, codes}, List.AllByRecursion}
 use Rattle.aout_core.specs.Refusals.{device_fault, refused}
 use Rattle.aout_core.specs.declared.file.ReadFault.TheVariants as reads
@@ -9,14 +9,14 @@ use Rattle.link_out.specs.{Results.Outcome, function.Reports.report_text, functi
 use Rattle.link_out.specs.Inputs.{Refusal, linked, of_input, not_linked, bad_file, bad_object, not_added}
 use Rattle.link_out.specs.declared.linked.LinkFault.TheVariants as links
 use Rattle.surroundings.specs.declared.office.Stored.TheVariants.{Kept, NotCreated, Failed}
-use Rattle.surroundings.specs.{Events.{Event, Extends, Opened, opens, paths_of, stored}, declared.office.Stored.Stored}
-use Rattle.v7tools.specs.LinkRuns.{IsLinkOfFiles, Refuses, Reports, ReportsIf}
+use Rattle.surroundings.specs.{Events.{Event, Extends, Opened, opened, opens, paths_of, stored}, declared.office.Stored.Stored}
+use Rattle.v7tools.specs.LinkRuns.{IsLinkOfFiles, Refuses, Reports, ReportsIf, closings}
 use Rattle.v7tools.specs.{CommandRuns.Ends, FaultTexts.cause_text, FaultTexts.cli_text, FaultTexts.fault_line}
-use Rattle.v7tools.specs.{LinkAnswers.IsLinkOfBytes, LinkAnswers.IsTrueOf, LinkAnswers.said_by, declared.fault.CliFault.CliFault}
+use Rattle.v7tools.specs.{LinkAnswers.{IsDeviceFault, IsLinkOfBytes, IsTrueOf, said_by}, declared.fault.CliFault.CliFault}
 use Rattle.v7tools.specs.declared.fault.CliFault.TheVariants as faults
 use Rattle.laws.specs.Builds.{Command, Holds, IsDisturbed, EndsInRefusal, IsLdRun}
 use Rattle.laws.specs.{Disks.{Disk, IsOn, Run, Writes}, SessionsByCommands.{AreThere, CannotRead, CannotWrite, IsOpening, RunsLd, Says}}
-use Rattle.laws.proofs.{LeftLemmas.bytes_of, CallLemmas.link_call, LinkLineLemmas.{all_openings, bytes_say}}
+use Rattle.laws.proofs.{LeftLemmas.bytes_of, CallLemmas.link_call, LinkLineLemmas.{IsBroken, bytes_say, cannot_read as cannot_read_by, openings}}
 use Rattle.link_session.specs.declared.entry.AddFault.TheVariants as adds
 
 -- ---- files with known bytes
@@ -51,8 +51,8 @@ record IsRefusal (fault : CliFault) (answer : Result Outcome Refusal) : Type 0 w
   is : answer ≡ Err why
   text : cli_text fault ≡ refusal_text why
 
-why_none : (fault : CliFault) (answer : Result Outcome Refusal) → IsTrueOf (said_by fault) answer → CannotRead fault ⊎ IsRefusal fault answer
-why_none (faults.CannotOpen path) answer h = inl tt
+why_none : (fault : CliFault) (answer : Result Outcome Refusal) → IsTrueOf (said_by fault) answer → IsBroken fault ⊎ IsRefusal fault answer
+why_none (faults.CannotOpen path) answer h = absurd h
 why_none (faults.Memory _) answer h = inl tt
 why_none (faults.BadFile path (reads.Device _)) answer h = inl tt
 why_none (faults.BadFile path (reads.Memory _)) answer h = absurd h
@@ -171,14 +171,14 @@ module _ {W E : Type 0} (out_contents : W → Option (List ℕ)) (error_contents
     Did = Stores ⊎ (IsNone ⊎ IsDisturbed out_contents error_contents r)
 
     module _ (d : Ran c r) where
-      cannot_read : (fault : CliFault) → d.did.0 ≡ Err fault → CannotRead fault → Did
+      cannot_read : (fault : CliFault) → d.did.0 ≡ Err fault → CannotRead r fault → Did
       cannot_read fault is such = let e = ended c r d fault is in inr (inr (inl (e.0, fault, such, e.1)))
 
-      cannot_write : (fault : CliFault) → d.did.0 ≡ Err fault → CannotWrite fault → Did
+      cannot_write : (fault : CliFault) → d.did.0 ≡ Err fault → CannotWrite r fault → Did
       cannot_write fault is such = let e = ended c r d fault is in inr (inr (inr (e.0, fault, such, e.1)))
 
       not_made : (fault : CliFault) → Refuses fault d.did.0 r.output_before r.output_after → AllByRecursion IsOpening r.events →
-          CannotRead fault ⊎ IsRefusal fault (linked c.forced files c.options) → Did
+          CannotRead r fault ⊎ IsRefusal fault (linked c.forced files c.options) → Did
       not_made fault refuses openings (inl such) = cannot_read fault refuses.refusal such
       not_made fault refuses openings (inr h) =
           let e = ended c r d fault refuses.refusal in
@@ -193,7 +193,7 @@ module _ {W E : Type 0} (out_contents : W → Option (List ℕ)) (error_contents
           r.events ≡ opens found ++ stored c.out made.file Kept ∷ [] → (result : Result ℕ CliFault) → d.did.0 ≡ result →
           Reports out_contents (report_names made.report) result r.output_before r.output_after → Did
       reported made found all is events (Err fault) e h =
-          cannot_write (faults.WriteFailed device_fault) (e ∙ ap (λ (f : CliFault). Err f) h.write_failed) tt
+          cannot_write (faults.WriteFailed device_fault) (e ∙ ap (λ (f : CliFault). Err f) h.write_failed) (inl (h.writes.fault.0 refl))
       reported made found all is events (Ok status) e h =
           let ends = subst (λ (x : Result ℕ CliFault). Ends error_contents x r.status r.error_before r.error_after) e d.did.2 in
           inl (record {
@@ -213,18 +213,30 @@ module _ {W E : Type 0} (out_contents : W → Option (List ℕ)) (error_contents
       by_what made found Kept answer events reports =
           reported made found answer.all
           (answer_by_bytes found (Ok made) (stored c.out made.file Kept ∷ []) events answer) events d.did.0 refl reports
-      by_what made found NotCreated answer events reports = cannot_write (faults.CannotCreate d.output) reports.0 tt
-      by_what made found (Failed _) answer events reports = cannot_write (faults.WriteFailed device_fault) reports.0 tt
+      by_what made found NotCreated answer events reports =
+          let at = ap (λ (path : List ℕ). opens found ++ stored path made.file NotCreated ∷ []) (sym d.out_path) in
+          cannot_write (faults.CannotCreate d.output) reports.0 (made.file, (opens found, events ∙ at))
+      by_what made found (Failed fault) answer events reports =
+          cannot_write (faults.WriteFailed device_fault) reports.0 (inr (c.out, made.file, fault, (opens found, events)))
+
+      by_reason : (fault : CliFault) (found : List Opened) (stopped : Option Bool) → (IsDeviceFault fault ↔ (stopped ≡ Some true)) →
+          r.events ≡ opens found ++ closings stopped → IsBroken fault ⊎ IsRefusal fault (linked c.forced files c.options) →
+          CannotRead r fault ⊎ IsRefusal fault (linked c.forced files c.options)
+      by_reason fault found stopped told events (inl broken) = inl (cannot_read_by r fault found stopped told events broken)
+      by_reason fault found stopped told events (inr h) = inr h
 
       by_ran : Rattle.v7tools.specs.LinkRuns.IsLinkRun out_contents c.forced c.options d.output c.inputs (Some r.earlier)
           (Some (r.earlier ++ r.events)) d.did.0 r.output_before r.output_after → Did
       by_ran (inl h) = cannot_read (faults.Memory refused) h.1.refusal tt
-      by_ran (inr (inl h)) = cannot_read (faults.CannotOpen h.path) h.refuses.refusal tt
+      by_ran (inr (inl h)) =
+          cannot_read (faults.CannotOpen h.path) h.refuses.refusal
+          (opens h.stops.found, append_cancel_left r.earlier r.events (opens h.stops.found ++ opened (string_bytes h.path) None ∷ []) h.stops.asked)
       by_ran (inr (inr (inl h))) =
-          let events : r.events ≡ opens h.found = append_cancel_left r.earlier r.events (opens h.found) h.asked in
-          not_made h.fault h.refuses (subst (λ (es : List Event). AllByRecursion IsOpening es) (sym events) (all_openings h.found))
-          (why_none h.fault (linked c.forced files c.options)
-          (answer_by_bytes h.found (Err h.fault) [] (events ∙ sym (append-nil (opens h.found))) h.answer))
+          let events : r.events ≡ opens h.found ++ closings h.stopped =
+          append_cancel_left r.earlier r.events (opens h.found ++ closings h.stopped) h.asked in
+          not_made h.fault h.refuses (subst (λ (es : List Event). AllByRecursion IsOpening es) (sym events) (openings h.found h.stopped))
+          (by_reason h.fault h.found h.stopped h.told events (why_none h.fault (linked c.forced files c.options)
+          (answer_by_bytes h.found (Err h.fault) (closings h.stopped) events h.answer)))
       by_ran (inr (inr (inr h))) =
           let events : r.events ≡ opens h.found ++ stored c.out h.linked.file h.what ∷ [] =
           append_cancel_left r.earlier r.events (opens h.found ++ stored (string_bytes d.output) h.linked.file h.what ∷ []) h.asked

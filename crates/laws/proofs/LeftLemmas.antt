@@ -12,9 +12,9 @@ use Rattle.tool_options.specs.Choices.{Choices}
 use Rattle.surroundings.specs.Events.{Event, Opened}
 use Rattle.command_words.specs.Scripts.{Asked, to_add, to_withdraw, for_externals, for_undefined, to_link, for_nothing}
 use Rattle.v7tools.specs.Answers.{refused, Stepped, add_step, withdraw_step}
-use Rattle.v7tools.specs.LineRuns.{DoesStep, IsAddOf, IsLineOf, LineRun, OpensOne, status_after}
+use Rattle.v7tools.specs.LineRuns.{DoesStep, IsAddOf, IsAddWorking, IsLineOf, LineRun, OpensOne, status_after}
 use Rattle.v7tools.specs.{LinkAnswers.Input, LinkAnswers.Takes, LinkAnswers.TakesAll, LinkAnswers.known_inputs, LinkRuns.inputs_opened}
-use Rattle.v7tools.specs.{SessionRuns.Chains, SessionSteps.IsAddOn, SessionSteps.IsLinkBy}
+use Rattle.v7tools.specs.{SessionRuns.Chains, SessionSteps.IsLinkBy}
 use Rattle.laws.specs.{Disks.Disk, SessionsByCommands.AreThere, SessionsByCommands.left_after, SessionsByCommands.left_by}
 
 pub same_value : {A B : Type 0} (a b : A) → (let x : Result A B = Ok a in let y : Result A B = Ok b in x ≡ y) → a ≡ b
@@ -61,8 +61,8 @@ pub record AddsFound (known : Option (List ℕ)) (forced : List (List ℕ)) (old
   pub did_it : did ≡ add_step old path (kept_with forced old path found)
 
 pub adds_found : (known : Option (List ℕ)) (forced : List (List ℕ)) (old : List Labelled) (path : List ℕ) (did : Stepped) →
-    IsAddOn known forced old path did → AddsFound known forced old path did
-adds_found None forced old path did (found, e) = record { found = found; is_found = tt; did_it = e }
+    IsAddWorking known forced old path did → AddsFound known forced old path did
+adds_found None forced old path did (found, sound, e) = record { found = found; is_found = tt; did_it = e }
 adds_found (Some bytes) forced old path did e = record { found = object_in (decode bytes); is_found = refl; did_it = e }
 
 -- a link keeps what was kept
@@ -120,10 +120,11 @@ module _ (o : Choices) (forced : List (List ℕ)) (left : List Opened) (old : Li
   found_line path h (Err cause) is_found e = not_added_line path _ h.did _ e h.does
   found_line path h (Ok object) is_found e = added_line path h object (refusal forced (objects old) object) refl is_found e
 
-  opened_line : (path : List ℕ) (h : OpensOne forced old path r) → IsAddOf h.known forced old path h.did → Next (to_add path) (eqb r.status 0)
-  opened_line path h (inl e) = not_added_line path _ h.did _ e h.does
-  opened_line path h (inr (inl (e, wants))) = not_added_line path _ h.did _ e h.does
-  opened_line path h (inr (inr k)) = let f = adds_found h.known forced old path h.did k in found_line path h f.found f.is_found f.did_it
+  opened_line : (path : List ℕ) (h : OpensOne forced old path r) (failed : Bool) → IsAddOf h.known failed forced old path h.did →
+      Next (to_add path) (eqb r.status 0)
+  opened_line path h true e = not_added_line path _ h.did _ e h.does
+  opened_line path h false (inl (e, wants)) = not_added_line path _ h.did _ e h.does
+  opened_line path h false (inr k) = let f = adds_found h.known forced old path h.did k in found_line path h f.found f.is_found f.did_it
 
   withdrawn_line : (last : Option Labelled) → DoesStep [] (withdraw_step old last) r → Next to_withdraw (eqb r.status 0)
   withdrawn_line None does = subst (Next to_withdraw) (sym (is_zero 1 does.status)) (stays does.kept)
@@ -135,7 +136,7 @@ module _ (o : Choices) (forced : List (List ℕ)) (left : List Opened) (old : Li
 
   left_line : (a : Asked) → IsLineOf forced o old r a → Next a (eqb r.status 0)
   left_line (to_add path) (inl does) = not_added_line path _ _ _ refl does
-  left_line (to_add path) (inr h) = opened_line path h h.is_add
+  left_line (to_add path) (inr h) = opened_line path h h.failed h.is_add
   left_line to_withdraw does = withdrawn_line (last_of old) does
   left_line for_externals does = stays does.kept
   left_line for_undefined does = stays does.kept

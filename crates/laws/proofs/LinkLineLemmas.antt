@@ -1,8 +1,8 @@
 -- What `ld` does with the files that a session has left, and what a line of the session did.
 use Rattle.aout_core.specs.{Refusals.{device_fault, refused}, Contents.Contents}
 use Rattle.aout_core.specs.declared.file.ReadFault.TheVariants as reads
-use Rattle.std.proofs.Common.{rules, ◌≡◌, ℕ, List, [], ◌∷◌, ◌++◌, Option, Some, None, Result, Ok, Err, refl, sym, ap, ◌∙◌, inl, inr, subst}
-use Rattle.std.proofs.{Common.◌⊎◌, lemmas.List.{append-nil, append_cancel_left}}
+use Rattle.std.proofs.Common.{rules, ◌≡◌, ◌↔◌, ℕ, Bool, true, List, [], ◌∷◌, ◌++◌, Option, Some, None, Result, Ok, Err, refl, sym, ap, ◌∙◌, inl, inr, subst}
+use Rattle.std.proofs.{Common.◌⊎◌, lemmas.List.{append_cancel_left}}
 use Rattle.std.specs.{Prelude.{IfSome, String, string_bytes}, declared.alloc.Global.Global, List.AllByRecursion}
 use Rattle.command_words.specs.Scripts.{Asked, to_link}
 use Rattle.link_session.specs.Labelled.{Labelled, objects}
@@ -15,9 +15,9 @@ use Rattle.link_out.specs.declared.linked.LinkFault.TheVariants as links
 use Rattle.tool_options.specs.Choices.{Choices}
 use Rattle.surroundings.specs.declared.office.Stored.TheVariants.{Kept, NotCreated, Failed}
 use Rattle.surroundings.specs.{Events.{Event, Extends, Opened, opened, opens, paths_of, stored}, declared.office.Stored.Stored}
-use Rattle.v7tools.specs.{LinkRuns.{IsLinkOfFiles, IsLinkRun, Refuses, Reports, ReportsIf, inputs_opened}, Answers.link_answer_text}
+use Rattle.v7tools.specs.{LinkRuns.{IsLinkOfFiles, IsLinkRun, Refuses, Reports, ReportsIf, closings, inputs_opened}, Answers.link_answer_text}
 use Rattle.v7tools.specs.{CommandRuns.Ends, FaultTexts.{cli_text, no_memory}, LineRuns.{IsLineOf, LineRun}}
-use Rattle.v7tools.specs.{LinkAnswers.{IsLinkOfBytes, IsTrueOf, known_inputs, said_by}, declared.fault.CliFault.CliFault}
+use Rattle.v7tools.specs.{LinkAnswers.{IsDeviceFault, IsLinkOfBytes, IsTrueOf, known_inputs, said_by}, declared.fault.CliFault.CliFault}
 use Rattle.v7tools.specs.declared.fault.CliFault.TheVariants as faults
 use Rattle.laws.specs.SessionsByCommands.{AreThere, CannotRead, CannotWrite, DoesAsLd, FailsBy, IsOpening, IsRefusedAsLd, LinkLineLaw}
 use Rattle.laws.specs.{SessionsByCommands.{RefusedLineLaw, files_left}, Disks.{Disk, IsOn, Run}}
@@ -87,9 +87,30 @@ pub all_openings : (found : List Opened) → AllByRecursion IsOpening (opens fou
 all_openings [] = tt
 all_openings (f ∷ fs) = (tt, all_openings fs)
 
+closing : (stopped : Option Bool) → AllByRecursion IsOpening (closings stopped)
+closing None = tt
+closing (Some failed) = (tt, tt)
+
+pub openings : (found : List Opened) (stopped : Option Bool) → AllByRecursion IsOpening (opens found ++ closings stopped)
+openings found stopped = all_append IsOpening (opens found) (closings stopped) (all_openings found) (closing stopped)
+
+-- memory ran out, or a device failed
+abbrev pub IsBroken : CliFault → Type 0
+IsBroken (faults.Memory _) = Unit {0}
+IsBroken (faults.BadFile path (reads.Device _)) = Unit {0}
+IsBroken _ = ⊥
+
+-- then that was the last that was asked
+pub cannot_read : {W E : Type 0} (r : Run W E) (fault : CliFault) (found : List Opened) (stopped : Option Bool) →
+    (IsDeviceFault fault ↔ (stopped ≡ Some true)) → r.events ≡ opens found ++ closings stopped → IsBroken fault → CannotRead r fault
+cannot_read r (faults.Memory _) found stopped told events h = tt
+cannot_read r (faults.BadFile path (reads.Device _)) found stopped told events h =
+    (opens found, events ∙ ap (λ (s : Option Bool). opens found ++ closings s) (told.0 tt))
+cannot_read r fault found stopped told events h = absurd h
+
 -- why ld is refused, if its bytes do not link
 abbrev Reason : LinkFault → CliFault → Type 0
-Reason cause fault = (cli_text fault ≡ link_text cause) ⊎ CannotRead fault
+Reason cause fault = (cli_text fault ≡ link_text cause) ⊎ IsBroken fault
 
 reason : (cause : LinkFault) (fault : CliFault) →
     (let answer : Result Outcome Refusal = Err (not_linked cause) in IsTrueOf (said_by fault) answer) → Reason cause fault
@@ -140,7 +161,7 @@ module _ {W E : Type 0} (out_contents : W → Option (List ℕ)) (error_contents
         DoesAsLd out_contents error_contents p q file left r l
         ⊎ (FailsBy out_contents error_contents CannotRead l ⊎ FailsBy out_contents error_contents CannotWrite l)
 
-    failed : (IsSuch : CliFault → Type 0) (fault : CliFault) → result ≡ Err fault → IsSuch fault → FailsBy out_contents error_contents IsSuch l
+    failed : (IsSuch : Run W E → CliFault → Type 0) (fault : CliFault) → result ≡ Err fault → IsSuch l fault → FailsBy out_contents error_contents IsSuch l
     failed IsSuch fault is such = search rules
 
     reported : (made : Linked) → made.file ≡ file → report_names made.report ≡ did.outcome.report →
@@ -148,19 +169,22 @@ module _ {W E : Type 0} (out_contents : W → Option (List ℕ)) (error_contents
         (it : Result ℕ CliFault) → result ≡ it →
         Reports out_contents (report_names made.report) it l.output_before l.output_after → Ended
     reported made same report events (Err fault) is h =
-        inr (inr (failed CannotWrite (faults.WriteFailed device_fault) (is ∙ ap (λ (f : CliFault). Err f) h.write_failed) tt))
+        inr (inr (failed CannotWrite (faults.WriteFailed device_fault) (is ∙ ap (λ (f : CliFault). Err f) h.write_failed)
+        (inl (h.writes.fault.0 refl))))
     reported made same report events (Ok status) is h = search rules
 
     stored_by : (output : String Global) → string_bytes output ≡ q → (made : Linked) → outcome_of made ≡ did.outcome → (what : Stored) →
         l.events ≡ opens left ++ stored (string_bytes output) made.file what ∷ [] →
         ReportsIf out_contents what output (report_names made.report) result l.output_before l.output_after → Ended
     stored_by output at made same Kept events h = search rules
-    stored_by output at made same NotCreated events h = inr (inr (failed CannotWrite (faults.CannotCreate output) h.0 tt))
-    stored_by output at made same (Failed _) events h = inr (inr (failed CannotWrite (faults.WriteFailed device_fault) h.0 tt))
+    stored_by output at made same NotCreated events h =
+        inr (inr (failed CannotWrite (faults.CannotCreate output) h.0 (made.file, (opens left, events))))
+    stored_by output at made same (Failed fault) events h =
+        inr (inr (failed CannotWrite (faults.WriteFailed device_fault) h.0 (inr (string_bytes output, made.file, fault, (opens left, events)))))
 
-    no_reason : (fault : CliFault) → (let answer : Result Outcome Refusal = Ok did.outcome in IsTrueOf (said_by fault) answer) → CannotRead fault
+    no_reason : (fault : CliFault) → (let answer : Result Outcome Refusal = Ok did.outcome in IsTrueOf (said_by fault) answer) → IsBroken fault
     no_reason faults.Usage h = absurd h
-    no_reason (faults.CannotOpen path) h = tt
+    no_reason (faults.CannotOpen path) h = absurd h
     no_reason (faults.BadFile path (reads.Device _)) h = tt
     no_reason (faults.BadFile path (reads.Memory _)) h = absurd h
     no_reason (faults.NotAdded path (adds.Memory _)) h = absurd h
@@ -176,12 +200,14 @@ module _ {W E : Type 0} (out_contents : W → Option (List ℕ)) (error_contents
     ended_by : (output : String Global) → string_bytes output ≡ q → IsLinkRun out_contents forced o output (paths_of left) (Some l.earlier)
         (Some (l.earlier ++ l.events)) result l.output_before l.output_after → Ended
     ended_by output at (inl h) = inr (inl (failed CannotRead (faults.Memory refused) h.1.refusal tt))
-    ended_by output at (inr (inl h)) = inr (inl (failed CannotRead (faults.CannotOpen h.path) h.refuses.refusal tt))
+    ended_by output at (inr (inl h)) =
+        inr (inl (failed CannotRead (faults.CannotOpen h.path) h.refuses.refusal
+        (opens h.stops.found, events_are l forced o left there on_disk _ h.stops.asked)))
     ended_by output at (inr (inr (inl h))) =
-        let events : l.events ≡ opens h.found = events_are l forced o left there on_disk (opens h.found) h.asked in
-        inr (inl (failed CannotRead h.fault h.refuses.refusal (no_reason h.fault
+        let events : l.events ≡ opens h.found ++ closings h.stopped = events_are l forced o left there on_disk _ h.asked in
+        inr (inl (failed CannotRead h.fault h.refuses.refusal (cannot_read l h.fault h.found h.stopped h.told events (no_reason h.fault
         (subst (λ (x : Result Outcome Refusal). IsTrueOf (said_by h.fault) x) some
-        (bytes_say l forced o left there on_disk h.found (Err h.fault) [] (events ∙ sym (append-nil (opens h.found))) h.answer)))))
+        (bytes_say l forced o left there on_disk h.found (Err h.fault) (closings h.stopped) events h.answer))))))
     ended_by output at (inr (inr (inr h))) =
         let events = events_are l forced o left there on_disk _ h.asked in
         let ok = bytes_say l forced o left there on_disk h.found (Ok h.linked) _ events h.answer in
@@ -194,7 +220,7 @@ module _ {W E : Type 0} (out_contents : W → Option (List ℕ)) (error_contents
       (none : linked forced (bytes_of left) o ≡ Err (not_linked cause)) (result : Result ℕ CliFault)
       (ends : Ends error_contents result l.status l.error_before l.error_after) where
     refused_by : (fault : CliFault) → Refuses fault result l.output_before l.output_after → AllByRecursion IsOpening l.events →
-        Reason cause fault → IsRefusedAsLd out_contents error_contents r l
+        (cli_text fault ≡ link_text cause) ⊎ CannotRead l fault → IsRefusedAsLd out_contents error_contents r l
     refused_by fault refuses openings why = search rules
 
     abbrev asked : (more : List Event) → Extends (Some l.earlier) (Some (l.earlier ++ l.events)) more → l.events ≡ more
@@ -212,12 +238,16 @@ module _ {W E : Type 0} (out_contents : W → Option (List ℕ)) (error_contents
         refused_by (faults.CannotOpen h.path) h.refuses
         (subst (λ (es : List Event). AllByRecursion IsOpening es) (sym (asked _ h.stops.asked))
         (all_append IsOpening (opens h.stops.found) (opened (string_bytes h.path) None ∷ []) (all_openings h.stops.found) (tt, tt)))
-        (inr tt)
+        (inr (opens h.stops.found, asked _ h.stops.asked))
     by_ran output (inr (inr (inl h))) =
-        let events : l.events ≡ opens h.found = asked (opens h.found) h.asked in
-        refused_by h.fault h.refuses (subst (λ (es : List Event). AllByRecursion IsOpening es) (sym events) (all_openings h.found))
-        (reason cause h.fault (subst (λ (x : Result Outcome Refusal). IsTrueOf (said_by h.fault) x) none
-        (say h.found (Err h.fault) [] (events ∙ sym (append-nil (opens h.found))) h.answer)))
+        let events : l.events ≡ opens h.found ++ closings h.stopped = asked _ h.asked in
+        refused_by h.fault h.refuses (subst (λ (es : List Event). AllByRecursion IsOpening es) (sym events) (openings h.found h.stopped))
+        (by_reason (reason cause h.fault (subst (λ (x : Result Outcome Refusal). IsTrueOf (said_by h.fault) x) none
+        (say h.found (Err h.fault) (closings h.stopped) events h.answer))))
+      where
+        by_reason : Reason cause h.fault → (cli_text h.fault ≡ link_text cause) ⊎ CannotRead l h.fault
+        by_reason (inl text) = inl text
+        by_reason (inr broken) = inr (cannot_read l h.fault h.found h.stopped h.told (asked _ h.asked) broken)
     by_ran output (inr (inr (inr h))) =
         absurd (let ok = say h.found (Ok h.linked) _ (asked _ h.asked) h.answer in let both = sym none ∙ ok in cc)
 

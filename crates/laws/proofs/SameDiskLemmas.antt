@@ -5,7 +5,7 @@ use Rattle.std.specs.{List.AllByRecursion, Prelude.◌≢◌, Prelude.IfSome, Pr
 use Rattle.command_words.specs.Scripts.{Asked, to_add, to_withdraw}
 use Rattle.link_session.specs.Edits.{without_last}
 use Rattle.link_session.proofs.ListLemmas.{all_append}
-use Rattle.surroundings.specs.Events.{Event, Opened, looked, opened, stored, written}
+use Rattle.surroundings.specs.Events.{Event, Opened, closed, looked, opened, stored, written}
 use Rattle.v7tools.specs.{LineRuns.LineRun, SessionRuns.events_of}
 use Rattle.aout_core.specs.Encoding.{encoding}
 use Rattle.laws.specs.Disks.{Disk, IsOn, disk_after, text_left, with_file}
@@ -20,6 +20,7 @@ untouched : (disk : Disk) (path : List ℕ) (events : List Event) → AllByRecur
     disk_after disk events path ≡ disk path
 untouched disk path [] h = refl
 untouched disk path (opened at found ∷ events) h = untouched disk path events h.1
+untouched disk path (closed failed ∷ events) h = untouched disk path events h.1
 untouched disk path (stored at file what ∷ events) h =
     untouched (with_file disk at (text_left (encoding file) what)) path events h.1 ∙ elsewhere disk at path (text_left (encoding file) what) h.0
 untouched disk path (written at text what ∷ events) h =
@@ -31,6 +32,7 @@ later_on : (disk : Disk) (first then : List Event) → IsOn disk (first ++ then)
 later_on disk [] then h = h
 later_on disk (opened path None ∷ events) then h = later_on disk events then h
 later_on disk (opened path (Some known) ∷ events) then h = later_on disk events then h.1
+later_on disk (closed failed ∷ events) then h = later_on disk events then h
 later_on disk (stored path file what ∷ events) then h = later_on (with_file disk path (text_left (encoding file) what)) events then h
 later_on disk (written path text what ∷ events) then h = later_on (with_file disk path (text_left text what)) events then h
 later_on disk (looked path found ∷ events) then h = later_on disk events then h

@@ -1,5 +1,5 @@
 -- Two lines that add a file and withdraw it, and two runs of the same lines for which the system gave the same.
-use Rattle.std.proofs.Common.{rules, ◌≡◌, ℕ, List, [], ◌∷◌, ◌++◌, Option, Some, None, Result, Ok, Err, refl, ap, ◌∙◌, arith, inl, inr}
+use Rattle.std.proofs.Common.{rules, ◌≡◌, ℕ, Bool, true, false, List, [], ◌∷◌, ◌++◌, Option, Some, None, Result, Ok, Err, refl, ap, ◌∙◌, arith, inl, inr}
 use Rattle.std.proofs.{Common.subst, lemmas.List.append_cancel_left, lemmas.Grind.flat_map-append}
 use Rattle.std.specs.{Prelude.codes}
 use Rattle.aout_core.specs.{Contents.Contents}
@@ -8,7 +8,7 @@ use Rattle.link_session.specs.{declared.entry.AddFault.AddFault, Edits.last_of, 
 use Rattle.link_out.specs.{Inputs.{Cause, not_added, kept_with}, Steps.unless, function.Reports.line}
 use Rattle.link_session.proofs.EditLemmas.{last_of-put_last, without_last-put_last}
 use Rattle.tool_options.specs.Choices.{Choices}
-use Rattle.surroundings.specs.Events.{opened}
+use Rattle.surroundings.specs.{Events.{closed, opened}, Sources.reading}
 use Rattle.v7tools.specs.Answers.{refused, Stepped, add_step, withdraw_step}
 use Rattle.v7tools.specs.LineRuns.{DoesStep, IsAddOf, IsLineOf, LineRun, OpensOne, status_after}
 use Rattle.v7tools.specs.SessionRuns.{Chains, answers_of, events_of, lines_asked, worst}
@@ -19,7 +19,7 @@ use Rattle.laws.proofs.LeftLemmas.{IsAt, adds_found, at_line}
 
 record Added (old : List Labelled) (path : List ℕ) (r : LineRun) : Type 0 where
   known : Option (List ℕ)
-  events : r.events ≡ opened path (Some known) ∷ []
+  events : r.events ≡ opened path (Some known) ∷ (closed false ∷ [])
   answer : r.answer ≡ line (codes "added " ++ path)
   entry : Labelled
   label : entry.label ≡ path
@@ -30,31 +30,31 @@ module _ (forced : List (List ℕ)) (old : List Labelled) (path : List ℕ) (r :
   not_refused : h.did.verdict ≡ refused → ⊥
   not_refused e = let one : r.status ≡ 1 = h.does.status ∙ ap status_after e in omega arith
 
-  by_limit : (object : Contents) (fault : Option AddFault) →
+  by_limit : h.failed ≡ false → (object : Contents) (fault : Option AddFault) →
       h.did ≡ add_step old path (unless not_added fault (old ++ record { label = path; object = object } ∷ [])) → Added old path r
-  by_limit object (Some fault) e = absurd (not_refused (ap (λ (s : Stepped). s.verdict) e))
-  by_limit object None e = record {
+  by_limit works object (Some fault) e = absurd (not_refused (ap (λ (s : Stepped). s.verdict) e))
+  by_limit works object None e = record {
     known = h.known;
-    events = h.does.events;
+    events = h.does.events ∙ ap (reading path (Some h.known)) works;
     answer = h.does.answer ∙ ap (λ (s : Stepped). s.answer) e;
     entry = record { label = path; object = object };
     label = refl;
     keeps = h.does.kept ∙ ap (λ (s : Stepped). s.kept) e;
   }
 
-  by_found : (found : Result Contents Cause) → h.did ≡ add_step old path (kept_with forced old path found) → Added old path r
-  by_found (Err cause) e = absurd (not_refused (ap (λ (s : Stepped). s.verdict) e))
-  by_found (Ok object) e = by_limit object (refusal forced (objects old) object) e
+  by_found : h.failed ≡ false → (found : Result Contents Cause) → h.did ≡ add_step old path (kept_with forced old path found) → Added old path r
+  by_found works (Err cause) e = absurd (not_refused (ap (λ (s : Stepped). s.verdict) e))
+  by_found works (Ok object) e = by_limit works object (refusal forced (objects old) object) e
 
-  by_add : IsAddOf h.known forced old path h.did → Added old path r
-  by_add (inl e) = absurd (not_refused (ap (λ (s : Stepped). s.verdict) e))
-  by_add (inr (inl (e, wants))) = absurd (not_refused (ap (λ (s : Stepped). s.verdict) e))
-  by_add (inr (inr k)) = let f = adds_found h.known forced old path h.did k in by_found f.found f.did_it
+  by_add : (failed : Bool) → h.failed ≡ failed → IsAddOf h.known failed forced old path h.did → Added old path r
+  by_add true is e = absurd (not_refused (ap (λ (s : Stepped). s.verdict) e))
+  by_add false is (inl (e, wants)) = absurd (not_refused (ap (λ (s : Stepped). s.verdict) e))
+  by_add false is (inr k) = let f = adds_found h.known forced old path h.did k in by_found is f.found f.did_it
 
 added : (forced : List (List ℕ)) (o : Choices) (old : List Labelled) (path : List ℕ) (r : LineRun) →
     IsLineOf forced o old r (to_add path) → r.status ≡ 0 → Added old path r
 added forced o old path r (inl does) zero = absurd (let one : r.status ≡ 1 = does.status in omega arith)
-added forced o old path r (inr h) zero = by_add forced old path r h zero h.is_add
+added forced o old path r (inr h) zero = by_add forced old path r h zero h.failed refl h.is_add
 
 record TakenBack (old : List Labelled) (label : List ℕ) (r : LineRun) : Type 0 where
   events : r.events ≡ []

@@ -4,17 +4,17 @@
 -- A session's run is taken line by line: what each line asked of the system, what it answered, and its status. The files that are
 -- left after some lines are those that were added and not withdrawn, with the bytes that were read there. Nothing is assumed of the
 -- disk during the session, and files may change between the session and `ld`, but for those that are left.
-use Rattle.std.specs.Prelude.{◌≡◌, ◌≢◌, ◌⊎◌, ℕ, Bool, true, eqb, List, [], ◌∷◌, ◌++◌, map, Option, Some, None, Ok, String, codes, decimal}
+use Rattle.std.specs.Prelude.{◌≡◌, ◌≢◌, ◌⊎◌, ℕ, Bool, true, false, eqb, List, [], ◌∷◌, ◌++◌, map, Option, Some, None, Ok, IsTrue, String, codes, decimal}
 use Rattle.std.specs.{Prelude.string_bytes, declared.alloc.Global.Global, List.AllByRecursion}
-use Rattle.aout_core.specs.{declared.file.ReadFault.TheVariants.Device, Contents.Contents, Refusals.device_fault}
+use Rattle.aout_core.specs.{declared.file.ReadFault.TheVariants.Device, declared.wire.DeviceFault.DeviceFault, Contents.Contents}
 use Rattle.link_session.specs.{Edits.without_last, Labelled.Labelled}
-use Rattle.link_out.specs.{function.Reports.line, Inputs.bad_file}
+use Rattle.link_out.specs.function.Reports.{line}
 use Rattle.tool_options.specs.Choices.{Choices}
-use Rattle.surroundings.specs.Events.{Event, looked, opened, stored, written, Opened, opens, paths_of}
-use Rattle.surroundings.specs.{Emits.PutsUnless, declared.nodes.Found.Found, declared.office.Stored.Stored, declared.office.Stored.TheVariants.Kept}
+use Rattle.surroundings.specs.Events.{Event, closed, looked, opened, stored, written, Opened, opens, paths_of}
+use Rattle.surroundings.specs.{Emits.PutsUnless, declared.nodes.Found.Found, declared.office.Stored.Stored, declared.office.Stored.TheVariants.{Kept, NotCreated, Failed}}
 use Rattle.command_words.specs.Scripts.{Asked, to_add, to_withdraw, to_link}
 use Rattle.v7tools.specs.{LineRuns.LineRun, LinkRuns.IsLinkRun, declared.fault.CliFault.CliFault}
-use Rattle.v7tools.specs.{FaultTexts.{cause_text, fault_line, no_memory}, SessionRuns.{Chains, RunsLines, events_of, lines_asked}}
+use Rattle.v7tools.specs.{FaultTexts.{fault_line, no_memory}, SessionRuns.{Chains, RunsLines, events_of, lines_asked}}
 use Rattle.v7tools.specs.declared.fault.CliFault.TheVariants as faults
 use Rattle.laws.specs.{Disks.Did, Disks.Disk, Disks.IsOn, Disks.Run, Disks.Writes}
 
@@ -53,6 +53,7 @@ AreThere disk files = AllByRecursion (IsThere disk) files
 -- an event stores nothing at this path
 abbrev pub StoresNot : List ℕ → Event → Type 0
 StoresNot path (opened at found) = Unit {0}
+StoresNot path (closed failed) = Unit {0}
 StoresNot path (stored at file what) = at ≢ path
 StoresNot path (written at text what) = at ≢ path
 StoresNot path (looked at found) = Unit {0}
@@ -73,15 +74,17 @@ SameDiskLaw =
 
 -- ---- what the system gave
 
--- what the system gives for a request: a file that was opened or could not be, what became of a file that was to be stored, or
+-- what the system gives for a request: a file that was opened or could not be, or had failed when it was closed, what became of a file that was to be stored, or
 -- what a path leads to
 pub data Gift : Type 0 where
   for_opening : Option (Option (List ℕ)) → Gift
+  for_closing : Bool → Gift
   for_storing : Stored → Gift
   for_looking : Found → Gift
 
 abbrev pub gift : Event → Gift
 gift (opened path found) = for_opening found
+gift (closed failed) = for_closing failed
 gift (stored path file what) = for_storing what
 gift (written path text what) = for_storing what
 gift (looked path found) = for_looking found
@@ -91,14 +94,14 @@ abbrev pub IsKnown : Event → Type 0
 IsKnown (opened path (Some None)) = ⊥
 IsKnown _ = Unit {0}
 
--- the answer to a line is not that memory ran out, nor that a device failed
+-- the answer to a line is not that memory ran out
 abbrev pub IsUndisturbed : Asked → List ℕ → Type 0
-IsUndisturbed (to_add path) answer = (answer ≢ line no_memory) × (answer ≢ line (cause_text path (bad_file (Device device_fault))))
+IsUndisturbed (to_add path) answer = answer ≢ line no_memory
 IsUndisturbed (to_link path) answer = answer ≢ line no_memory
 IsUndisturbed _ answer = Unit {0}
 
--- the system gave two lines the same: the same files with the same bytes, which are known, and the same end of a file that was to be
--- stored; and for neither memory ran out, or a device failed while a file was read
+-- the system gave two lines the same: the same files with the same bytes, which are known, on devices of which the same failed, and the
+-- same end of a file that was to be stored; and for neither memory ran out
 pub record IsGivenTheSame (r t : LineRun) : Type 0 where
   pub gives : map gift r.events ≡ map gift t.events
   pub known : AllByRecursion IsKnown r.events
@@ -110,23 +113,30 @@ AreGivenTheSame [] [] = Unit {0}
 AreGivenTheSame (r ∷ rs) (t ∷ ts) = IsGivenTheSame r t × AreGivenTheSame rs ts
 AreGivenTheSame _ _ = ⊥
 
--- only files were opened
+-- only files were opened and closed
 abbrev pub IsOpening : Event → Type 0
 IsOpening (opened path found) = Unit {0}
+IsOpening (closed failed) = Unit {0}
 IsOpening _ = ⊥
 
--- memory ran out, or a file could not be opened, or a device failed while it was read
-abbrev pub CannotRead : CliFault → Type 0
-CannotRead (faults.Memory _) = Unit {0}
-CannotRead (faults.CannotOpen path) = Unit {0}
-CannotRead (faults.BadFile path (Device _)) = Unit {0}
-CannotRead _ = ⊥
+-- this is the last event
+abbrev pub EndsBy : List Event → Event → Type 0
+EndsBy events last = (before : List Event) × (events ≡ before ++ last ∷ [])
 
--- no file could be made at a path, or a device failed while it or the report was written
-abbrev pub CannotWrite : CliFault → Type 0
-CannotWrite (faults.CannotCreate path) = Unit {0}
-CannotWrite (faults.WriteFailed _) = Unit {0}
-CannotWrite _ = ⊥
+-- memory ran out, or the last file could not be opened, or its device failed
+abbrev pub CannotRead : {W E : Type 0} → Run W E → CliFault → Type 0
+CannotRead r (faults.Memory _) = Unit {0}
+CannotRead r (faults.CannotOpen path) = EndsBy r.events (opened (string_bytes path) None)
+CannotRead r (faults.BadFile path (Device _)) = EndsBy r.events (closed true)
+CannotRead r _ = ⊥
+
+-- no file could be made at a path, or its device failed, or standard output did
+abbrev pub CannotWrite : {W E : Type 0} → Run W E → CliFault → Type 0
+CannotWrite r (faults.CannotCreate path) = (file : Contents) × EndsBy r.events (stored (string_bytes path) file NotCreated)
+CannotWrite r (faults.WriteFailed _) =
+    IsTrue r.output_after.has_failed
+    ⊎ ((path : List ℕ) × (file : Contents) × (fault : DeviceFault) × EndsBy r.events (stored path file (Failed fault)))
+CannotWrite r _ = ⊥
 
 module _ {W E : Type 0} (out_contents : W → Option (List ℕ)) (error_contents : E → Option (List ℕ)) where
   -- ---- a fault
@@ -136,8 +146,8 @@ module _ {W E : Type 0} (out_contents : W → Option (List ℕ)) (error_contents
   Says r text = PutsUnless r.error_after.has_failed (error_contents r.error_before.device) (error_contents r.error_after.device) text
 
   -- a run ended with such a fault
-  abbrev pub FailsBy : (CliFault → Type 0) → Run W E → Type 0
-  FailsBy IsSuch r = (r.status ≡ 2) × (fault : CliFault) × IsSuch fault × Says r (fault_line fault)
+  abbrev pub FailsBy : (Run W E → CliFault → Type 0) → Run W E → Type 0
+  FailsBy IsSuch r = (r.status ≡ 2) × (fault : CliFault) × IsSuch r fault × Says r (fault_line fault)
 
   -- ---- a session, and ld
 
@@ -194,7 +204,7 @@ module _ {W E : Type 0} (out_contents : W → Option (List ℕ)) (error_contents
   -- ---- an addition and a withdrawal
 
   -- between what the shorter run answered the longer one answered that a path was added and withdrawn; between what the shorter run asked
-  -- of the system the longer one opened that path; and they ended with the same status
+  -- of the system the longer one opened and closed that path; and they ended with the same status
   pub record LeavesNoTrace (path : List ℕ) (long short : Run W E) : Type 0 where
     pub known : Option (List ℕ)
     pub answered : List ℕ
@@ -205,7 +215,7 @@ module _ {W E : Type 0} (out_contents : W → Option (List ℕ)) (error_contents
     pub long_answers : Writes out_contents long
         (answered ++ (line (codes "added " ++ path) ++ (line (codes "withdrew " ++ path) ++ then_answered)))
     pub short_events : short.events ≡ asked ++ then_asked
-    pub long_events : long.events ≡ asked ++ opened path (Some known) ∷ then_asked
+    pub long_events : long.events ≡ asked ++ opened path (Some known) ∷ (closed false ∷ then_asked)
     pub status : long.status ≡ short.status
 
   -- two runs, of a script and of the same with two lines more, an addition that is done and a withdrawal right after it

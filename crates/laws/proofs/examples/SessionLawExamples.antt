@@ -10,7 +10,7 @@ use Rattle.command_words.specs.{declared.words.Call.TheVariants.Session, Scripts
 use Rattle.link_session.specs.{Labelled.Labelled}
 use Rattle.tool_options.specs.Choices.{Choices}
 use Rattle.link_out.specs.{declared.linked.Linked.Linked, Outcomes.outcome_of as result_of, function.Reports.line, Inputs.with_input}
-use Rattle.surroundings.specs.{Events.{Event, Opened, opened, opens, stored}, declared.office.Stored.TheVariants.Kept}
+use Rattle.surroundings.specs.{Events.{Event, Opened, closed, opened, opens, stored}, declared.office.Stored.TheVariants.Kept}
 use Rattle.v7tools.specs.declared.fault.CliFault.{CliFault}
 use Rattle.v7tools.specs.declared.fault.CliFault.TheVariants as faults
 use Rattle.link_out.specs.declared.linked.LinkFault.TheVariants as links
@@ -60,7 +60,7 @@ missing_line = record {
 abbrev add_line : List ℕ → Contents → List Labelled → LineRun
 add_line path file kept = record {
   line = to_add path;
-  events = opened path (Some (Some (encoding file))) ∷ [];
+  events = opened path (Some (Some (encoding file))) ∷ (closed false ∷ []);
   answer = line (codes "added " ++ path);
   status = 0;
   kept = kept;
@@ -142,7 +142,8 @@ adds_is : (path : List ℕ) (file : Contents) (old new : List Labelled) (did : S
 adds_is path file old new did is verdict answer kept = inr (record {
   known = Some (encoding file);
   did = did;
-  is_add = inr (inr is);
+  failed = false;
+  is_add = inr is;
   does = record { events = refl; answer = sym answer; status = sym (ap status_after verdict); kept = sym kept };
 })
 
@@ -259,7 +260,8 @@ more_files at = cond (bytes_eq at x) (Some []) (files at)
 
 is_same : (path : List ℕ) (file : Contents) → files path ≡ Some (encoding file) → more_files path ≡ Some (encoding file) →
     IsSameOn files more_files (events_of before_link) (path, Some (encoding file))
-is_same path file one other = record { bytes = encoding file; first = one; second = other; untouched = (tt, (tt, (tt, (tt, tt)))) }
+is_same path file one other =
+    record { bytes = encoding file; first = one; second = other; untouched = (tt, (tt, (tt, (tt, (tt, (tt, (tt, tt))))))) }
 
 disk_says : SameDiskLaw → AreThere more_files left
 disk_says law = law before_link files more_files (refl, (refl, (refl, tt))) (is_same a b_o refl refl, (is_same b e_o refl refl, tt))
@@ -340,6 +342,8 @@ unfit_ran = inr (inr (inl (record {
       bytes = refl;
     };
   };
+  stopped = None;
+  told = (λ broken. absurd broken, λ failed. absurd (cc));
   asked = refl;
   refuses = record { refusal = refl; silent = refl };
 })))
@@ -365,10 +369,10 @@ unfolding long_session short_session ended
 undo_says law =
     law [] plain (session_of long_script long_lines) (session_of short_script short_lines) long_session short_session before
     (link_line ∷ []) (add_line b e_o three) withdraw_line b refl refl refl refl refl (
-      alike missing_line (tt, tt) (calm _ _ refl, calm _ _ refl),
+      alike missing_line (tt, tt) (calm _ _ refl),
       (
-        alike (add_line a b_o one) (tt, tt) (calm _ _ refl, calm _ _ refl),
-        (alike (add_line b e_o two) (tt, tt) (calm _ _ refl, calm _ _ refl), (alike link_line (tt, tt) (calm _ _ refl), tt)),
+        alike (add_line a b_o one) (tt, (tt, tt)) (calm _ _ refl),
+        (alike (add_line b e_o two) (tt, (tt, tt)) (calm _ _ refl), (alike link_line (tt, tt) (calm _ _ refl), tt)),
       ),
     )
 
