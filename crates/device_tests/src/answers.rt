@@ -20,6 +20,9 @@ struct OneObject {
 }
 
 impl Office for OneObject {
+    ghost use Rattle.std.specs.Prelude.{None, [], ◌∷◌};
+    ghost use Rattle.surroundings.specs.Events.{Extends, closed};
+
     type Source = TestReader<'static>;
 
     fn open(&mut self, path: &str) -> Option<TestReader<'static>> {
@@ -27,6 +30,12 @@ impl Office for OneObject {
             "c.o" => Some(TestReader::whole(&C_O)),
             _ => None,
         }
+    }
+
+    fn close(&mut self, source: Wire<TestReader<'static>>)
+        ensures { Extends None None (closed source.entry.has_failed ∷ []) }
+    {
+        drop(source);
     }
 
     fn node(&mut self, _: &str) -> Found {

@@ -16,6 +16,8 @@ use v7tools::{BlockWriter, Office, Outputs, Stored, perform};
 enum Asked {
     /// The file at a path was to be opened: its bytes, if there is one.
     Opened(String, Option<&'static [u8]>),
+    /// A file was closed, and its device had failed or had not.
+    Closed(bool),
     /// A file was to be stored at a path.
     Stored(String, File, Stored),
     /// A text was to be stored at a path.
@@ -28,6 +30,7 @@ enum Asked {
 fn request(asked: &Asked) -> (&str, &str) {
     match asked {
         Asked::Opened(path, _) => ("open", path.as_str()),
+        Asked::Closed(is_failed) => ("close", if *is_failed { "failed" } else { "" }),
         Asked::Stored(path, ..) => ("store", path.as_str()),
         Asked::Written(path, ..) => ("store text", path.as_str()),
         Asked::Looked(path) => ("look", path.as_str()),
@@ -95,18 +98,13 @@ impl<'a, R: Abort + AllocGlobal> MemoryOffice<'a, R> {
 }
 
 impl<R: Abort + AllocGlobal> Office for MemoryOffice<'_, R> {
-    ghost use Rattle.std.specs.Prelude.{map, option_map, None, Some, string_bytes};
-    ghost use Rattle.surroundings.specs.{Events.{looked, opened, stored, written}, declared.nodes.Found.TheVariants.NoFile};
-    ghost use Rattle.device_tests.specs.declared.memory_office.Asked.TheVariants.{Looked, Opened, Stored, Written};
+    ghost use Rattle.std.specs.Prelude.{[], ◌∷◌};
+    ghost use Rattle.surroundings.specs.Events.{Extends, closed};
+    ghost use Rattle.device_tests.specs.Histories.{history_of};
 
     type Source = TestReader<'static>;
 
-    ghost history = { λ office. Some (map (λ asked. elim asked [
-      | Opened path found ↦ opened (string_bytes path) (option_map (λ bytes. Some bytes.now) found)
-      | Stored path file what ↦ stored (string_bytes path) file what
-      | Written path text what ↦ written (string_bytes path) text.items what
-      | Looked path ↦ looked (string_bytes path) NoFile
-    ]) office.asked.items) };
+    ghost history = { λ office. history_of office.asked.items };
 
     fn open(&mut self, path: &str) -> Option<TestReader<'static>> {
         let found: Option<&'static [u8]> = if path == "a.o" { Some(&A_O) } else { None };
@@ -115,6 +113,13 @@ impl<R: Abort + AllocGlobal> Office for MemoryOffice<'_, R> {
             Some(bytes) => Some(TestReader::whole(bytes)),
             None => None,
         }
+    }
+
+    fn close(&mut self, source: Wire<TestReader<'static>>)
+        ensures { Extends (history_of self.old.asked.items) (history_of self.new.asked.items)
+            (closed source.entry.has_failed ∷ []) }
+    {
+        self.list(Asked::Closed(source.failed()));
     }
 
     fn node(&mut self, path: &str) -> Found {
@@ -160,6 +165,11 @@ fn office_with_a_history(rt: HostRuntime) -> Result<(), Fail> {
     let (status, answers) = session(rt.alloc(), &mut office, script)?;
     assert!(rt; status == 1);
     assert!(rt; answers.as_slice() == b"nofile: cannot open\nadded a.o\nlinked out 0\n".as_slice());
-    assert!(rt; office.was_asked(&[("open", "nofile"), ("open", "a.o"), ("store", "out")]));
+    assert!(rt; office.was_asked(&[
+        ("open", "nofile"),
+        ("open", "a.o"),
+        ("close", ""),
+        ("store", "out"),
+    ]));
     Ok(())
 }
