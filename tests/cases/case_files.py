@@ -33,6 +33,7 @@ class Listing:
         self.symbols = []
 
     def take(self, line, columns):
+        """Takes a line with one entry, or one entry of a line."""
         section = self.sections[-1] if self.sections else None
         if columns[0] in ORDER[ORDER.index(section) + 1:]:
             self.sections.append(columns[0])
@@ -44,6 +45,18 @@ class Listing:
             self.take_word(line, section, columns)
         else:
             raise Mistake(line, f"neither a number of the header nor a section: {columns[0]}")
+
+    def take_short(self, line, text):
+        """Takes a line with a section and what it has: words without addresses, or symbols without numbers, and commas between them."""
+        name, _, entries = text.partition(" ")
+        if self.sections[-1:] != [name]:
+            self.take(line, [name])
+        for columns in (entry.split() for entry in entries.split(",")):
+            if name == "symbols":
+                self.take_symbol(line, ["%o" % len(self.symbols), *columns])
+            else:
+                place = (self.start(name) + 2 * len(self.words[name])) % 65536
+                self.take_word(line, name, ["%o" % place, *columns, "0"])
 
     def start(self, section):
         """The address at which a section begins."""
@@ -76,7 +89,10 @@ def listed(block):
         columns = text.split()
         if columns and not columns[0].startswith("/"):
             try:
-                listing.take(line, columns)
+                if columns[0] in ORDER and len(columns) > 1:
+                    listing.take_short(line, text.strip())
+                else:
+                    listing.take(line, columns)
             except IndexError:
                 raise Mistake(line, "a column is missing") from None
     return listing.bytes()

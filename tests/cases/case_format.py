@@ -26,18 +26,18 @@ class Item:
 
 @dataclass
 class Step:
-    """A command, its input, and what has to come of it. Each text has its line, and so have the requests."""
+    """A command, its input, and what has to come of it. Each text has its line, and so have the requests. The text `..` of an output
+    stands for lines that are not shown."""
     line: int
     words: list
+    status: int = 0
+    # whether nothing need come of it
+    is_checked: bool = False
     given: list = field(default_factory=list)
     output: list = field(default_factory=list)
     error: list = field(default_factory=list)
-    status: tuple = None
     asked: tuple = None
     files: list = field(default_factory=list)
-
-    def is_checked(self):
-        return bool(self.output or self.error or self.status or self.files)
 
 
 @dataclass
@@ -96,7 +96,9 @@ def words_of(line, text):
 
 
 def texts_of(line, text):
-    """The texts after the mark of a line, each with the newline that ends it or with none."""
+    """The texts after the mark of a line, each with the newline that ends it or with none. That of `>..` or `!..` is `..`."""
+    if text in (">..", "!.."):
+        return [".."]
     found = re.fullmatch(r".(?:(-)|\* ([0-9]+))?(?: (.*))?", text)
     if not found:
         raise Mistake(line, f"unknown line: {text}")
@@ -158,17 +160,15 @@ FORMS = {
     "cut": ["FILE N FROM"],
     "poke": ["FILE BYTE HH .. FROM"],
     "same": ["FILE FROM"],
-    "unchanged": ["FILE .."],
-    "absent": ["FILE .."],
     "refuse": ["REQUEST PATH", "write more FILE", "memory N", "memory N.."],
     "fail": ["read FILE after N", "write FILE after N"],
     "state": ["", "EDIT .."],
-    "status": ["N"],
 }
 WITH_BLOCK = ("object", "text", "listing", "state")
+LISTINGS = ("object", "object*", "listing")
 PLANS = ("refuse", "fail", "state")
 ONLY_MADE = ("use", "object")
-ONLY_CHECKED = ("listing", "unchanged", "absent")
+ONLY_CHECKED = ("listing",)
 
 
 def read_form(form, words):
@@ -241,12 +241,15 @@ class Reader:
         return self.parts[-1].steps[-1]
 
     def take(self, line, text):
-        word = text[0] if text[0] in "<>!|" else text.partition(" ")[0]
+        word = text[0] if text[0] in "$<>!|" else text.partition(" ")[0]
         if word != "|":
             self.owner = None
         if word not in TAKEN_BY:
             raise Mistake(line, f"unknown line: {text}")
-        TAKEN_BY[word](self, line, text)
+        head, *block = text.split(" | ") if word in LISTINGS else [text]
+        TAKEN_BY[word](self, line, head)
+        if block:
+            self.owner.block.extend((line, f"{spread(one)}\n") for one in block)
 
     def take_end(self, line, text):
         if text != "--":
@@ -260,16 +263,20 @@ class Reader:
         self.owner.block.extend((line, one) for one in texts_of(line, text))
 
     def take_command(self, line, text):
-        words = words_of(line, text[2:])
+        status, _, command = text[1:].partition(" ")
+        words = words_of(line, command)
         if not words or words[0].decode("latin-1") not in PROGRAMS:
-            raise Mistake(line, f"not one of the programs: {text[2:]}")
+            raise Mistake(line, f"not one of the programs: {command}")
+        if status and not status.isdigit():
+            raise Mistake(line, f"unknown line: {text}")
         self.end_step()
-        self.parts[-1].steps.append(Step(line, words))
+        self.parts[-1].steps.append(Step(line, words, int(status or 0), bool(status)))
 
     def take_text(self, line, text):
         step = self.step(line, text)
         texts = {"<": step.given, ">": step.output, "!": step.error}[text[0]]
         texts.extend((line, encoded(line, one)) for one in texts_of(line, text))
+        step.is_checked |= text[0] != "<"
 
     def take_form(self, line, text):
         word, _, rest = text.partition(" ")
@@ -291,28 +298,21 @@ class Reader:
         part = self.parts[-1]
         if item.word in WITH_BLOCK:
             self.owner = item
-        if item.word == "status":
-            self.take_status(item)
-        elif item.word in PLANS:
+        if item.word in PLANS:
             item.place = len(part.steps)
             part.plans.append(item)
         elif not part.steps and item.word not in ONLY_CHECKED:
             part.files_before.append(item)
         elif part.steps and item.word not in ONLY_MADE:
             part.steps[-1].files.append(item)
+            part.steps[-1].is_checked = True
         else:
             hint = "before the commands of a part; -- begins a new part" if part.steps else "after a command"
             raise Mistake(item.line, f"{item.word} comes {hint}")
 
-    def take_status(self, item):
-        step = self.step(item.line, "status")
-        if step.status:
-            raise Mistake(item.line, "a second status")
-        step.status = (item.line, item.arguments[0])
-
     def end_step(self):
         steps = self.parts[-1].steps
-        if steps and not steps[-1].is_checked():
+        if steps and not steps[-1].is_checked:
             raise Mistake(steps[-1].line, "no line has what comes of this command")
 
     def end_part(self, line):

@@ -55,16 +55,22 @@ def lines_in(data):
 
 
 def check_output(line, what, expected, came):
-    """Compares what was written to a stream, line by line."""
-    expected = [(place, part) for place, text in expected for part in lines_in(text)]
-    lines = lines_in(came)
-    for (place, text), found in zip(expected, lines):
-        if found != text:
-            raise differ(place, what, shown_line(text), shown_line(found))
-    if len(expected) > len(lines):
-        raise differ(expected[len(lines)][0], what, shown_line(expected[len(lines)][1]), "no further line")
-    if len(lines) > len(expected):
-        raise differ(line, what, "no further line", shown_line(lines[len(expected)]))
+    """Compares what was written to a stream, line by line. The text `..` stands for all lines before the next one that is expected, or to
+    the end."""
+    lines, at, is_skipping = lines_in(came), 0, False
+    for place, text in ((place, part) for place, text in expected for part in lines_in(text)):
+        if text == b"..":
+            is_skipping = True
+            continue
+        first = at
+        while is_skipping and at < len(lines) and lines[at] != text:
+            at += 1
+        if at == len(lines) or lines[at] != text:
+            is_there = first < len(lines)
+            raise differ(place, what, shown_line(text), shown_line(lines[first]) if is_there else "no further line")
+        at, is_skipping = at + 1, False
+    if at < len(lines) and not is_skipping:
+        raise differ(line, what, "no further line", shown_line(lines[at]))
 
 
 def excerpt(data, at):
@@ -77,29 +83,13 @@ def check_bytes(item, expected, came):
         raise differ(item.line, os.fsdecode(item.arguments[0]), excerpt(expected, at), excerpt(came, at))
 
 
-MANY = ("unchanged", "absent")
-
-
-def check_described(item, before, after):
-    """Checks what a line says of files."""
-    for name in item.arguments if item.word in MANY else item.arguments[:1]:
-        path = os.fsdecode(name)
-        if item.word == "absent" and name in after:
-            raise Mistake(item.line, f"{path} is there")
-        if item.word != "absent" and name not in after:
-            raise Mistake(item.line, f"{path} is not there")
-        if item.word == "unchanged" and before.get(name) != after[name]:
-            raise Mistake(item.line, f"{path} has changed")
-        if item.word not in MANY:
-            others = {other: data for other, data in after.items() if other != name}
-            check_bytes(item, contents(item, others), after[name])
-
-
 def check_files(step, before, after):
-    described = set()
+    described = {item.arguments[0] for item in step.files}
     for item in step.files:
-        check_described(item, before, after)
-        described.update(item.arguments if item.word in MANY else item.arguments[:1])
+        name = item.arguments[0]
+        if name not in after:
+            raise Mistake(item.line, f"{os.fsdecode(name)} is not there")
+        check_bytes(item, contents(item, {other: data for other, data in after.items() if other != name}), after[name])
     for name in sorted((before.keys() | after.keys()) - described):
         if before.get(name) != after.get(name):
             how = "has gone" if name not in after else "has changed" if name in before else "has appeared"
@@ -162,9 +152,8 @@ def play_step(step, plans, directory):
         came, requests = run(step.line, step.words, directory, given), []
     check_output(step.line, "standard error", step.error, came.err)
     check_output(step.line, "standard output", step.output, came.out)
-    line, status = step.status or (step.line, 0)
-    if came.status != status:
-        raise differ(line, "status", status, came.status)
+    if came.status != step.status:
+        raise differ(step.line, "status", step.status, came.status)
     check_files(step, before, snapshot(directory))
     line, asked = step.asked or (step.line, requests)
     if requests != asked:
