@@ -165,7 +165,6 @@ FORMS = {
     "state": ["", "EDIT .."],
 }
 WITH_BLOCK = ("object", "text", "listing", "state")
-LISTINGS = ("object", "object*", "listing")
 PLANS = ("refuse", "fail", "state")
 ONLY_MADE = ("use", "object")
 ONLY_CHECKED = ("listing",)
@@ -246,7 +245,7 @@ class Reader:
             self.owner = None
         if word not in TAKEN_BY:
             raise Mistake(line, f"unknown line: {text}")
-        head, *block = text.split(" | ") if word in LISTINGS else [text]
+        head, *block = text.split(" | ") if word in (*WITH_BLOCK, "object*") else [text]
         TAKEN_BY[word](self, line, head)
         if block:
             self.owner.block.extend((line, f"{spread(one)}\n") for one in block)
