@@ -26,10 +26,10 @@ class Item:
 
 @dataclass
 class Step:
-    """A command, its input, and what has to come of it. Each text has its line, and so have the requests. The text `..` of an output
-    stands for lines that are not shown."""
+    """Commands, each with its line, their input, and what has to come of each. Each text has its line, and so have the requests. The text
+    `..` of an output stands for lines that are not shown."""
     line: int
-    words: list
+    commands: list
     status: int = 0
     # whether nothing need come of it
     is_checked: bool = False
@@ -95,16 +95,22 @@ def words_of(line, text):
     return words
 
 
+def span(text):
+    """The numbers of a repetition: N from 0 on, or those from one to another."""
+    first, _, last = text.partition("..")
+    return range(int(first), int(last) + 1) if last else range(int(first))
+
+
 def texts_of(line, text):
     """The texts after the mark of a line, each with the newline that ends it or with none. That of `>..` or `!..` is `..`."""
     if text in (">..", "!.."):
         return [".."]
-    found = re.fullmatch(r".(?:(-)|\* ([0-9]+))?(?: (.*))?", text)
+    found = re.fullmatch(r".(?:(-)|\* ([0-9.]+))?(?: (.*))?", text)
     if not found:
         raise Mistake(line, f"unknown line: {text}")
     is_last, times, rest = found[1], found[2], spread(found[3] or "")
     if times:
-        return [numbered(rest, number) + "\n" for number in range(int(times))]
+        return [numbered(rest, number) + "\n" for number in span(times)]
     return [rest if is_last else rest + "\n"]
 
 
@@ -226,12 +232,18 @@ def requests_of(line, text):
 
 # --- cases
 
+# a line that makes several files
+REPEATED = re.compile(r"(names|cut|same|sized)\* ([0-9.]+)( .*)")
+
+
 class Reader:
     """Reads the lines of one case."""
 
     def __init__(self):
         self.parts = [Part()]
         self.owner = None
+        # commands of which the same comes as of the next one
+        self.alike = []
 
     def step(self, line, text):
         """The command that a line is about."""
@@ -240,6 +252,13 @@ class Reader:
         return self.parts[-1].steps[-1]
 
     def take(self, line, text):
+        found = REPEATED.match(text)
+        for number in span(found[2]) if found else ():
+            self.take(line, numbered(found[1] + found[3], number))
+        if not found:
+            self.take_once(line, text)
+
+    def take_once(self, line, text):
         word = text[0] if text[0] in "$<>!|" else text.partition(" ")[0]
         if word != "|":
             self.owner = None
@@ -266,10 +285,14 @@ class Reader:
         words = words_of(line, command)
         if not words or words[0].decode("latin-1") not in PROGRAMS:
             raise Mistake(line, f"not one of the programs: {command}")
+        if status == "&":
+            self.alike.append((line, words))
+            return
         if status and not status.isdigit():
             raise Mistake(line, f"unknown line: {text}")
         self.end_step()
-        self.parts[-1].steps.append(Step(line, words, int(status or 0), bool(status)))
+        self.parts[-1].steps.append(Step(line, [*self.alike, (line, words)], int(status or 0), bool(status)))
+        self.alike = []
 
     def take_text(self, line, text):
         step = self.step(line, text)
@@ -316,6 +339,8 @@ class Reader:
 
     def end_part(self, line):
         self.end_step()
+        if self.alike:
+            raise Mistake(self.alike[0][0], "no command after this one")
         part = self.parts[-1]
         if not part.steps and all(plan.word != "state" for plan in part.plans):
             raise Mistake(line, "no command")

@@ -127,37 +127,37 @@ def planned(item):
     return word.encode(), name, str(count).encode()
 
 
-def watched(step, plans, directory, given):
+def watched(line, words, plans, directory, given):
     """Runs a command that is watched, and returns what came of it and what it asked for."""
     plans = {item.line: planned(item) for item in plans}
     try:
         watch = Watch(plans.values())
-        came = run(step.line, step.words, directory, given, watch.environment())
+        came = run(line, words, directory, given, watch.environment())
         requests = watch.requests()
     except NotWatched as why:
-        raise Mistake(step.line, str(why)) from None
-    for line, plan in plans.items():
+        raise Mistake(line, str(why)) from None
+    for place, plan in plans.items():
         if is_memory(plan[1]) and not watch.is_reached(plan[1]):
-            raise Mistake(line, "the command makes fewer requests for memory")
+            raise Mistake(place, "the command makes fewer requests for memory")
     return came, requests
 
 
-def play_step(step, plans, directory):
+def play_command(step, line, words, plans, directory):
     """Runs a command, of whose requests some are refused, and checks what comes of it."""
     before = snapshot(directory)
     given = b"".join(text for _, text in step.given)
     if step.asked or plans:
-        came, requests = watched(step, plans, directory, given)
+        came, requests = watched(line, words, plans, directory, given)
     else:
-        came, requests = run(step.line, step.words, directory, given), []
-    check_output(step.line, "standard error", step.error, came.err)
-    check_output(step.line, "standard output", step.output, came.out)
+        came, requests = run(line, words, directory, given), []
+    check_output(line, "standard error", step.error, came.err)
+    check_output(line, "standard output", step.output, came.out)
     if came.status != step.status:
-        raise differ(step.line, "status", step.status, came.status)
+        raise differ(line, "status", step.status, came.status)
     check_files(step, before, snapshot(directory))
-    line, asked = step.asked or (step.line, requests)
+    place, asked = step.asked or (line, requests)
     if requests != asked:
-        raise differ(line, "asked", shown(b", ".join(asked), 2000), shown(b", ".join(requests), 2000))
+        raise differ(place, "asked", shown(b", ".join(asked), 2000), shown(b", ".join(requests), 2000))
 
 
 # --- states of sessions
@@ -255,7 +255,8 @@ def play_part(part, folder):
             write(os.path.join(os.fsencode(directory), name), data)
         for place, step in enumerate(part.steps):
             play_states(part, place, directory)
-            play_step(step, [item for item in part.plans if item.word != "state" and item.place <= place], directory)
+            for line, words in step.commands:
+                play_command(step, line, words, [item for item in part.plans if item.word != "state" and item.place <= place], directory)
         play_states(part, len(part.steps), directory)
 
 
@@ -273,7 +274,7 @@ def reason(part, is_packaged):
     if is_packaged and (part.plans or any(step.asked for step in part.steps)):
         return "requests that are watched"
     refuses_memory = any(plan.word == "refuse" and plan.arguments[0] == "memory" for plan in part.plans)
-    return "requests for memory" if refuses_memory and any(is_script(step.words[0]) for step in part.steps) else None
+    return "requests for memory" if refuses_memory and any(is_script(words[0]) for step in part.steps for _, words in step.commands) else None
 
 
 class Run:

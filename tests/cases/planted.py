@@ -99,7 +99,7 @@ def there_are():
 
 def programs_of(text):
     """The programs that a case runs. A state is that of libv7."""
-    found = set(re.findall(r"^\$\d* (\S+)", text, re.M))
+    found = set(re.findall(r"^\$[\d&]* (\S+)", text, re.M))
     return found | {"libv7"} if re.search(r"^state\b", text, re.M) else found
 
 
