@@ -19,6 +19,8 @@ import subprocess
 import sys
 import tempfile
 
+from tests.cases.case_format import Mistake, cases_in, read_case
+from tests.cases.cases import check_output
 from tests.lib.files import TOP, read, read_bytes, write
 from tests.lib.programs import ran
 from tests.lib.rattle import functions, items
@@ -166,11 +168,33 @@ def runtime(work, name, folder):
 
 # --- replaying
 
+def excerpts():
+    """The steps of cases that show an excerpt of an output, by their commands and their input."""
+    found = collections.defaultdict(list)
+    for case in (read_case(lines) for path in glob.glob(f"{TOP}/tests/cases/data/*.case") for lines in cases_in(path)):
+        for step in (step for part in case.parts for step in part.steps):
+            if any(text == b".." for _, text in step.output + step.error):
+                for _, words in step.commands:
+                    found[b"\0".join([*words, b"".join(text for _, text in step.given)])].append(step)
+    return found
+
+
+def agrees(step, done):
+    """Whether outputs are as a case has them."""
+    try:
+        check_output(0, "", step.error, done.stderr)
+        check_output(0, "", step.output, done.stdout)
+    except Mistake:
+        return False
+    return True
+
+
 class Commands:
-    """Recorded commands, each of which is played in a folder of its own, below one that no other process has."""
+    """Recorded commands, each of which is played in a folder of its own, below one that no other process has. Of a command of which a case
+    shows an excerpt, only that counts."""
 
     def __init__(self, recorded, programs, top):
-        self.programs, self.files, self.top, lines = programs, f"{recorded}/files", top, {}
+        self.programs, self.files, self.top, self.excerpts, lines = programs, f"{recorded}/files", top, excerpts(), {}
         for path in sorted(glob.glob(f"{recorded}/*.commands")):
             own = read(path).splitlines()
             lines.update(dict.fromkeys(own[::1 if "cases" in path else max(1, len(own) // MOST_REPLAYED)]))
@@ -188,14 +212,17 @@ class Commands:
         if not os.path.exists(folder):
             self.fill(at, folder)
         name, *words = [it.encode("latin-1") for it in command["words"]]
+        given = command["given"].encode("latin-1")
         environment = {"MUTANT": f"{command['words'][0]}:{mutant}", **({"REACHED": reached} if reached else {})}
         try:
             done = subprocess.run([name, *words], executable=os.path.join(os.fsencode(self.programs), name), cwd=folder, env=environment,
-                                  input=command["given"].encode("latin-1"), capture_output=True, timeout=SECONDS, check=False)
+                                  input=given, capture_output=True, timeout=SECONDS, check=False)
         except subprocess.TimeoutExpired:
             self.fill(at, folder)
             return None
-        whole, is_changed = hashlib.sha256(b"%d %d\n" % (done.returncode, len(done.stdout)) + done.stdout + done.stderr), False
+        is_shown = any(agrees(step, done) for step in self.excerpts[b"\0".join([name, *words, given])])
+        shown = b"" if is_shown else b"%d " % len(done.stdout) + done.stdout + done.stderr
+        whole, is_changed = hashlib.sha256(b"%d\n" % done.returncode + shown), False
         paths = sorted(os.path.join(path, name) for path, _, names in os.walk(folder) for name in names)
         for path in paths:
             data, name = read_bytes(path), os.path.relpath(path, folder)
