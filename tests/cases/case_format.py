@@ -294,6 +294,13 @@ class Reader:
         self.parts[-1].steps.append(Step(line, [*self.alike, (line, words)], int(status or 0), bool(status)))
         self.alike = []
 
+    def take_given(self, line, text):
+        """Takes a line of input, and its answer if that follows."""
+        given, _, answer = text.partition(" > ")
+        self.take_text(line, given)
+        if answer:
+            self.take_text(line, f"> {answer}")
+
     def take_text(self, line, text):
         step = self.step(line, text)
         texts = {"<": step.given, ">": step.output, "!": step.error}[text[0]]
@@ -347,7 +354,7 @@ class Reader:
 
 
 # what takes a line within a case, by the word or the mark at its front
-TAKEN_BY = {"--": Reader.take_end, "$": Reader.take_command, "<": Reader.take_text, ">": Reader.take_text, "!": Reader.take_text,
+TAKEN_BY = {"--": Reader.take_end, "$": Reader.take_command, "<": Reader.take_given, ">": Reader.take_text, "!": Reader.take_text,
             "|": Reader.take_block, "object*": Reader.take_objects, "asked": Reader.take_asked,
             **dict.fromkeys(FORMS, Reader.take_form)}
 
