@@ -13,6 +13,7 @@ import sys
 from contextlib import contextmanager
 from dataclasses import dataclass, replace
 
+from tests.lib.objects import pack
 from tests.lib.programs import FAULTS
 
 # The types of symbols. Those of a segment, and ABSOLUTE, also name what a word refers to.
@@ -96,14 +97,8 @@ def read_file(contents):
 
 def write_file(file):
     """The bytes of the file."""
-    header = struct.pack('<8H', file.magic, file.size(TEXT), file.size(DATA), file.bss,
-                         SYMBOL_SIZE * len(file.symbols), file.entry, file.unused, file.flag)
-    pairs = file.words[TEXT] + file.words[DATA]
-    words = [word for word, _ in pairs]
-    if file.flag == 0:
-        words += [relocation for _, relocation in pairs]
-    return header + struct.pack(f'<{len(words)}H', *words) + b''.join(
-        struct.pack('<8sHH', symbol.name, symbol.type, symbol.value) for symbol in file.symbols)
+    symbols = [(symbol.name, symbol.type, symbol.value) for symbol in file.symbols]
+    return pack(file.words[TEXT], file.words[DATA], file.bss, symbols, file.magic, file.flag, file.entry, file.unused)
 
 
 def read_object(contents):
