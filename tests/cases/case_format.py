@@ -105,7 +105,7 @@ def texts_of(line, text):
     """The texts after the mark of a line, each with the newline that ends it or with none. That of `>..` or `!..` is `..`."""
     if text in (">..", "!.."):
         return [".."]
-    found = re.fullmatch(r".(?:(-)|\* ([0-9.]+))?(?: (.*))?", text)
+    found = re.fullmatch(r".(?:(-)|\* ([0-9]+(?:\.\.[0-9]+)?))?(?: (.*))?", text)
     if not found:
         raise Mistake(line, f"unknown line: {text}")
     is_last, times, rest = found[1], found[2], spread(found[3] or "")
@@ -233,7 +233,7 @@ def requests_of(line, text):
 # --- cases
 
 # a line that makes several files
-REPEATED = re.compile(r"(names|cut|same|sized)\* ([0-9.]+)( .*)")
+REPEATED = re.compile(r"(names|cut|same|sized)\* ([0-9]+(?:\.\.[0-9]+)?)( .*)")
 
 
 class Reader:
@@ -247,7 +247,7 @@ class Reader:
 
     def step(self, line, text):
         """The command that a line is about."""
-        if not self.parts[-1].steps:
+        if not self.parts[-1].steps or self.alike:
             raise Mistake(line, f"before any command: {text}")
         return self.parts[-1].steps[-1]
 
@@ -333,8 +333,9 @@ class Reader:
         elif not part.steps and item.word not in ONLY_CHECKED:
             part.files_before.append(item)
         elif part.steps and item.word not in ONLY_MADE:
-            part.steps[-1].files.append(item)
-            part.steps[-1].is_checked = True
+            step = self.step(item.line, item.word)
+            step.files.append(item)
+            step.is_checked = True
         else:
             hint = "before the commands of a part; -- begins a new part" if part.steps else "after a command"
             raise Mistake(item.line, f"{item.word} comes {hint}")
