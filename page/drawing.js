@@ -37,7 +37,7 @@ function rowOfPlace(state, id) {
 // the id of the place of a name; "" if it has none
 function placeOfName(state, { i, kind, number }) {
     const symbol = isLinked(state) ? symbolOf(state, i, view.layout) : { letter: "" };
-    if (kind === "common") return "UC".includes(symbol.letter) ? "" : `common-${symbol.value}`;
+    if (kind === "common") return hasAddress(symbol) ? `common-${symbol.value}` : "";
     if (kind === "undefined") return { T: "text-end", D: "data-end", B: "bss-end" }[symbol.letter] ?? "";
     if (!SEGMENTS.includes(kind)) return "";
     const size = sizeOf(state, kind);
@@ -48,7 +48,7 @@ function placeOfName(state, { i, kind, number }) {
 // the id of the place that is chosen: that of the word, or of the definition of the name
 function chosenPlace(state) {
     if (!chosen.startsWith("name ")) return chosen;
-    const found = namesOf(state).find(({ name }) => chosen === `name ${name}`);
+    const found = state.byName.get(chosen.slice(5));
     return found ? placeOfName(state, found) : "";
 }
 
@@ -59,15 +59,17 @@ function chosenName(state) {
     return word && word.kind < 0 ? word.name : "";
 }
 
-// all words that refer to something, with the place that each refers to
+// all words that refer to something, with the place that each refers to, and whether it waits
 function allReferences(state) {
-    const layout = isLinked(state) ? view.layout : -1;
-    return state.list.flatMap((number, place) =>
-        PARTS.flatMap((part) => [...DATA.objects[number].references[part]].map(([index, reference]) => {
-        const id = keyAt(state, place, part, index);
-        const to = placeOf(state, state.referenceStarts[place] + reference.number, layout);
-        return { place, part, index, id, to, name: DATA.objects[number].groups[reference.group].name };
-    })));
+    const layout = layoutOf(state);
+    state.references ??= new Map();
+    if (!state.references.has(layout)) state.references.set(layout, state.list.flatMap((number, place) =>
+        PARTS.flatMap((part) => DATA.objects[number].references[part].map((index) => {
+            const offset = state.fronts[place][part] + 2 * index;
+            return { place, part, index, id: wordKey(part, offset), to: placeOf(state, part, offset, layout),
+                name: ownWord(DATA.objects[number], part, index).name, waits: state.words[part][offset / 2].target === "external" };
+        }))));
+    return state.references.get(layout);
 }
 
 // the words that refer to what is chosen, and the chosen word if it refers to something; none if nothing is chosen
@@ -91,7 +93,7 @@ function bundles(state, references) {
     const found = { arrows: new Map(), chains: new Map() };
     for (const one of references) {
         const [row, target] = [rowAt(one.place, one.part, one.id), rowOfPlace(state, one.to)];
-        const isLine = !one.to && one.name && view.layout < 0 && isWaiting(state, one);
+        const isLine = one.waits && view.layout < 0;
         if (!row || !(target || isLine)) continue;
         const [all, key] = isLine ? [found.chains, one.name] : [found.arrows, target];
         if (!all.has(key)) all.set(key, { key, rows: [], count: 0, rank: one.rank, places: isLine ? [] : [order.get(target)] });

@@ -21,11 +21,11 @@ const wordOf = (state, key) => (isWordKey(key) ? wordAt(state, key.split("-")[0]
 // the names at the words, by the place of the object, the segment and the index; one that counts for nothing is told apart
 function labelsOf(state) {
     const labels = new Map();
-    const known = new Map(namesOf(state).map((name) => [name.name, name]));
-    state.list.forEach((object, place) => PARTS.forEach((part, which) => {
+    const known = state.byName;
+    state.list.forEach((object, place) => PARTS.forEach((part) => {
         for (const { index, isExternal, name } of DATA.objects[object].labels[part]) {
             const key = `${place} ${part} ${index}`;
-            const offset = state.fronts[place][which] + 2 * index;
+            const offset = state.fronts[place][part] + 2 * index;
             const counts = !isExternal || (known.get(name)?.kind === part && known.get(name).number === offset);
             labels.set(key, [...(labels.get(key) ?? []), counts ? ["span", "label", `${name}:`] : ["s", "label unused", `${name}:`]]);
         }
@@ -41,7 +41,7 @@ function labelsOf(state) {
 }
 
 // the size of a segment in bytes
-const sizeOf = (state, segment) => (segment === "bss" ? state.sizes[2] : 2 * (state.sizes[PARTS.indexOf(segment)] ?? 0));
+const sizeOf = (state, segment) => state.sizes[segment] ?? 0;
 
 // ---- rows
 // the row of a word, in a state or cut off by its withdrawal
@@ -100,7 +100,7 @@ function objectRows(context, place, part) {
 // the labels at places that are no words, by the ids of these
 function namedSpots(state) {
     const named = new Map();
-    for (const one of namesOf(state)) {
+    for (const one of state.names) {
         const id = placeOfName(state, one);
         if (id && !isWordKey(id)) named.set(id, [...(named.get(id) ?? []), ["span", "label", `${one.name}:`]]);
     }
@@ -166,7 +166,7 @@ function imageContext(state, changed) {
     };
 }
 
-const wordsIn = (full) => full.sizes[0] + full.sizes[1];
+const wordsIn = ({ sizes }) => (sizes.text + sizes.data) / 2;
 
 // the objects that are not folded in the whole image: all, if they are small, or those with what changed or is chosen
 function openPlaces({ full, changed }) {
@@ -187,7 +187,7 @@ function wholeGroups(context) {
             partRows(context, part)));
     }
     if (bases && bases[2] < bases[3]) groups.push(roomGroup(context, "commons", "common", bases.slice(2, 4)));
-    if (full.sizes[2] > 0) groups.push(roomGroup(context, "bss", "bss", bases?.slice(3, 5)));
+    if (full.sizes.bss > 0) groups.push(roomGroup(context, "bss", "bss", bases?.slice(3, 5)));
     const outside = [...context.spots].filter((id) => id.startsWith("outside-"));
     if (outside.length > 0) groups.push(groupElement("outside", null, null, outside.map((id) => spotRow(context, id))));
     return groups;

@@ -1,5 +1,5 @@
 // A file of lessons, each line of which is checked against the objects as it is read: its numbers in braces, and the answers that it gives.
-// What comes are the lines as lesson.js takes them, with numbers and answers computed.
+// What comes are the steps of the lessons, with numbers and answers computed.
 "use strict";
 
 // what is wrong with a file of lessons
@@ -17,26 +17,17 @@ function wordNamed(text) {
     const offset = octalOf(digits);
     return PARTS.includes(part) && offset !== null && offset % 2 === 0 ? { part, offset } : null;
 }
-const cellAt = (state, word) => word && state.raw[word.part][word.offset / 2];
-const nameIn = (state, name) => state.raw.byName.get(name.slice(0, 8));
-const changedIn = (state) => state.marks.filter((mark) => mark[0] !== "name").map((mark) => wordKey(mark[0], mark[1]));
+const cellAt = (state, word) => word && state.words[word.part][word.offset / 2];
+const nameIn = (state, name) => state.byName.get(name.slice(0, 8));
+const wordMarksOf = (state) => state.marks.filter(({ part }) => part);
+const changedIn = (state) => wordMarksOf(state).map(markKey);
 
 // ---- numbers in a text
 // whether a text has a number outside of braces and quotations; digits after a letter belong to a word
 const hasBareNumber = (text) => /[0-9]/.test(text.replace(/"[^"]*("|$)|\{[^}]*(\}|$)/g, "\0").replace(/[A-Za-z_][A-Za-z_0-9.-]*/g, ""));
 
-function relocationAt(state, { part, offset }) {
-    let index = offset / 2;
-    for (const number of state.list) {
-        const object = DATA.objects[number];
-        if (index < object[part].length) return object.relocs[part][index];
-        index -= object[part].length;
-    }
-    return null;
-}
-
 function numberInLink(state, layout, text) {
-    const link = state.linked[layout];
+    const link = state.links[layout];
     const word = wordNamed(text);
     if (text === "text" || text === "data") return startOf(link, text);
     if (link.refused) return null;
@@ -45,7 +36,7 @@ function numberInLink(state, layout, text) {
 }
 // the address of a name, if it has one
 function addressIn(link, name) {
-    const symbol = link.refused ? undefined : link.externals.get(name.slice(0, 8));
+    const symbol = link.refused ? undefined : link.byName.get(name.slice(0, 8));
     return symbol && symbol.type % 32 !== 0 ? symbol.value : null;
 }
 
@@ -57,18 +48,18 @@ function numberOfReference(state, text) {
     const said = (number) => (number === null || number === undefined ? null : { number, part: number });
     const size = (number) => (number === null || number === undefined || number >= WORD ? null : { number, part: sizeText(number) });
     if (LAYOUTS.includes(first)) return said(numberInLink(state, LAYOUTS.indexOf(first), rest));
-    if (first === "size") return size(rest === "bss" ? state.raw.bss : PARTS.includes(rest) ? 2 * state.raw[rest].length : null);
+    if (first === "size") return size(SEGMENTS.includes(rest) ? state.sizes[rest] : null);
     if (first === "reloc") {
-        const reloc = word && relocationAt(state, word);
-        return reloc === null ? null : { number: reloc, part: `${reloc > 0 ? "0" : ""}${reloc.toString(8)}` };
+        const reloc = word && wordAt(state, word.part, word.offset)?.own.reloc;
+        return (reloc ?? null) === null ? null : { number: reloc, part: `${reloc > 0 ? "0" : ""}${reloc.toString(8)}` };
     }
     if (PARTS.includes(first)) return said(cellAt(state, wordNamed(text))?.value);
-    if (first === "was") return said(cell && state.marks.find((mark) => mark[0] === word.part && mark[1] === word.offset)?.[2]);
+    if (first === "was") return said(cell && marksOf(state).get(wordKey(word.part, word.offset))?.value);
     const place = cell && { at: word.offset, after: word.offset + 2, before: -placeMeant(cell, word.offset) }[first];
     if (["at", "after", "before"].includes(first)) return said(cell && modulo(place));
     const name = nameIn(state, text);
-    if (!name || name.state === "undefined") return null;
-    return name.state === "common" ? size(name.value) : said(name.value);
+    if (!name || name.kind === "undefined") return null;
+    return name.kind === "common" ? size(name.number) : said(name.number);
 }
 
 // a text as its parts: texts, and the numbers of references. A number that the file gives has to be the same
@@ -90,64 +81,68 @@ function proseOf(state, text) {
     return rest ? [...parts, rest] : parts;
 }
 
-// ---- answers
-// the answer to what is asked, after a step; a key that is wrong is a fault
-function answerOf({ kind, word, name, before, words, number }, state, layout, changed) {
-    if (kind === "changes") {
-        const other = words.find((one) => !changed.includes(wordKey(one.part, one.offset)));
-        ensure(!other, `the word at ${other?.offset.toString(8)} does not change`);
-        return [kind, ...changed];
-    }
-    const isWord = kind === "value";
-    ensure(isWord || nameIn(state, name), "after the step there is no such name");
-    const value = isWord
-        ? (layout >= 0 ? numberInLink(state, layout, `${word.part} ${word.offset.toString(8)}`) : cellAt(state, word)?.value ?? null)
-        : layout >= 0 ? addressIn(state.linked[layout], name) : nameIn(state, name).state in REFERENTS ? nameIn(state, name).value : null;
-    ensure(!isWord || value !== null, "after the step there is no such word");
-    ensure(number === null || value !== null, "the name is nowhere");
-    ensure(number === null || number === value, `the number is ${value?.toString(8)}`);
-    return isWord ? [kind, wordKey(word.part, word.offset), value, before] : [kind, name, value];
+// ---- questions
+const STEPS = ["add", "withdraw", "link", "image"];
+// a step of a lesson: the question before it, what is done, and what is said after it
+const newStep = () => ({ ask: "", kind: "", answers: [], choices: [], act: null, says: [] });
+
+// what an open question has not yet; `because` is wanted after a wrong answer, and nowhere else
+function missingOf({ kind, choices }) {
+    if (kind !== "choice") return "step";
+    const last = choices[choices.length - 1];
+    if (last && !last.isRight && last.reason.length === 0) return "reason for its wrong answer";
+    return !choices.some(({ isRight }) => isRight) ? "right answer" : choices.every(({ isRight }) => isRight) ? "wrong answer" : "";
 }
 
-// what a question asks of the step after it
-function wantedOf(state, text) {
+// whether a line may begin by this word
+function ensureAllowed(steps, open, word) {
+    ensure(steps.length > 0 || word === "lesson", "no lesson has begun");
+    const what = open ? missingOf(open) : "";
+    const isNext = { step: ["word", "number", ...STEPS], "reason for its wrong answer": ["because"], "": [word] }[what] ?? ["right", "wrong"];
+    ensure(isNext.includes(word), `the question of line ${open?.line} has no ${what}`);
+}
+
+// a question, with what it asks of its step
+function questionOf(state, text, line) {
     const [kind, rest] = firstWord(text);
     const [first, others] = firstWord(rest.trimStart());
-    if (kind === "changes") return { kind, said: rest, words: [], number: null };
+    const question = { ...newStep(), kind: "choice", line, said: text, words: [], given: null };
+    if (kind === "changes") return { ...question, kind, said: rest };
     if (kind === "value") {
         const [digits, said] = firstWord(others.trimStart());
         const word = wordNamed(`${first} ${digits}`);
         ensure(word, "value is followed by text or data, an offset and a text");
-        return { kind, word, before: cellAt(state, word)?.value ?? 0, said, number: null };
+        return { ...question, kind, word: wordKey(word.part, word.offset), before: cellAt(state, word)?.value ?? 0, said };
     }
-    if (kind === "where") {
-        ensure(first, "where is followed by a name and a text");
-        return { kind, name: first.slice(0, 8), said: others, number: null };
+    if (kind !== "where") return question;
+    ensure(first, "where is followed by a name and a text");
+    return { ...question, kind, name: first.slice(0, 8), said: others };
+}
+
+// gives an open question the answer that the state after its step has; one in the file that is wrong is a fault
+function answerQuestion(question, state, layout, changed) {
+    const { kind, word, name, words, given } = question;
+    if (kind === "changes") {
+        const other = words.find((key) => !changed.includes(key));
+        ensure(!other, `the word at ${Number(other?.split("-")[1]).toString(8)} does not change`);
+        question.answers = changed;
+    } else if (kind !== "choice") {
+        const isWord = kind === "value";
+        const known = nameIn(state, name ?? "");
+        ensure(isWord || known, "after the step there is no such name");
+        const text = isWord ? word.replace(/-(.*)/, (_, offset) => ` ${Number(offset).toString(8)}`) : name;
+        const now = isWord ? cellAt(state, wordNamed(text))?.value : known.kind in REFERENTS ? known.number : null;
+        question.number = (layout < 0 ? now : isWord ? numberInLink(state, layout, text) : addressIn(state.links[layout], name)) ?? null;
+        ensure(!isWord || question.number !== null, "after the step there is no such word");
+        ensure(given === null || question.number !== null, "the name is nowhere");
+        ensure(given === null || given === question.number, `the number is ${question.number?.toString(8)}`);
     }
-    return { kind: "", said: text, line: 0 };
 }
 
 // ---- lines
-const STEPS = ["add", "withdraw", "link", "image"];
-
-// what a choice has not yet
-const missingOf = ({ needsReason, hasRight, hasWrong }) =>
-    (needsReason ? "reason for its wrong answer" : !hasRight ? "right answer" : !hasWrong ? "wrong answer" : "");
-
-// why a line may not begin by this word
-function ensureAllowed(begun, word) {
-    const what = begun.kind === "choice" ? missingOf(begun) : begun.kind === "computed" ? "step" : "";
-    const isAllowed = begun.kind === "nothing" ? word === "lesson"
-        : begun.kind === "computed" ? ["word", "number", ...STEPS].includes(word)
-            : begun.kind !== "choice"
-                || (word === "because" ? begun.needsReason : word === "right" || word === "wrong" ? !begun.needsReason : !what);
-    ensure(isAllowed, what ? `the question of line ${begun.line} has no ${what}` : "no lesson has begun");
-}
-
-// the reader of a file: the list of the objects that are there, what is begun, and what is asked of the next step
-function stepOf(reader, word, rest) {
-    const changed = changedIn(stateOf(reader.list));
-    reader.begun = { kind: "lesson" };
+// makes a step: what is done, and the answer to the question before it
+function takeStep(reader, open, word, rest) {
+    const before = changedIn(stateOf(reader.list));
     let act = [word];
     if (word === "add") {
         const object = DATA.objects.find(({ number, path }) => !reader.list.includes(number)
@@ -165,78 +160,68 @@ function stepOf(reader, word, rest) {
         act = [word, LAYOUTS.indexOf(rest)];
     }
     const state = stateOf(reader.list);
-    const lines = [];
-    const changes = word === "add" ? changedIn(state) : word === "withdraw" ? changed : [];
-    if (reader.asked.kind) lines.push(answerOf(reader.asked, state, word === "link" ? act[1] : -1, changes));
-    reader.asked = { kind: "" };
-    return [...lines, act];
+    if (!open) return reader.steps.push({ ...newStep(), act });
+    answerQuestion(open, state, word === "link" ? act[1] : -1, { add: changedIn(state), withdraw: before }[word] ?? []);
+    return Object.assign(open, { act });
 }
 
-function readLine(reader, number, word, rest) {
+function readLine(reader, line, word, rest) {
     const state = stateOf(word === "lesson" ? [] : reader.list);
     const said = (text) => {
         ensure(text, `${word} is followed by a text`);
-        return [word, ...proseOf(state, text)];
+        return proseOf(state, text);
     };
-    ensureAllowed(reader.begun, word);
-    if (STEPS.includes(word)) return stepOf(reader, word, rest);
-    if (word === "lesson") {
-        [reader.list, reader.begun, reader.asked] = [[], { kind: "lesson" }, { kind: "" }];
-        return [said(rest)];
-    }
-    if (word === "say") {
-        reader.begun = { kind: "lesson" };
-        return [said(rest)];
-    }
-    if (word === "ask") {
-        reader.asked = wantedOf(state, rest);
-        reader.begun = { kind: reader.asked.kind ? "computed" : "choice", line: number };
-        return [said(reader.asked.said.trim())];
-    }
-    if (word === "right" || word === "wrong" || word === "because") {
-        ensure(reader.begun.kind === "choice", "an answer to no question");
-        const { hasRight, hasWrong, line } = reader.begun;
-        reader.begun = { kind: "choice", line, hasRight: hasRight || word === "right", hasWrong: hasWrong || word === "wrong",
-            needsReason: word === "wrong" };
-        return [said(rest)];
-    }
-    if (word === "number") {
-        ensure(["value", "where"].includes(reader.asked.kind), "an answer to no question");
-        reader.asked.number = octalOf(rest);
-        ensure(reader.asked.number !== null, `there is no number ${rest}`);
+    const now = reader.steps[reader.steps.length - 1];
+    const open = now?.ask && !now.act && now.says.length === 0 ? now : null;
+    ensureAllowed(reader.steps, open, word);
+    if (STEPS.includes(word)) takeStep(reader, open, word, rest);
+    else if (word === "lesson") {
+        Object.assign(reader, { list: [], steps: [newStep()] });
+        reader.lessons.push({ title: prose(said(rest)), steps: reader.steps });
+    } else if (word === "say") now.says.push(said(rest));
+    else if (word === "ask") {
+        const question = questionOf(state, rest, line);
+        reader.steps.push({ ...question, ask: said(question.said.trim()) });
+    } else if (word === "right" || word === "wrong" || word === "because") {
+        ensure(open && (word !== "because" || missingOf(open).startsWith("reason")), "an answer to no question");
+        if (word === "because") open.choices[open.choices.length - 1].reason = said(rest);
+        else open.choices.push({ text: said(rest), isRight: word === "right", reason: [] });
+    } else if (word === "number") {
+        ensure(["value", "where"].includes(open?.kind), "an answer to no question");
+        open.given = octalOf(rest);
+        ensure(open.given !== null, `there is no number ${rest}`);
     } else if (word === "word") {
-        ensure(reader.asked.kind === "changes", "an answer to no question");
-        ensure(cellAt(state, wordNamed(rest)), `there is no word ${rest}`);
-        reader.asked.words.push(wordNamed(rest));
+        ensure(open?.kind === "changes", "an answer to no question");
+        const named = wordNamed(rest);
+        ensure(cellAt(state, named), `there is no word ${rest}`);
+        open.words.push(wordKey(named.part, named.offset));
     } else ensure(false, `${word} begins no line of a lesson`);
-    return [];
 }
 
-// the lines of a file, as lesson.js takes them; a mistake has its line
-function lessonLines(text) {
-    const reader = { list: [], begun: { kind: "nothing" }, asked: { kind: "" } };
-    const lines = [];
+// the lessons of a file, each with its steps; the first step of a lesson is what it says at its beginning. A mistake has its line
+function lessonsIn(text) {
+    const reader = { list: [], lessons: [], steps: [] };
     text.split("\n").forEach((line, index) => {
         const [word, rest] = firstWord(line.trim());
         if (!word || word.startsWith("#")) return;
         try {
-            lines.push(...readLine(reader, index + 1, word, rest.trim()));
+            readLine(reader, index + 1, word, rest.trim());
         } catch (fault) {
             if (!(fault instanceof Mistake)) throw fault;
             throw new Mistake(`line ${index + 1}: ${fault.message}`);
         }
     });
-    const missing = reader.begun.kind === "choice" ? missingOf(reader.begun) : reader.begun.kind === "computed" ? "step" : "";
-    ensure(!missing, `line ${reader.begun.line}: the question has no ${missing}`);
-    return lines;
+    const now = reader.steps[reader.steps.length - 1];
+    const missing = now?.ask && !now.act && now.says.length === 0 ? missingOf(now) : "";
+    ensure(!missing, `line ${now?.line}: the question has no ${missing}`);
+    return reader.lessons;
 }
 
 // takes lessons about the objects that are there: why there are none then, or nothing
 function takeLessons(text) {
-    [DATA.lessons, DATA.lessonsText] = [[], ""];
+    Object.assign(DATA, { lessons: [], lessonsText: "" });
     try {
-        DATA.lessons = lessonLines(text);
-        DATA.lessonsText = text;
+        Object.assign(DATA, { lessons: lessonsIn(text), lessonsText: text });
         return "";
     } catch (fault) {
         if (!(fault instanceof Mistake)) throw fault;

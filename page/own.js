@@ -56,8 +56,7 @@ function bringObject(path, bytes) {
     const object = objectOf(path, found);
     const at = DATA.objects.findIndex((_, number) => label(number) === path.replace(/^.*\//, ""));
     const number = at < 0 ? DATA.objects.length : at;
-    prepare(object, number);
-    DATA.objects[number] = object;
+    DATA.objects[number] = Object.assign(object, { number });
     makeOwn(at < 0);
     return "";
 }

@@ -40,7 +40,7 @@ function broughtParts({ full }, isAll) {
     if (isAll) return parts.map((part) => ({ title: `${label(object.number)}, ${part}`, groups: [allOf(part)] }));
     const names = PARTS.flatMap((part) =>
         keysOf(part, [...new Set(object.labels[part].filter((one) => one.isExternal).map(({ index }) => index))]));
-    const waits = allReferences(full).filter((one) => one.place === place && !one.to && one.name && isWaiting(full, one))
+    const waits = allReferences(full).filter((one) => one.place === place && !one.to && one.waits)
         .map(({ id }) => id);
     return [
         { title: `${label(object.number)} defines`, groups: names.length > 0 ? [{ ...newGroup("names", "", names), isPlain: true }] : [] },
@@ -96,7 +96,7 @@ function questionParts({ state }, wait, shown) {
     if (wait.kind === "value") return [{ title: "The word in question",
         groups: groupsOf(state, [wait.word].filter((key) => !shown.has(key))) }];
     if (wait.kind !== "changes") return [];
-    const waiting = allReferences(state).filter((one) => isWaiting(state, one) && !wait.answers.includes(one.id)).map(({ id }) => id);
+    const waiting = allReferences(state).filter((one) => one.waits && !wait.answers.includes(one.id)).map(({ id }) => id);
     const count = Math.max(6, wait.answers.length);
     const some = waiting.filter((_, i) => waiting.length <= count
         || Math.floor((i * count) / waiting.length) !== Math.floor(((i - 1) * count) / waiting.length));

@@ -1,8 +1,7 @@
-// The states of a session: what the page shows of them, from the linker's session, its links, and the objects. A state is computed when it
-// is wanted, and then kept.
+// The objects and the states of a session: what the page shows of them, from the linker's session, and its links. A state is computed when
+// it is wanted, and then kept.
 "use strict";
 
-const ALL_PARTS = ["text", "data", "bss"];
 const REFERENTS = { number: 0, text: 1, data: 2, bss: 3 };
 // the options of the links that are shown
 const LINK_OPTIONS = [0, 16, 32, 1];
@@ -25,9 +24,9 @@ function branchOf(word, index) {
     return (word & 0o074000) === 0 && (word & 0o103400) !== 0 ? modulo(2 * index + 2 + 2 * ((word & 255) - 2 * (word & 128))) : -1;
 }
 
-// the instructions of a text by their first words, those to which an address ends the line, and the words that are operands
-function decodedOf(bytes, file) {
-    const [instructions, branches, starts] = [{}, {}, new Set()];
+// the instructions of a text by their first words, those to which an address ends the line, and for each word the first of its instruction
+function decodedOf(bytes, words) {
+    const [instructions, branches, starts] = [{}, {}, new Set([0])];
     let index = -1;
     for (const line of LINKER.disassemble(bytes).split("\n")) {
         // of many words 0 all but the first are one line
@@ -42,54 +41,63 @@ function decodedOf(bytes, file) {
         // a word that begins no instruction is itself
         if (/^[0-7]{6}$/.test(text)) continue;
         instructions[index] = text;
-        const target = branchOf(file.text[index][0], index);
+        const target = branchOf(words[index], index);
         if ([" ", ","].some((before) => text.endsWith(before + target.toString(8)))) branches[index] = target;
     }
-    return { instructions, branches, operands: file.text.map((_, i) => i).filter((i) => !starts.has(i)) };
+    const units = [];
+    words.forEach((_, i) => units.push(starts.has(i) ? i : units[i - 1]));
+    return { instructions, branches, units };
 }
 
 const isOfText = (byte) => byte === 0 || byte === 9 || byte === 10 || (byte >= 32 && byte < 127);
-// the words of data that are texts: the index after the last word of each, how many words it has, and its bytes
+// the texts in words of data, by the index of the first word of each
 function textsIn(words) {
-    const texts = [];
+    const texts = new Map();
     let first = 0;
     for (let next = 0; next <= words.length; next++) {
         const [word, reloc] = words[next] ?? [0, 0];
         if (!refers(reloc) && word & 255 && isOfText(word & 255) && isOfText(word >> 8)) continue;
-        if (next - first >= 2) texts.push([next, next - first,
-            words.slice(first, next).map(([one]) => String.fromCharCode(one & 255, one >> 8)).join("")]);
+        if (next - first >= 2) texts.set(first, words.slice(first, next).map(([one]) => String.fromCharCode(one & 255, one >> 8)).join(""));
         first = next + 1;
     }
     return texts;
 }
 
+// for each word of data the first word of its text; a word of no text is alone
+function unitsOfData(words, strings) {
+    const starts = words.map((_, index) => index);
+    for (const [start, text] of strings) starts.fill(start, start, start + text.length / 2);
+    return starts;
+}
+
+// the functions of a segment, or its variables: each from one label to the next
+function piecesOf(words, labels) {
+    const starts = [...new Set([0, ...labels.map(({ index }) => index)])].filter((index) => index < words.length).sort((a, b) => a - b);
+    return starts.map((start, i) => ({ start, end: starts[i + 1] ?? words.length }));
+}
+
+// the names that an object defines in a segment
+function labelsIn({ symbols }, part, start) {
+    const all = symbols.filter(({ type }) => ({ 2: "text", 3: "data" }[type % 32]) === part);
+    return all.map(({ name, type, value }) => ({ index: modulo(value - start) >> 1, isExternal: (type & 32) !== 0, name }))
+        .sort((a, b) => a.index - b.index);
+}
+
+const byPart = (of) => Object.fromEntries(PARTS.map((part) => [part, of(part)]));
+
 // an object as the page wants it; bytes that are no object are a fault
 function objectOf(path, bytes) {
     LINKER.check(bytes);
     const file = LINKER.read(bytes);
-    const starts = { text: 0, data: 2 * file.text.length, bss: 2 * (file.text.length + file.data.length) };
-    const [groups, keys, references] = [[], new Map(), { text: [], data: [] }];
-    for (const part of ["text", "data"]) {
-        file[part].forEach(([word, reloc], index) => {
-            if (!refers(reloc)) return;
-            const key = `${part} ${reloc}`;
-            if (!keys.has(key)) {
-                keys.set(key, groups.length);
-                groups.push([(reloc & 14) === 8 ? file.symbols[reloc >> 4].name : (reloc & 14) >> 1, reloc]);
-            }
-            references[part].push([index, keys.get(key), reloc & 1 ? modulo(word + starts[part] + 2 * index + 2) : word]);
-        });
-    }
-    const segmentOf = ({ type }) => ({ 2: "text", 3: "data" }[type % 32]);
-    const labels = file.symbols.filter(segmentOf)
-        .map((one) => [segmentOf(one), modulo(one.value - starts[segmentOf(one)]) >> 1, (one.type & 32) !== 0, one.name]);
+    const sizes = { text: 2 * file.text.length, data: 2 * file.data.length, bss: file.bss };
+    const starts = { text: 0, data: sizes.text, bss: sizes.text + sizes.data };
+    const [words, labels] = [byPart((part) => file[part].map(([word]) => word)), byPart((part) => labelsIn(file, part, starts[part]))];
+    const [{ instructions, branches, units }, strings] = [decodedOf(bytes, words.text), textsIn(file.data)];
     return {
-        path, bytes, relocs: { text: file.text.map(([, reloc]) => reloc), data: file.data.map(([, reloc]) => reloc) },
-        at: [0, starts.data], text: file.text.map(([word]) => word), data: file.data.map(([word]) => word), bss: file.bss, groups,
-        textReferences: references.text, dataReferences: references.data, labels, texts: textsIn(file.data),
-        symbols: file.symbols.map(lineOfSymbol),
-        ...decodedOf(bytes, file), localCount: file.symbols.filter(({ type }) => !(type & 32)).length, starts,
-        sizes: { text: starts.data, data: starts.bss - starts.data, bss: file.bss },
+        path, bytes, starts, sizes, ...words, bss: file.bss, relocs: byPart((part) => file[part].map(([, reloc]) => reloc)),
+        references: byPart((part) => file[part].flatMap(([, reloc], index) => (refers(reloc) ? [index] : []))),
+        table: file.symbols, symbols: file.symbols.map(lineOfSymbol), labels, instructions, branches, strings,
+        units: { text: units, data: unitsOfData(words.data, strings) }, pieces: byPart((part) => piecesOf(words[part], labels[part])),
     };
 }
 
@@ -137,10 +145,9 @@ function foundAt({ bases: [text, start, data, bss, end], isSplit }, inText, at) 
 }
 
 function linkPlace(link, cell, part, offset) {
-    if (link.refused) return "";
     const address = modulo(startOf(link, part) + offset);
     const meant = placeMeant({ value: link[part][offset / 2][0], pc: cell.pc }, address);
-    const segment = cell.target === "external" ? { 2: "text", 3: "data", 4: "bss" }[link.externals.get(cell.name).type % 32] : cell.target;
+    const segment = cell.target === "external" ? { 2: "text", 3: "data", 4: "bss" }[link.byName.get(cell.name).type % 32] : cell.target;
     const [text, start, data, , end] = link.bases;
     const bounds = { text: [0, text], data: [start, data], bss: [data, end] }[segment];
     if (bounds) return bounds[0] < meant && meant === bounds[1] ? `${segment}-end` : foundAt(link, segment === "text", meant);
@@ -150,79 +157,55 @@ function linkPlace(link, cell, part, offset) {
 // the address at which a segment with words begins; 0 if data begins later than all addresses
 const startOf = ({ bases }, part) => (part === "data" && bases[1] < WORD ? bases[1] : 0);
 
-// ---- the records of a state
-function linkOf(list, options, count) {
+// the id of the row of the place that a word refers to, in the image (-1) or in a link; "" if there is none
+function placeOf(state, part, offset, layout) {
+    const [cell, link] = [state.words[part][offset / 2], state.links[layout]];
+    return link && !link.refused ? linkPlace(link, cell, part, offset) : imagePlace(cell, offset, state.sizes);
+}
+
+// ---- states
+function linkOf(list, options, bss, count) {
+    const isSplit = options === 32;
     try {
         const { file, report } = current.link({ options, entry: ASKED.entry });
         const read = LINKER.read(file);
         const [text, data] = [2 * read.text.length, 2 * read.data.length];
-        const start = options === 16 ? Math.ceil(text / 0o20000) * 0o20000 : options === 32 ? 0 : text;
-        const bss = list.reduce((sum, object) => sum + DATA.objects[object].bss, 0);
+        const start = options === 16 ? Math.ceil(text / 0o20000) * 0o20000 : isSplit ? 0 : text;
         const end = start + data + read.bss;
         const externals = read.symbols.slice(read.symbols.length - count);
-        return { ...read, bases: [text, start, start + data, end - bss, end], report, isSplit: options === 32,
-            externals: new Map(externals.map((one) => [one.name, one])), externalList: externals };
+        return { ...read, bases: [text, start, start + data, end - bss, end], report, isSplit, externals,
+            byName: new Map(externals.map((one) => [one.name, one])) };
     } catch (fault) {
         if (endsLinker(fault) || !(fault instanceof Fault)) throw fault;
         const bases = LINKER.mapOf(list.map((object) => DATA.objects[object].bytes), { options, forced: ASKED.forced });
-        return { refused: fault.message, bases, isSplit: options === 32 };
+        return { refused: fault.message, bases, isSplit };
     }
 }
 
-function markRecord(mark, raw) {
-    if (!mark.segment) return ["name", mark.name, mark.was.state, mark.was.value];
-    const { segment, offset, was } = mark;
-    const name = was.target === "external" ? raw.byName.get(was.name) : null;
-    const start = [segment, offset, was.value, was.pc, was.target === "external" ? was.name : REFERENTS[was.target],
-        placeMeant(was, offset)];
-    return name && name.state in REFERENTS ? [...start, name.value, raw[segment][offset / 2].value] : [...start, null];
-}
-
-// for the words of an object that refer to something: the records of their groups, and the place of each
-function wordRecords(object, front, raw, links) {
-    const groups = [];
-    const places = [];
-    for (const part of ["text", "data"]) {
-        for (const [index, group, meant] of object[`${part}References`]) {
-            const [offset, word] = [front[part] + 2 * index, object[part][index]];
-            const cell = raw[part][offset / 2];
-            if (!groups[group]) {
-                const sums = links.flatMap((link) => {
-                    const minus = cell.pc ? modulo(startOf(link, part) + front[part] - object.starts[part]) : 0;
-                    const last = link.refused ? word : link[part][offset / 2][0];
-                    return [modulo(last - word + minus), minus];
-                });
-                groups[group] = [modulo(cell.value - word), modulo(placeMeant(cell, offset) - meant), cell.target === "external"
-                    ? cell.name : REFERENTS[cell.target], ...sums];
-            }
-            places.push([imagePlace(cell, offset, raw.sizes), ...links.map((link) => linkPlace(link, cell, part, offset))]);
-        }
-    }
-    return { groups, places };
+// a mark: the word or the name that was overwritten; of a word also what was added to it, and what it is now
+function markOf({ segment: part = "", offset, name, was }, words, byName) {
+    if (!part) return { part, name, kind: was.state, number: was.value };
+    const by = was.target === "external" ? byName.get(was.name) : null;
+    const isBound = by && by.kind in REFERENTS;
+    return { part, offset, value: was.value, pc: was.pc, meant: placeMeant(was, offset), name: by?.name ?? "",
+        kind: REFERENTS[was.target] ?? -1, bound: isBound ? by.number : null, now: isBound ? words[part][offset / 2].value : null };
 }
 
 function computed(list) {
     reach(list);
     const raw = current.state();
-    raw.sizes = { text: 2 * raw.text.length, data: 2 * raw.data.length, bss: raw.bss };
-    raw.byName = new Map(raw.externals.map((one) => [one.name, one]));
-    const links = LINK_OPTIONS.map((options) => linkOf(list, options, raw.externals.length));
-    const objects = list.map((object) => DATA.objects[object]);
-    const fronts = objects.map((_, place) =>
-        Object.fromEntries(ALL_PARTS.map((part) => [part, objects.slice(0, place).reduce((sum, { sizes }) => sum + sizes[part], 0)])));
-    const words = objects.map((object, place) => wordRecords(object, fronts[place], raw, links));
-    const locals = objects.reduce((sum, { localCount }) => sum + localCount, 0);
-    return {
-        list, raw, linked: links, multiples: raw.multiples, marks: raw.marks.map((mark) => markRecord(mark, raw)),
-        sizes: [raw.text.length, raw.data.length, raw.bss], fronts: fronts.map((front) => ALL_PARTS.map((part) => front[part])),
-        links: links.map(({ bases, report, refused }) => (refused ? { bases, refused } : { bases, report })),
-        nameList: raw.externals.map(({ name }) => name),
-        names: raw.externals.map(({ state, value }, i) => [state, value, ...links.flatMap(({ refused, externalList }) => (refused ? [0, "?"]
-            : [externalList[i].value, letterOf(externalList[i])]))]),
-        locals: Array.from({ length: locals }, (_, i) => links.map((link) => (link.refused ? 0 : link.symbols[i].value))),
-        groups: words.flatMap(({ groups }) => groups), places: words.flatMap(({ places }) => places),
-        groupStarts: startsOf(list, ({ groups }) => groups.length), referenceStarts: startsOf(list, ({ referenceCount }) => referenceCount),
-    };
+    const words = byPart((part) => raw[part]);
+    const names = raw.externals.map(({ name, state, value }, i) => ({ name, i, kind: state, number: value }));
+    const byName = new Map(names.map((one) => [one.name, one]));
+    const fronts = [{ text: 0, data: 0, bss: 0 }];
+    for (const object of list) {
+        const [{ sizes }, front] = [DATA.objects[object], fronts[fronts.length - 1]];
+        fronts.push(Object.fromEntries(Object.keys(sizes).map((part) => [part, front[part] + sizes[part]])));
+    }
+    const sizes = fronts.pop();
+    return { list, words, sizes, fronts, names, byName, multiples: raw.multiples,
+        marks: raw.marks.map((mark) => markOf(mark, words, byName)),
+        links: LINK_OPTIONS.map((options) => linkOf(list, options, sizes.bss, names.length)) };
 }
 
 const STATES = new Map();
@@ -285,8 +268,7 @@ async function beginLinker() {
 function takeObjects(objects, lessons) {
     forgetStates();
     DATA.objects = [];
-    DATA.objects = objects.map(({ path, bytes }) => objectOf(path, bytes));
-    DATA.objects.forEach(prepare);
+    DATA.objects = objects.map(({ path, bytes }, number) => ({ ...objectOf(path, bytes), number }));
     return takeLessons(lessons);
 }
 const decodedObjects = (objects) => objects.map(({ path, bytes }) => ({ path, bytes: bytesOf(atob(bytes)) }));

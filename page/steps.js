@@ -22,12 +22,12 @@ function showBar() {
         : `Addresses, ld ${view.layout > 0 ? LAYOUTS[view.layout] : "with no option"}`);
 }
 
-// whether the segments of a word and of what it refers to have places beside each other: they are one, or a link has placed both
-const isDistance = (word) => SEGMENTS[word.kind] === word.part || view.layout >= 0;
+// whether a word and what it refers to are in one segment, so that the distance between them stays
+const isDistance = (word) => SEGMENTS[word.kind] === word.part;
 
 // the sum of a mark; of a distance in decimal with its sign too, since a word before its place is a negative number
 function markSum(mark) {
-    if (mark.bound === null || mark.bound === undefined) return "";
+    if (typeof mark.bound !== "number") return "";
     const sum = (say) => `${say(mark.value)} + ${say(mark.bound)} = ${say(mark.now)}`;
     const signed = (number) => String(number < WORD / 2 ? number : number - WORD).replace("-", "\u2212");
     return sum(shown) + (mark.pc && mark.value >= WORD / 2 ? `, in decimal ${sum(signed)}` : "");
@@ -44,7 +44,7 @@ function markText(state, mark) {
 
 // the marks of words that the last step made or put back, in the order of the image
 function wordMarks() {
-    const marks = stateShown().marks.map(markOf).filter((mark) => markSum(mark));
+    const marks = stateShown().marks.filter(markSum);
     return marks.sort((a, b) => PARTS.indexOf(a.part) - PARTS.indexOf(b.part) || a.offset - b.offset);
 }
 
@@ -78,7 +78,7 @@ function sentence(state) {
 // what the chosen word is, or where the chosen name is
 function chosenText(state) {
     if (chosen.startsWith("name ")) {
-        const known = namesOf(state).find(({ name }) => chosen === `name ${name}`);
+        const known = state.byName.get(chosen.slice(5));
         const refer = `${counted(drawn.references.length, "word")} refer${drawn.references.length === 1 ? "s" : ""}`;
         return known ? `${known.name} is ${stateText(known.kind, known.number)}. ${refer} to it.` : "";
     }
@@ -98,14 +98,12 @@ function chosenText(state) {
 
 // for how many names how many words wait
 function waitingText(state) {
-    const waiting = allReferences(state).filter((one) => !one.to && one.name && isWaiting(state, one));
+    const waiting = allReferences(state).filter((one) => one.waits);
     const names = new Set(waiting.map(({ name }) => name));
     if (waiting.length === 0) return "No word waits for a name.";
     const awaited = names.size > 3 ? counted(names.size, "name") : [...names].join(", ");
     return `${counted(waiting.length, "word")} ${waiting.length === 1 ? "waits" : "wait"} for ${awaited}.`;
 }
-
-const isWaiting = (state, { place, part, index }) => imageWord(state, place, part, index).kind < 0;
 
 function showNotes(state) {
     const refused = view.layout >= 0 && state.links[view.layout].refused;

@@ -8,8 +8,7 @@ import vm from "vm";
 const html = fs.readFileSync(process.argv[2], "utf8");
 const textAfter = (start) => html.slice(html.indexOf(start) + start.length).split("</script>", 1)[0];
 const texts = { data: textAfter('id="data">'), linker: textAfter('id="linker">') };
-// the faults, session.js, state.js, states.js and lessons.js
-const scripts = [...html.matchAll(/<script>\n([^]*?)<\/script>/g)].map(([, text]) => text).slice(0, 5);
+const scripts = [...html.matchAll(/<script>\n([^]*?)<\/script>/g)].map(([, text]) => text.replace(/\nbegin\(\);\n/, ""));
 const document = { getElementById: (id) => ({ textContent: texts[id] }) };
 const md5 = (text) => crypto.createHash("md5").update(text, "latin1").digest("hex");
 const context = vm.createContext({ document, md5, atob, Blob, Response, DecompressionStream, WebAssembly, TextDecoder, TextEncoder });

@@ -1,13 +1,13 @@
-"""Opens the page in Chromium, from the disk, and compares what it shows and says with the model of a state (tests/page/page_state.py), and
-its links with `v7 ld` and `v7 nm` (page_states.py, page_model.py). Then it looks at the layout in many sizes
-(page_layout.py), takes the tour and the lessons by keys alone (page_use.py), and measures the stage (page_stage.py) with the sixteen
-compiled objects of tests/page/data and with the examples: model, layout and stage in Firefox too, if it is installed. The pictures of
-docs/pictures are compared with the page. No other script starts a browser.
+"""Opens the page in browsers, from the disk, and compares what it shows and says with the model of a state (page_model.py). Then it opens
+objects of one's own (page_own.py), looks at the layout in many sizes (page_layout.py), takes the tour and the lessons by keys alone
+(page_use.py), and measures the stage (page_stage.py) with the sixteen compiled objects of tests/page/data and with the examples: model,
+own, layout and stage in Firefox too, if it is installed. The pictures of docs/pictures are compared with the page. No other script starts
+a browser.
 
-usage: python3 -m tests.page.page [-j JOBS] [-s SEED] [PART ..]     all parts or these, so many side by side; the seed puts the sixteen
-                                                                    objects into an order
-       the parts: firefox, layout, stage, states, model, own, use; and pictures, which writes docs/pictures anew
-tier: all, 1500 seconds; words: -j 4; programs: v7 v7-explain v7-from-gnu;
+usage: python3 -m tests.page.page [-j JOBS] [-s SEED] [PART ..]     all parts or these, so many side by side; the seed makes programs, and
+                                                                    puts the sixteen objects into an order
+       the parts: firefox, layout, stage, model, own, use; and pictures, which writes docs/pictures anew
+tier: all, 1500 seconds; words: -j 4; programs: v7 libv7.so;
  for: page examples/lessons.txt docs/pictures; needs: chromium chromedriver selenium firefox-esr wasm-opt
 """
 import argparse
@@ -25,7 +25,6 @@ from tests.page import page_layout, page_model, page_own, page_use
 from tests.page.page_browser import Chromium, Firefox, firefox
 from tests.page.page_layout import PICTURES, compare_pictures, look_at_states, look_everywhere, look_on_paper, make_pictures
 from tests.page.page_stage import SIZES, response, stage, steps
-from tests.page.page_states import compare_states
 from tests.page.page_tools import CLASS, FIVE, IN_C, SIXTEEN, TABLES, Tools, faults, lessons_of, planted, report, same
 
 
@@ -39,33 +38,26 @@ class Page(Chromium):
 
 
 class Given:
-    """The objects whose pages are looked at, and these pages. One of large objects takes minutes, so each is made when it is wanted."""
+    """The pages that are looked at, each with its objects. One of large objects takes minutes, so each is made when it is wanted."""
 
-    def __init__(self, tools, seed):
-        self.tools, self.seed = tools, seed
-        # the pages whose texts are read, with their objects: the class example, a program in C, pointers and bss, and sixteen objects
-        lessons = [(tools.page_of(files, f"{number}.html", lessons_of(files)), files) for number, files in enumerate((CLASS, IN_C, TABLES))]
-        self.pages = (*lessons, (tools.page_of(SIXTEEN, "sixteen.html"), SIXTEEN))
+    def __init__(self, tools):
+        self.tools = tools
+        # the pages whose texts are read: the class example, a program in C, pointers and bss, and sixteen objects
+        self.pages = [(tools.page_of(files, f"{number}.html", lessons), files) for number, (files, lessons)
+                      in enumerate([*((files, lessons_of(files)) for files in (CLASS, IN_C, TABLES)), (SIXTEEN, "")])]
 
     @cached_property
     def staged(self):
         """The pages whose stage is measured, with their objects, and what each is."""
-        joined = self.tools.joined(8, self.seed)
-        default, in_c, _, sixteen = self.pages
+        joined, (default, in_c, _, sixteen) = self.tools.joined(8), self.pages
         return ((*default, "the default page"), (*in_c, "a program in C"), (*sixteen, "sixteen objects"),
-                (self.tools.page_of(joined, "joined.html"), joined, f"eight objects of seed {self.seed}"))
-
-    @cached_property
-    def large(self):
-        """Five objects of 500 words, and their page."""
-        joined = self.tools.joined(5, 0)
-        return joined, self.tools.page_of(joined, "five.html")
+                (self.tools.page_of(joined, "joined.html"), joined, f"eight objects of seed {self.tools.seed}"))
 
     @cached_property
     def looked_at(self):
         """The pages whose layout is looked at."""
         return {"the default page": self.pages[0][0], "five objects": self.tools.page_of(FIVE, "five-objects.html"),
-                "five large objects": self.large[1], "sixteen objects": self.pages[3][0]}
+                "five large objects": self.tools.page_of(self.tools.joined(5), "five.html"), "sixteen objects": self.pages[3][0]}
 
 
 def checked(tools, page, pages, checks, **more):
@@ -80,10 +72,10 @@ def checked(tools, page, pages, checks, **more):
             print(f"{page.name}: {check.__name__} of page {number}{f': {count}' if count else ''}", flush=True)
 
 
-def stages(tools, page, given, sizes=SIZES):
+def stages(_, page, given, sizes=SIZES):
     """The stage of four pages, and the steps of one more: each is whole in view, with objects that a seed joins nine of ten."""
     for path, files, what in given.staged:
-        whole, large = stage(tools, page, path, files, what, sizes)
+        whole, large = stage(page, path, files, what, sizes)
         if (1366, 768, 1) in sizes:
             is_right = 10 * whole >= 9 * (2 * len(files) - large) if "seed" in what else whole == 2 * len(files)
             same(f"steps whole in view, {what}", is_right, True)
@@ -104,7 +96,7 @@ def in_firefox(tools, given):
     for zoom, sizes, layouts in ((1, SIZES[:-1], page_layout.FIREFOX_SIZES), (2, SIZES[-1:], [(640, 800, 1)])):
         with Firefox(zoom=zoom) as page:
             if zoom == 1:
-                checked(tools, page, given.pages, (*page_own.CHECKS, *page_model.CHECKS, (page_use.reasons, (0, 1, 2))), most=40)
+                checked(tools, page, given.pages, (*page_own.CHECKS, *page_model.CHECKS), most=40)
             stages(tools, page, given, sizes)
             look_everywhere(page, given.looked_at, layouts, f"zoom {zoom} in Firefox", counts)
     say_counts("Firefox", counts)
@@ -126,11 +118,6 @@ def layouts(_, page, given):
             large.load(path)
             look_at_states(large, name, "text of 200 %", counts)
     say_counts("Chromium", counts)
-
-
-def states(tools, page, given):
-    """States that are reached in many ways, and the pictures."""
-    compare_states(tools, page, given)
     page.load(given.pages[0][0])
     compare_pictures(page)
 
@@ -143,7 +130,7 @@ def pictures(_, page, given):
 
 # the parts, the longest first; all but the first are in Chromium
 PARTS = {
-    "firefox": in_firefox, "layout": layouts, "stage": stages, "states": states,
+    "firefox": in_firefox, "layout": layouts, "stage": stages,
     "model": lambda tools, page, given: checked(tools, page, given.pages, page_model.CHECKS),
     "own": lambda tools, page, given: checked(tools, page, given.pages, page_own.CHECKS),
     "use": lambda tools, page, given: checked(tools, page, given.pages, page_use.CHECKS)}
@@ -154,8 +141,8 @@ def run_part(name, seed):
     notices(planted)
     with tempfile.TemporaryDirectory() as folder:
         try:
-            tools = Tools(folder)
-            given, part = Given(tools, seed), {**PARTS, "pictures": pictures}[name]
+            tools = Tools(folder, seed)
+            given, part = Given(tools), {**PARTS, "pictures": pictures}[name]
             if part is in_firefox:
                 in_firefox(tools, given)
             else:

@@ -2,7 +2,7 @@
 state (page_state.py) and with libv7 in Python, and links with what `v7 ld` writes and `v7 nm` prints. Then come the places that words mean,
 what it has of each object, and the answers of its lessons. Wrong files of lessons have to be refused.
 
-tier: check, 60 seconds; programs: v7 v7-explain libv7.so;
+tier: check, 60 seconds; programs: v7 libv7.so;
  for: page packaging/page.py examples/lessons.txt tests/page; needs: node wasm-opt
 """
 import os
@@ -29,25 +29,22 @@ from tests.page.page_tools import (
 STATE = """(list) => {
     const state = stateOf(list);
     const words = state.list.flatMap((number, place) => PARTS.flatMap((part) => DATA.objects[number][part].map((_, index) => {
-        const { offset, value, pc, kind, name, to, at } = imageWord(state, place, part, index);
-        const reference = DATA.objects[number].references[part].get(index);
-        const places = LAYOUTS.map((_, layout) => (at === undefined
-            ? "" : placeOf(state, state.referenceStarts[place] + reference.number, layout)));
-        return [part, offset, value, pc, kind < 0 ? name : SEGMENTS[kind], to, places,
-            LAYOUTS.map((_, layout) => sumOf(state, { own: ownWord(DATA.objects[number], part, index), at }, layout).final)];
+        const word = imageWord(state, place, part, index), { offset, value, pc, kind, name, to } = word;
+        return [part, offset, value, pc, kind < 0 ? name : SEGMENTS[kind], to,
+            LAYOUTS.map((_, layout) => placeOf(state, part, offset, layout)),
+            LAYOUTS.map((_, layout) => (state.links[layout].refused ? null : sumOf(state, word, layout).final))];
     })));
-    const marks = state.marks.map(markOf).map((mark) => (mark.part
-        ? [mark.part, mark.offset, mark.value, mark.name, mark.bound ?? null, mark.now ?? null] : [mark.name, mark.kind, mark.number]));
-    return { words, names: namesOf(state).map(({ name, kind, number }) => [name, kind, number]), multiples: state.multiples, marks,
-        bss: state.sizes[2],
-        links: state.links.map((link, layout) => ({ ...link, table: link.refused ? "" : tableOf(state, layout) })) };
+    const marks = state.marks.map((mark) => (mark.part
+        ? [mark.part, mark.offset, mark.value, mark.name, mark.bound, mark.now] : [mark.name, mark.kind, mark.number]));
+    return { words, names: state.names.map(({ name, kind, number }) => [name, kind, number]), multiples: state.multiples, marks,
+        bss: state.sizes.bss, links: state.links.map(({ bases, report, refused }, layout) =>
+            ({ bases, report, refused, table: refused ? "" : tableOf(state, layout) })) };
 }"""
-OBJECTS = """() => DATA.objects.map((one) => ({ text: one.text, data: one.data, bss: one.bss, symbols: one.symbols, texts: one.texts,
-    operands: one.operands,
+OBJECTS = """() => DATA.objects.map((one) => ({ text: one.text, data: one.data, bss: one.bss, symbols: one.symbols, texts: [...one.strings],
+    operands: one.units.text.flatMap((start, index) => (start === index ? [] : [index])),
     labels: PARTS.flatMap((part) => one.labels[part].map(({ index, isExternal, name }) => [part, index, isExternal, name])),
     branches: one.branches, instructions: one.instructions,
-    relocs: Object.fromEntries(PARTS.map((part) => [part,
-        [...one.references[part]].map(([index, { group }]) => [index, one.groups[group].reloc])])) }))"""
+    relocs: Object.fromEntries(PARTS.map((part) => [part, one.references[part].map((index) => [index, one.relocs[part][index]])])) }))"""
 
 
 # ---- states
@@ -130,7 +127,7 @@ def compare_states(tools, scripts, files, what):
 
 # ---- objects
 def texts_of(words, relocs):
-    """The texts of data, as the page has them: the index after each, how many words it has, and its bytes."""
+    """The texts of data, as the page has them: the index of each, and its bytes."""
     is_byte = lambda byte: byte in (0, 9, 10) or 32 <= byte < 127
     found, length = [], 0
     for index, (word, reloc) in enumerate(zip([*words, 0], [*relocs, 0])):
@@ -138,7 +135,7 @@ def texts_of(words, relocs):
             length += 1
             continue
         if length >= 2:
-            found.append([index, length, struct.pack(f"<{length}H", *words[index - length:index]).decode("latin-1")])
+            found.append([index - length, struct.pack(f"<{length}H", *words[index - length:index]).decode("latin-1")])
         length = 0
     return found
 

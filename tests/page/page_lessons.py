@@ -100,37 +100,31 @@ def lessons_of_all_kinds(tools, files):
     with tools.scripts(files)[0] as scripts:
         same("lessons of all kinds", scripts.run(TAKE, ACCEPTED), "")
         lessons = scripts.run("() => DATA.lessons")
-    texts = [part for line in lessons for part in line if isinstance(part, str)]
-    same("a text that could end the script", [text for text in texts if "script" in text], ["</script><b>", "<!-- </script> -->"])
-    same("relocation words and sizes in texts", [text for text in texts if text.startswith("0")], ["051", "0", "012 (10.)", "02 (2.)"])
-    same("the numbers of texts", [part for line in lessons if line[0] == "say" for part in line if isinstance(part, int)], NUMBERS)
-
-
-def after_step(here, word, rest):
-    """The list after a step, and the words that it changes."""
-    longer = [*here, rest[0]] if word == "add" else here
-    return (longer if word == "add" else here[:-1] if word == "withdraw" else here), longer if word in ("add", "withdraw") else []
+    said = [part for one in lessons for step in one["steps"] for parts in step["says"] for part in parts]
+    same("a text that could end the script", [text for text in [lessons[0]["title"], *said] if "script" in str(text)],
+         ["</script><b>", "<!-- </script> -->"])
+    same("relocation words and sizes in texts", [text for text in said if isinstance(text, str) and text[:1] == "0"], ["051", "0", "012 (10.)", "02 (2.)"])
+    same("the numbers of texts", [part for part in said if isinstance(part, int)], NUMBERS)
 
 
 def lesson_answers(tools, scripts, files, lessons=10, answers=12):
-    """The answers of the lessons are what the programs say of the objects; there are so many lessons, and answers at least."""
-    here, asked, compared_here, lines = [], None, 0, scripts.run("() => DATA.lessons")
-    for word, *rest in lines:
-        if word == "lesson":
-            here = []
-        elif word in ("changes", "value", "where"):
-            asked = [word, *rest]
-            if word == "value":
-                same(f"the word before {asked}", asked[3], Session([Given(files[number]) for number in here]).rows()[asked[1]].value)
-        elif word in ("add", "withdraw", "link", "image"):
-            after, changed = after_step(here, word, rest)
-            if asked:
-                said = answer_said(tools, asked, [files[number] for number in after], word, rest, [files[number] for number in changed])
-                same(f"the answer to {asked}, {word}", [asked[0], *sorted(said[1:])] if asked[0] == "changes" else said,
-                     [asked[0], *sorted(asked[1:])] if asked[0] == "changes" else asked)
-                compared_here += 1
-            here, asked = after, None
-    same("lessons", (sum(line[0] == "lesson" for line in lines), compared_here >= answers), (lessons, True))
+    """The answers of the lessons, and of the practice, are what the programs say of the objects; there are so many lessons, and answers at
+    least."""
+    count, guides = 0, scripts.run("() => [...DATA.lessons, { steps: practiceSteps() }]")
+    for guide in guides:
+        here = []
+        for step in guide["steps"]:
+            act, *rest = step["act"] or [""]
+            after = {"add": [*here, *(files[number] for number in rest)], "withdraw": here[:-1]}.get(act, here)
+            if step["kind"] not in ("", "choice"):
+                said = answer_said(tools, step, after, act, rest, after if act == "add" else here if act == "withdraw" else [])
+                same(f"the answer to {step['ask']}, {act}", sorted(step["answers"]) or step.get("number"), said)
+                count += 1
+            if step["kind"] == "value":
+                word = Session([Given(file) for file in here]).rows().get(step["word"])
+                same(f"the word before {step['ask']}", step["before"], word.value if word else 0)
+            here = after
+    same("lessons", (len(guides) - 1, count >= answers), (lessons, True))
 
 
 def remarks(_, scripts, files):
@@ -138,9 +132,10 @@ def remarks(_, scripts, files):
     here, count = [], 0
     odd = [[one["text"] for one in scripts.run("(number) => LINKER.remarks(DATA.objects[number].bytes)", number)]
            for number in range(len(files))]
-    for word, *rest in scripts.run("() => DATA.lessons"):
-        here = {"lesson": [], "add": [*here, *rest], "withdraw": here[:-1]}.get(word, here)
-        quoted = re.search(r'v7-explain has a remark: "(.*)"\.$', str(rest[-1])) if word == "say" else None
+    for step in scripts.run("() => DATA.lessons.flatMap(({ steps }) => steps)"):
+        act, *rest = step["act"] or ["none" if step["ask"] else ""]
+        here = {"": [], "add": [*here, *rest], "withdraw": here[:-1]}.get(act, here)
+        quoted = re.search(r'v7-explain has a remark: "(.*)"\.$', "".join(str(part) for parts in step["says"] for part in parts))
         if quoted:
             same("the remark of v7-explain", [any(quoted[1].endswith(text) for text in odd[here[-1]]), len(odd[here[-1]])], [True, 1])
             same("other remarks of v7-explain", [said for number, said in enumerate(odd) if said and number != here[-1]], [])
@@ -148,21 +143,20 @@ def remarks(_, scripts, files):
     same("remarks of v7-explain", count > 0, True)
 
 
-def answer_said(tools, asked, files, word, rest, changed):
-    """A question with the answer that the model and the programs give; `changed` are the objects whose last one the step adds or
+def answer_said(tools, step, files, act, rest, changed):
+    """The answer to a question that the model and the programs give; `changed` are the objects whose last one the step adds or
     withdraws."""
-    kind, *about = asked
-    if kind == "changes":
-        return ["changes", *(f"{part}-{offset}" for part, offset in (Step([Given(file) for file in changed]).changed if changed else []))]
-    if word == "link":
+    if step["kind"] == "changes":
+        return sorted(f"{part}-{offset}" for part, offset in (Step([Given(file) for file in changed]).changed if changed else [])) or None
+    if act == "link":
         linked = tools.link(list(LAYOUTS.values())[rest[0]], files)
-        lines = [line for line in linked["table"].splitlines() if line[9:] == about[0] and line[7] not in "UC"]
-        number = int(lines[0][:6], 8) if lines else None
-        if kind == "value":
-            part, offset = about[0].split("-")
-            number = linked["segments"][part][int(offset) // 2]
-    else:
-        session = Session([Given(file) for file in files])
-        known = session.names.get(about[0], ("", 0))
-        number = session.rows()[about[0]].value if kind == "value" else known[1] if known[0] in ("text", "data", "bss", "number") else None
-    return ["where", about[0], number] if kind == "where" else ["value", about[0], number, asked[3]]
+        if step["kind"] == "value":
+            part, offset = step["word"].split("-")
+            return linked["segments"][part][int(offset) // 2]
+        lines = [line for line in linked["table"].splitlines() if line[9:] == step["name"] and line[7] not in "UC"]
+        return int(lines[0][:6], 8) if lines else None
+    session = Session([Given(file) for file in files])
+    if step["kind"] == "value":
+        return session.rows()[step["word"]].value
+    known = session.names[step["name"]]
+    return known[1] if known[0] in ("text", "data", "bss", "number") else None

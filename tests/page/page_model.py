@@ -1,50 +1,199 @@
-"""What the page says, compared with the model of a state (page_state.py). In each state these are the sentence, the status, the names in
-their order with what is struck out, and what words were. Then come the cards, what the words of a link name, the legend, the tour's count,
-and what can be done and seen while a question is open."""
+"""What the page shows and says, compared with the model of a state (page_state.py), and its links with what `v7 ld` and `v7 nm` say. In
+each state these are the sentence, the status, the names in their order with what is struck out, the words and what they were, and in a
+link each sum. Then come the cards, choices, the tour's count, and what can be done and seen while a question is open."""
+import glob
+import os
+import random
 import re
 from itertools import permutations
 
+import asm  # of examples
+from tests.lib.files import TOP, read as text_of, write
+from tests.oracles import agree, model
 from tests.page.page_stage import SEEN, first
-from tests.page.page_state import SEGMENT, Given, Session, Step, branch_of
-from tests.page.page_states import lines_on, read
-from tests.page.page_tools import WORD, addend_said, same, words_of
+from tests.page.page_state import SEGMENT, Given, Session, Step
+from tests.page.page_tools import CLASS, FIVE, IN_C, LAYOUTS, SIXTEEN, TABLES, WORD, addend_said, object_of, same, size_said, words_of
 
-# shows a list of objects, or with the last one withdrawn
-SHOW = """
-const [list, isGone] = arguments;
-isWhole = null;
-show(isGone ? { ...START, list: list.slice(0, -1), gone: list[list.length - 1] } : { ...START, list });
-return [byId("note").textContent, byId("status").textContent];
+# shows the whole image with each object unfolded, as key o and clicks on all folds do
+WHOLE = """
+isWhole = true;
+for (const object of stateShown().list) opened.add(object);
+showChosen(true);
+return document.querySelectorAll("#image .fold").length;
 """
+# what the page shows, as lines of text; a word is its segment and the texts of its parts
+READ = """
+const text = (element) => element ? element.textContent : "";
+const part = (element, name) => text(element.querySelector(`.${name}`));
+const all = (selector, of) => [...document.querySelectorAll(selector)].map(of);
+const one = (id) => { const element = document.getElementById(id); return isLaidOut(element) ? element.textContent : ""; };
+return {
+    words: all("#image .word:not(.spot)", (row) => ({
+        id: row.id, segment: row.id.split("-")[0], number: Number(row.id.split("-")[1]), isCut: row.classList.contains("cut-off"),
+        isOld: row.matches(".bound, .put-back"),
+        ...Object.fromEntries(["offset", "value", "pc", "place", "instruction", "bound-name", "sum", "of", "was", "tag",
+            "given-word"].map((name) => [name, part(row, name)])),
+        labels: [...row.querySelectorAll(".label")].map((one) => [one.textContent, one.tagName]),
+        target: part(row, "target")
+        || (part(row, "instruction") || part(row, "string") || row.classList.contains("inside") ? "a number" : "") })),
+    spots: all("#image .spot", (row) => [row.id, text(row)]), heads: all("#image .segment h3", text),
+    bss: text(document.querySelector("#bss .size")),
+    names: all("#names .name", (row) => [...["b", ".state", ".was", ".tag", ".address"].map((name) => text(row.querySelector(name))),
+        row.classList.contains("cut")]),
+    marks: all(".overwrote .was", text), done: all(".undone .was", text),
+    table: one("table"), report: one("report"), step: one("status"), refused: document.querySelector("#note.refused") ? one("note") : "",
+    note: one("note"), title: one("image-title"),
+    hash: location.hash, focus: document.activeElement.id };
+"""
+
+
+def read(page, is_whole=True):
+    """What is shown; the whole image is, unless the scene is wanted."""
+    if is_whole:
+        page.run(WHOLE)
+    return page.run(READ)
+
+
+def lines_on(shown):
+    """What the page shows, as the lines of the model. In which order the page has the names, page_model.py says."""
+    words, names = [word for word in shown["words"] if not word["isCut"]], [name for name in shown["names"] if not name[-1]]
+    parts = "segment", "offset", "value", "pc", "target", "place"
+    lines = [words_of(" ".join(word[part] for part in parts) + word["given-word"]) + f" / {word['instruction']}" * bool(word["instruction"])
+             for word in words]
+    lines += [f"bss {shown['bss']}"] if shown["bss"] not in ("", size_said(0)) else []
+    return [*lines, *sorted(f"name {name}: {known}" for name, known, *_ in names)]
+
+
 # what depends on the space for arrows, and what the first step says besides
 BESIDES = re.compile(r" \d+ arrows? more: choose a word to see its own\.| Now add another object, and look at which words change\.")
 
 
-def says(_, page, files, most=1000):
-    """The sentence, the status, the names and what is struck out in each state, or so many, and all words and names."""
+# ---- states
+def compare_step(page, objects, is_gone, what, forced=()):
+    """The sentence, the status, the names, the marks and what is struck out, and all words, after a step."""
+    step, shown = Step(objects, is_gone, forced), read(page)
+    session = step.before if is_gone else step.after
+    same(f"{what}: the sentence", BESIDES.sub("", shown["note"]), step.sentence())
+    same(f"{what}: the status", shown["step"], step.status())
+    same(f"{what}: the names", [name[:4] for name in shown["names"]], step.names())
+    same(f"{what}: what is struck out", {word["id"]: word["was"] for word in shown["words"] if word["isOld"]}, step.struck())
+    same(f"{what}: what is marked", {word["id"] for word in shown["words"] if word["tag"] in ("bound", "put back")}, {*step.struck()})
+    same(f"{what}: the marks", sorted(map(words_of, shown["done" if is_gone else "marks"])), step.marks())
+    same(f"{what}: labels", {word["id"]: sorted(word["labels"]) for word in shown["words"] if word["labels"]}, step.after.labels())
+    same(f"{what}: headings", [head for head in shown["heads"] if head.startswith(tuple(session.sizes))
+                               and not (is_gone and " 00 (0.)" in head)], session.heads())
+    same(f"{what}: lines", lines_on(shown), session.lines())
+    if not is_gone:
+        same(f"{what}: places that are no words", dict(shown["spots"]), session.spots())
+
+
+def compare_link(tools, page, objects, number, what, forced=(), entry=""):
+    """A link: each word with its address, its value and its sum, the headings, the names, the table and the report."""
+    page.run("show({ ...view, gone: -1, layout: arguments[0] })", number)
+    name, options = [*LAYOUTS.items()][number]
+    what = f"{what}, {name}"
+    linked = tools.link([*options, *(word for one in forced for word in ("-u", one)), *(["-e", entry] if entry else [])],
+                        [one.path for one in objects])
+    shown = read(page, "refused" not in linked)
+    same(f"{what}: title", shown["title"], f"Addresses, ld {options[0] if options else 'with no option'}")
+    if "refused" in linked:
+        return same(what, shown["refused"], f"refused: {linked['refused']}")
+    session, (_, text, data, rest), base = Session(objects, forced), linked["header"][:4], linked["base"]
+    commons = rest - session.sizes["bss"]
+    bounds = {"text": (0, text), "data": (base, base + data), "commons": (base + data, base + data + commons),
+              "bss": (base + data + commons, base + data + rest)}
+    same(f"{what}: headings", [head for head in shown["heads"] if not head.startswith("outside")],
+         [f"{part} {size_said(end - start)} {start:06o} to {end:06o}" for part, (start, end) in bounds.items() if end > start])
+    letters = {line[9:]: line[:8].split() for line in linked["table"].splitlines() if line[7].isupper()}
+    addresses = {one: int(said[0], 8) for one, said in letters.items() if said[-1] not in "UC"}
+    same(f"{what}: names", {row[0]: row[4] for row in shown["names"] if row[1] != "multiply defined"},
+         {one: f"{addresses[one]:06o}" if one in addresses else "no address" for one in session.names})
+    words = session.rows()
+    for row in shown["words"]:
+        word, final = words[row["id"]], linked["segments"][row["segment"]][row["number"] // 2]
+        moved = {part: (bounds[part][0] + word.front[part] - word.of.start(part)) % WORD for part in session.sizes}
+        same(f"{what}: {row['id']}", (row["offset"], row["value"]), (f"{bounds[word.part][0] + row['number']:06o}", f"{final:06o}"))
+        plus = addresses.get(word.name, 0) if word.name else moved.get(SEGMENT.get(word.reloc & 0o16), 0)
+        minus = f" \u2212 {moved[word.part]:06o}" if word.pc and moved[word.part] else ""
+        said = [f"{word.own:06o} + {plus:06o}{minus} = {final:06o}",
+                f"{word.name}{addend_said(word.added)}" if word.name else SEGMENT.get(word.reloc & 0o16, "")]
+        same(f"{what}: the sum of {row['id']}", [row["sum"], row["of"]], said if word.reloc & 0o17 else ["", ""])
+    same(f"{what}: table", shown["table"] + "\n", linked["table"] or "empty\n")
+    return same(f"{what}: report", shown["report"].rstrip("\n") + "\n", linked["report"])
+
+
+def says(tools, page, files, most=1000):
+    """All states of up to five objects, or those in their order, each with its withdrawal, and links: of small lists and of those in order
+    all four, else one of them."""
     objects, count = [Given(file) for file in files], len(files)
     lists = [order for length in range(1, count + 1)
-             for order in permutations(range(count), length)] if count <= 5 else [range(length) for length in range(1, count + 1)]
+             for order in (permutations(range(count), length) if count <= 5 else [tuple(range(length))])]
     lists = lists[::max(1, len(lists) // most)]
-    for order in lists:
-        for is_gone in (False, True):
-            step, what = Step([objects[number] for number in order], is_gone), f"{[*order]}{', withdrawn' if is_gone else ''}"
-            note, status = page.run(SHOW, [*order], is_gone)
-            shown = read(page)
-            same(f"{what}: the sentence", BESIDES.sub("", note), step.sentence())
-            same(f"{what}: the status", status, step.status())
-            same(f"{what}: the names", [name[:4] for name in shown["names"]], step.names())
-            same(f"{what}: what is struck out", {word["id"]: word["was"] for word in shown["words"] if word["isOld"]}, step.struck())
-            same(f"{what}: what is marked", {word["id"] for word in shown["words"] if word["tag"] in ("bound", "put back")}, {*step.struck()})
-            same(f"{what}: the marks", sorted(map(words_of, shown["done" if is_gone else "marks"])), step.marks())
-            session = step.before if is_gone else step.after
-            same(f"{what}: labels", {word["id"]: sorted(word["labels"]) for word in shown["words"] if word["labels"]}, step.after.labels())
-            same(f"{what}: headings", [head for head in shown["heads"] if not is_gone or " 00 (0.)" not in head
-                                       and head.startswith(tuple(session.sizes))], session.heads())
-            same(f"{what}: lines", lines_on(shown), (step.before if is_gone else step.after).lines())
+    for number, order in enumerate(lists):
+        here, what = [objects[one] for one in order], f"{[*order]}"
+        page.run("isWhole = null; show({ ...START, list: arguments[0] })", [*order])
+        compare_step(page, here, False, what)
+        for layout in range(4) if len(order) == 1 or list(order) == sorted(order) else [number % 4]:
+            compare_link(tools, page, here, layout, what)
+        page.run("show({ ...START, list: arguments[0].slice(0, -1), gone: arguments[0].at(-1) })", [*order])
+        compare_step(page, here, True, f"{what}, withdrawn")
     return 2 * len(lists)
 
 
+# ---- programs that no other test knows
+def pool_of(tools, rng):
+    """Objects of C and of the assembler, and random ones."""
+    paths = [*SIXTEEN, *IN_C, *TABLES]
+    for source in rng.sample(sorted(glob.glob(f"{TOP}/tests/oracles/data/*.s")), 8):
+        paths.append(write(f"{tools.folder}/{os.path.basename(source)[:-2]}.o", asm.assembled(text_of(source))))
+    names = [b"_main", b"_end", b"_etext", b"_edata", b"_f", b"_say", b"_count", b"_x", b"L1", b"_buf"]
+    for number in range(8):
+        paths.append(write(f"{tools.folder}/random{number}.o", agree.object_of(rng, names)))
+    return paths
+
+
+def played(tools, page, _, count=200):
+    """States of random programs, which additions, withdrawals and links with -u and -e reach."""
+    rng = random.Random(tools.seed)
+    for turn in range(count // 20):
+        files = rng.sample(pool_of(tools, rng), 7)
+        page.load(tools.page_of(files, "played.html"))
+        objects, here = [Given(file) for file in files], []
+        forced, entry = rng.choice([(), (), ("_end",), ("_count", "_none")]), rng.choice(["", "", "_main", "_x", "_none"])
+        page.run("askFor({ forced: arguments[0], entry: arguments[1] })", [*forced], entry)
+        for _ in range(20):
+            what = f"seed {tools.seed}, turn {turn}, {[one.name for one in here]}, {forced} {entry}"
+            new = [number for number in range(7) if objects[number] not in here]
+            if here and (not new or rng.random() < 0.35):
+                page.run("show({ ...view, gone: -1, layout: -1 }); withdraw()")
+                compare_step(page, here, True, f"{what}, withdrawn", forced)
+                here = here[:-1]
+                continue
+            number = rng.choice(new)
+            page.run("show({ ...view, gone: -1, layout: -1 }); addObject(arguments[0])", number)
+            try:
+                Session([*here, objects[number]], forced)
+            except model.Refused as refused:
+                same(f"{what}, {objects[number].name}", page.run("return refusalOf(view.list, arguments[0])", number), str(refused))
+                continue
+            here = [*here, objects[number]]
+            compare_step(page, here, False, f"{what}, {objects[number].name}", forced)
+            compare_link(tools, page, here, rng.randrange(4), f"{what}, {objects[number].name}", forced, entry)
+    return count
+
+
+def others(tools, page, _):
+    """States of other programs, and links that are refused."""
+    full = write(f"{tools.folder}/full.o", object_of([(0, 0)] * 32_767, []))
+    for files, most in ((FIVE, 40), (tools.joined(5), 5)):
+        page.load(tools.page_of(files, "others.html"))
+        says(tools, page, files, most)
+    page.load(tools.page_of([full, CLASS[3]], "full.html"))
+    page.open("#objects=1,2")
+    compare_link(tools, page, [Given(full), Given(CLASS[3])], 0, "full.o l.o")
+
+
+# ---- what a state has besides
 DECIMAL = "show({ ...view, decimal: arguments[0] }); isWhole = true; showChosen(true);"
 
 
@@ -107,48 +256,23 @@ def cards(_, page, files):
         same(f"the relocation word of the chosen {key}", (said, is_seen), (reloc_said(word.reloc), True))
 
 
-def in_link(_, page, files):
-    """Each word of a plain link says to what its sum leads: the name with what is added to it, or the segment."""
-    page.run("show({ ...START, list: DATA.objects.map(({ number }) => number).slice(0, arguments[0]), layout: 0 })", len(files))
-    words = Session([Given(file) for file in files]).rows()
-    for shown in read(page)["words"]:
-        word = words[shown["id"]]
-        same(f"what {shown['id']} of a link refers to", shown["of"], f"{word.name}{addend_said(word.added)}" if word.name else word.kind)
-
-
-LEGEND = """
-const lines = [...document.querySelectorAll(".legend li")];
-return lines.map((line) => [line.querySelector(".swatch")?.className ?? "", line.querySelector("b")?.textContent ?? ""])
-    .filter(([swatch]) => swatch);
+CHOOSE = """
+choose(arguments[0], true);
+return [byId("note").textContent, document.querySelector(`g.arrow[data-from="${arguments[0]}"]`)?.dataset.to ?? ""];
 """
 
 
-def counts_said(_, page, __):
-    """The legend, and the tour's count."""
-    same("the legend", page.run(LEGEND), [["swatch new", "new"], ["swatch bound", "bound"], ["swatch put-back", "put back"]])
-    for number in range(1, 6):
-        page.open(f"#tour={number}")
-        same("the tour's count", page.run("return document.querySelector('#guide h2').textContent"), f"Tour, {number} of 5")
-
-
-def in_object(_, page, files):
-    """A word that refers to a segment has the number that it has in its object too, if that is another one. A branch of the image leads to
-    its place there, and has that of the object after it, if this is another one; the sentence says so."""
-    page.run("show({ ...START, list: DATA.objects.map(({ number }) => number).slice(0, arguments[0]) })", len(files))
-    count, words = 0, Session([Given(file) for file in files]).rows()
-    for shown in read(page)["words"]:
-        word, key, said = words[shown["id"]], shown["id"], shown["instruction"]
-        wanted = f", in {word.of.name} {word.own:06o}" if word.reloc & 0o16 in SEGMENT and int(shown["value"], 8) != word.own else ""
-        same(f"what {key} is in its object", shown["given-word"], wanted)
-        own, front = branch_of(word.own, 2 * word.index), shown["number"] - 2 * word.index
-        if word.part == "text" and not word.reloc & 0o17 and own is not None and re.match(r"(b\w+|sob \w+,) ?[0-7]+(,|$)", said):
-            target = (own + front) % WORD
-            same(f"the branch {key}", re.search(r"[ ,]([0-7]+)(?:, in (\S+) ([0-7]+))?$", said).groups(),
-                 (f"{target:o}", word.of.name, f"{own:o}") if front else (f"{target:o}", None, None))
-            note = page.run(CHOSEN, key)[2]
-            same(f"the sentence of the branch {key}: {note}", f"branches to text {target:06o}" in note, True)
-            count += front > 0
-    return count
+def sentences(_, page, files):
+    """The sentence and the arrow of each word, or of some, and the sentence of each name, where it is chosen in the image."""
+    objects = [Given(file) for file in files]
+    for here in (objects[:2], objects):
+        page.run("show({ ...START, list: DATA.objects.map(({ number }) => number).slice(0, arguments[0]) })", len(here))
+        session = Session(here)
+        wanted = {**session.chosen(), **{f"{part}-{offset}": Step(here).told(part, offset) for part, offset in Step(here).changed}}
+        for key in [*wanted][::max(1, len(wanted) // 60)]:
+            said, to = page.run(CHOOSE, key)
+            place = session.place_id(session.rows()[key]) if key in session.rows() else ""
+            same(f"{len(here)} objects, {key}", [BESIDES.sub("", said), to], [wanted[key], place])
 
 
 OWNERS = """
@@ -235,5 +359,5 @@ def questions(_, page, __):
 
 
 # the checks of this file, and those of pages.py's pages that each is for
-CHECKS = ((says, (0, 1, 2, 3)), (in_decimal, (0, 1, 2)), (cards, (0, 1, 2)), (in_link, (0, 1, 2, 3)), (in_object, (1, 3)),
-          (counts_said, (0,)), (owners, (3,)), (questions, (0, 1, 2)))
+CHECKS = ((says, (0, 1, 2, 3)), (played, (0,)), (others, (0,)), (in_decimal, (0, 1, 2)), (cards, (0, 1, 2)), (sentences, (0, 1, 2, 3)),
+          (owners, (3,)), (questions, (0, 1, 2)))

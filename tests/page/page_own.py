@@ -5,10 +5,9 @@ import os
 
 import page as pages  # of packaging
 from tests.lib.files import read, read_bytes, write
-from tests.lib.programs import ran
-from tests.page import page_states
+from tests.lib.programs import ran, v7
+from tests.page.page_model import lines_on, read as read_page
 from tests.page.page_state import Given, Session
-from tests.page.page_states import lines_on
 from tests.page.page_tools import CLASS, IN_C, LAYOUTS, TABLES, same
 
 # drops files, each a name and its bytes
@@ -39,23 +38,25 @@ def drop(page, *files):
     return page.run(OBJECTS)
 
 
+def compare_image(tools, page, what):
+    """What is shown is the image of the objects that the page has now."""
+    given = page.run("return view.list.map((one) => [label(one), btoa(latin(DATA.objects[one].bytes))])")
+    objects = [Given(write(f"{tools.folder}/{name}", base64.b64decode(data))) for name, data in given]
+    same(f"the image, {what}", lines_on(read_page(page)), Session(objects).lines())
+
+
 def dropped(tools, page, files):
     """An object of each form is dropped; damaged ones are refused in words, and the others are there."""
-    names = [os.path.basename(file) for file in files]
+    names, folder = [os.path.basename(file) for file in files], os.path.dirname(CLASS[0])
     page.open("")
-    squares, listed = read_bytes(f"{os.path.dirname(CLASS[0])}/squares.gnu"), read_bytes(f"{os.path.dirname(CLASS[0])}/k.lst")
+    squares, listed = read_bytes(f"{folder}/squares.gnu"), read_bytes(f"{folder}/k.lst")
     same("dropped", drop(page, ("own.o", read_bytes(IN_C[0])), ("squares.gnu", squares), ("listed.lst", listed)),
          [[*names, "own.o", "squares.gnu", "listed.lst"], ""])
     same("lessons that stay", page.run("return GUIDES.length"), 12)
-    made = [f"{tools.folder}/{name}" for name in ("own.o", "converted.o", "listed.o")]
-    write(made[0], read_bytes(IN_C[0]))
-    same("v7-from-gnu", ran(tools.explain.replace("v7-explain", "v7-from-gnu"), f"{os.path.dirname(CLASS[0])}/squares.gnu", made[1]).status,
-         0)
-    write(made[2], read_bytes(f"{os.path.dirname(CLASS[0])}/k.o"))
+    same("the bytes of dropped objects", page.run("return DATA.objects.slice(5).map(({ bytes }) => btoa(latin(bytes)))"),
+         [base64.b64encode(data).decode() for data in (read_bytes(IN_C[0]), v7.from_gnu(squares), read_bytes(f"{folder}/k.o"))])
     page.run("for (const number of [5, 6, 7]) addObject(number)")
-    session = Session([Given(path) for path in made])
-    wanted = [line.replace("converted.o", "squares.gnu").replace("listed.o", "listed.lst") for line in session.lines()]
-    same("the image of dropped objects", lines_on(page_states.read(page)), wanted)
+    compare_image(tools, page, "dropped")
     bad = read_bytes(IN_C[0])[:-3]
     for name, data, fault in (("cut.o", bad, "truncated"), ("odd.o", b"\7\1\3\0" + bytes(12), "odd size"), ("x.o", b"\1", "short header"),
                               ("bad.lst", b"text\n000000 9 0\n", "line 2, column 8: not an octal number"),
@@ -63,21 +64,27 @@ def dropped(tools, page, files):
         there, said = drop(page, (name, data))
         same(f"{name} is refused", (said, there[-1]), (f"{name}: {fault}", "listed.lst"))
     same("the list stays", page.run("return view.list"), [5, 6, 7])
+    page.run("moveEarlier(7)")
+    same("one place earlier", page.run("return view.list"), [5, 7, 6])
+    page.run("removeObject(5)")
+    same("an object is taken away", page.run("return [view.list, DATA.objects.length]"), [[6, 5], 7])
+    compare_image(tools, page, "one taken away")
 
 
-def edited(_, page, __):
+def edited(tools, page, __):
     """A listing that is edited makes its object again, and the image follows; a mistake is shown with its line, and a remark with
     its word."""
     page.open("#objects=1,2")
     page.run("editListing(1)")
-    page.run(TYPE, "006300", "006301")
-    page.wait("return DATA.objects[1].text[0] === 0o6301")
-    same("the image after an edit", page.run("return [view.list, wordAt(stateNow(), 'text', 10).value, byId('own-said').textContent]"),
-         [[0, 1], 0o6301, ""])
+    for old, new in (("006300", "006301"), ("0 _twice 42 0", "0 _twice 42 2")):
+        page.run(TYPE, old, new)
+        page.wait("return latin(DATA.objects[1].bytes) === latin(LINKER.fromListing(new TextEncoder().encode(byId('own-text').value)))")
+        same("after an edit", page.run("return [view.list, byId('own-said').textContent]"), [[0, 1], ""])
+        compare_image(tools, page, f"after {new} was typed")
     page.run(TYPE, "006301", "9")
     page.wait("return byId('own-said').textContent !== ''")
-    same("a mistake", page.run("return [byId('own-said').textContent.split('\\n')[0], DATA.objects[1].text[0]]"),
-         ["twice.o: line 3, column 9: not an octal number", 0o6301])
+    same("a mistake", page.run("return [byId('own-said').textContent.split('\\n'), DATA.objects[1].text[0]]"),
+         [["twice.o: line 3, column 9: not an octal number", "> 000000  9     0  asl r0"], 0o6301])
     page.run("byId('own-name').value = 'odd.o'")
     page.run("byId('own-text').value = 'text\\n000000 000207 0\\nsymbols\\n0 _x 40 0\\nend\\n'; "
              "byId('own-text').dispatchEvent(new Event('input'));")
@@ -146,7 +153,7 @@ def restarted(tools, page, files):
         same(f"after {fault}", page.run("return [view.list, location.hash, byId('note').textContent]"),
              [[0], "#objects=1", f"{said}: the page is as it was before this step."])
         page.run("byId('add2').click()")
-        same(f"a step after {fault}", lines_on(page_states.read(page)), Session([Given(file) for file in files[:2]]).lines())
+        compare_image(tools, page, f"a step after {fault}")
 
 
 def sets(tools, page, _):

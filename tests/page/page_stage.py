@@ -1,11 +1,10 @@
-"""Measures the stage of the page: where arrows end, what a step moves, what is in view, what a choice and the search find, in
-Chromium and in Firefox."""
+"""Measures the stage of the page: what a step moves, what is in view, what a choice and the search find, in Chromium and in Firefox."""
 import re
 import time
 
 from tests.page.page_browser import Keys
 from tests.page.page_state import Given, Session
-from tests.page.page_tools import LAYOUTS, WORD, same
+from tests.page.page_tools import same
 
 # widths, heights and scales of a window; a zoom of 200 % at 1280 is a window of 640 pixels, each of two dots
 SIZES = [(1920, 1080, 1), (1366, 768, 1), (1024, 768, 1), (390, 844, 1), (640, 360, 2)]
@@ -14,58 +13,6 @@ SIZES = [(1920, 1080, 1), (1366, 768, 1), (1024, 768, 1), (390, 844, 1), (640, 3
 def first(count):
     """The address of the state of the first objects."""
     return "objects=" + ",".join(str(number) for number in range(1, count + 1))
-
-
-# ---- arrows: for some words that refer to something the row at which the drawn arrow ends, its number, and whether the word is relative
-# to the pc
-ENDS = r"""
-const [step, first] = arguments;
-const found = [];
-const state = stateNow();
-allReferences(state).forEach((one, i) => {
-    if (i % step !== first % step) return;
-    choose(one.id, false);
-    const arrow = document.querySelector(`g.arrow[data-from="${one.id}"]`), isPc = wordOf(state, one.id).pc;
-    if (!arrow) return found.push([one.id, "", "", isPc]);
-    const row = document.getElementById(arrow.dataset.to);
-    const head = arrow.querySelector(".head").getBoundingClientRect(), box = row.getBoundingClientRect();
-    const [middle, near] = [(head.top + head.bottom) / 2, (one, other) => Math.abs(one - other) <= 2];
-    const isAt = (middle > box.top && middle < box.bottom)
-        || (head.right <= box.right + 2 && (near(head.bottom, box.top) || near(head.top, box.bottom)));
-    found.push([one.id, isAt ? row.id : `not at ${row.id}`,
-        row.querySelector(".offset")?.textContent.replace(/^[a-z]+ /, "") ?? "no row", isPc]);
-});
-choose("", false);
-return found;
-"""
-
-
-def meant_in_link(linked, word, end, is_pc):
-    """The address that a word means in a link; that of a row of a word is even."""
-    part, offset = word.split("-")
-    final = linked["segments"][part][int(offset) // 2]
-    meant = (final + int(offset) + (linked["base"] if part == "data" else 0) + 2) % WORD if is_pc else final
-    return meant - meant % 2 if re.fullmatch(r"(text|data)-\d+", end) else meant
-
-
-def compare_ends(tools, page, files, step=1):
-    """Of so many words one arrow is drawn in the image, another one in each link, and ends at the place that the word means: in a link its
-    address."""
-    session, what = Session([Given(file) for file in files]), f"{len(files)} objects"
-    wanted = {key: session.place_id(word) for key, word in session.rows().items() if word.kind}
-    drawn = page.run(ENDS, step, 0)
-    count = len(drawn)
-    for word, end, *_ in drawn:
-        same(f"{what}, the image: {word} means", end, wanted.get(word, ""))
-    for number, (key, (layout, options)) in enumerate(zip("pnir", LAYOUTS.items())):
-        page.type(key)
-        linked = tools.link(options, files)
-        for word, end, address, is_pc in page.run(ENDS, step, number + 1) if "refused" not in linked else ():
-            if end:
-                same(f"{what}, {layout}: {word} means {end}", address, f"{meant_in_link(linked, word, end, is_pc):06o}")
-                count += 1
-    page.type("a")
-    return count
 
 
 # ---- steps
@@ -193,27 +140,23 @@ const shown = new Set(arrows.map(([row]) => row));
 const nowhere = drawn.references.filter((one) => one.to && byId(one.id) && !shown.has(byId(one.id))).length;
 const counted = drawn.references.filter((one) => byId(one.id)).length + left;
 return { faults, ends: arrows.length, all: drawn.references.length, counted, nowhere, isWhole: !wordOf(stateNow(), key)?.to
-    || isWholeArrow(key), said: byId("note").textContent };
+    || isWholeArrow(key) };
 """
 # all names, and so many of the words that refer to something
 CHOOSE_FROM = """
-const names = stateNow().nameList.map((name) => `name ${name}`), words = allReferences(stateNow());
+const names = stateNow().names.map(({ name }) => `name ${name}`), words = allReferences(stateNow());
 return [...names, ...words.filter((_, i) => i % Math.ceil(words.length / arguments[0]) === 0).map(({ id }) => id)];
 """
 
 
-def choices(page, what, keys, uses):
-    """Both ends of each arrow of a choice are seen, and of nine of ten words the own arrow; all references have a row or are counted, and
-    they are no fewer than those of the map."""
+def choices(page, what, keys):
+    """Both ends of each arrow of a choice are seen, and of nine of ten words the own arrow; all references have a row or are counted."""
     ends, wholly = 0, []
     for key in keys:
         seen = page.run(CHOICE, key)
         ends += seen["ends"]
         wholly += [] if key.startswith("name ") else [seen["isWhole"]]
         same(f"{what}: {key}", (seen["faults"][:2], seen["nowhere"], seen["counted"]), ([], 0, seen["all"]))
-        if key.startswith("name "):
-            same(f"{what}: {key} in words", re.search(r"(\d+) words? refer", seen["said"])[1], str(seen["all"]))
-            same(f"{what}: {key} has as many references as in the map", seen["all"] >= uses.get(key[5:], 0), True)
     same(f"{what}: choices whole in view, nine of ten", 10 * sum(wholly) >= 9 * len(wholly) or "1366" not in what, True)
     return ends
 
@@ -234,34 +177,20 @@ def whole_and_back(page):
     same("Escape", page.run("return [chosen, [...document.querySelectorAll('#image .word')].map((row) => row.id).join()]"), ["", step])
 
 
-# the search, and the places of what it finds
-FIND = "byId('find').value = arguments[0]; find(); return matches.map(({ id }) => [id.split('-')[0], Number(id.split('-')[1])]);"
-
-
-def search(tools, page, files):
-    """`/jsr pc,` finds each such instruction, in folds too: as many as v7-explain has, and those of its map."""
+def search(page, files):
+    """`/jsr pc,` finds each such instruction, in folds too. Enter leads to the next one."""
     session = Session([Given(file) for file in files])
-    wanted = [[part, offset] for (part, offset), word in session.in_order() if "jsr pc," in session.instruction(word, offset)]
+    wanted = [f"{part}-{offset}" for (part, offset), word in session.in_order() if "jsr pc," in session.instruction(word, offset)]
     page.run("document.activeElement.blur()")
-    page.type("/", "j", "s", "r", " ", "p", "c", ",")
-    page.wait("return document.getElementById('find').value === 'jsr pc,' && /of/.test(document.getElementById('found').textContent)")
-    # the search begins 150 milliseconds after the last key
-    time.sleep(0.5)
-    page.settle()
-    same("what /jsr pc, finds", (page.run("return document.getElementById('found').textContent"), len(wanted) > 0),
-         (f"1 of {len(wanted)}", True))
+    page.type("/", *"jsr pc,")
+    page.wait("return byId('found').textContent === arguments[0]", f"1 of {len(wanted)}")
+    same("what /jsr pc, finds", page.run("return matches.map(({ id }) => id)"), wanted)
     page.type(Keys.ENTER)
-    page.settle()
-    second = f"{min(2, len(wanted))} of {len(wanted)}"
-    same("the next one", page.run("return [document.getElementById('found').textContent, "
-                                  "document.querySelector('#image [aria-selected=true]') !== null]"), [second, True])
+    second = min(2, len(wanted))
+    same("the next one", page.run("return [byId('found').textContent, chosen]"), [f"{second} of {len(wanted)}", wanted[second - 1]])
     page.type(Keys.ESCAPE)
-    found = page.run(FIND, "jsr pc,")
-    same("the places that /jsr pc, finds", found, wanted)
-    mapped = tools.calls(files)
-    same("calls in the map of v7-explain that /jsr pc, does not find", [offset for offset in mapped if ["text", offset] not in found], [])
-    page.run("clearFound(); choose('', false)")
-    return len(found), len(mapped)
+    page.run("choose('', false)")
+    return len(wanted)
 
 
 # what is clicked with so many objects, or with one fewer
@@ -293,27 +222,22 @@ def response(page, objects, count):
     print(f"{page.name}: milliseconds for a click with {objects}: {said}", flush=True)
 
 
-def stage(tools, page, path, files, what, sizes=SIZES):
+def stage(page, path, files, what, sizes=SIZES):
     """All of this, with some objects. Returns how many steps are whole in view at 1366 x 768, and how many large ones are not."""
-    began, uses = time.monotonic(), tools.uses(files)
-    same("uses in the map", sum(uses.values()) > 0, True)
+    began = time.monotonic()
     page.load(path)
     page.size(1366, 768)
-    counts = {"ends of arrows": 0, "arrows of choices": 0}
-    for number in {2, 5, len(files)}:
-        page.open("#" + first(number))
-        counts["ends of arrows"] += compare_ends(tools, page, files[:number], 5 if number > 5 or not page.counts_processor else 1)
+    counts = {"arrows of choices": 0}
     counts["rows that changed"], whole, large = steps(page, len(files), sizes, what)
     for width, height, scale in sizes:
         page.size(width, height, scale)
         for number in {5, len(files)} if width == 1366 else {len(files)}:
             page.open("#" + first(number))
-            counts["arrows of choices"] += choices(page, f"{what}, {number} objects, {width} wide", page.run(CHOOSE_FROM, 20), uses
-                                                   if number == len(files) else {})
+            counts["arrows of choices"] += choices(page, f"{what}, {number} objects, {width} wide", page.run(CHOOSE_FROM, 20))
         whole_and_back(page)
     page.size(1366, 768)
     page.open("#" + first(len(files)))
-    counts["found calls"], counts["calls in the map"] = search(tools, page, files)
+    counts["found calls"] = search(page, files)
     same("nothing was measured of", [name for name, count in counts.items() if count == 0], [])
     print(f"on the stage, {what}, {page.name}: {whole} of {2 * len(files)} steps whole, "
           + ", ".join(f"{count} {name}" for name, count in counts.items()) + f", in {time.monotonic() - began:.0f} s", flush=True)

@@ -4,8 +4,9 @@ import os
 import re
 
 from tests.lib.files import read_bytes
+from tests.lib.programs import v7
 from tests.oracles import model
-from tests.page.page_tools import PARTS, WORD, addend_said, known_as, listing, size_said
+from tests.page.page_tools import PARTS, WORD, addend_said, known_as, size_said
 
 SEGMENT = {0o2: "text", 0o4: "data", 0o6: "bss"}
 # what is known of a name that is defined, or of an undefined one
@@ -26,7 +27,7 @@ def branch_of(word, address):
 
 
 class Given:
-    """An object: its words with their relocation words, its symbols, and its instructions as v7-explain has them."""
+    """An object: its words with their relocation words, its symbols, and its instructions as libv7 has them."""
 
     def __init__(self, path):
         self.path, self.name, self.file = path, os.path.basename(path), model.read_object(read_bytes(path))
@@ -41,7 +42,7 @@ class Given:
     def instructions(self):
         """The instructions by the index of their first words; words that are none are left out."""
         found, index = {}, 0
-        for line in listing(self.path).splitlines():
+        for line in v7.disassemble(read_bytes(self.path)).splitlines():
             again = re.match(r"/ .*: the row before, (\d+) times", line)
             row = re.match(r"([0-7]{6})  (?:[0-7]{6} ?)+ +(.*)", line)
             if again:
@@ -60,18 +61,19 @@ class Given:
 
 class Word:
     """A word of the image: its value, the pc bit, what it refers to (a segment, "" for a number, or None while it waits), the name that its
-    object has for it, and the place that is meant. Then its object, its segment, index, value and relocation word there."""
+    object has for it, and the place that is meant. Then its object, its segment, index, value and relocation word there, and the offsets
+    where the segments of the object begin."""
 
     def __init__(self, value, pc, kind, name, added, meant):
         self.value, self.pc, self.kind, self.name, self.added, self.meant = value, pc, kind, name, added, meant
-        self.of, self.part, self.index, self.own, self.reloc = None, "", 0, 0, 0
+        self.of, self.part, self.index, self.own, self.reloc, self.front = None, "", 0, 0, 0, {}
 
 
 class Session:
     """What a session of some objects knows."""
 
-    def __init__(self, objects):
-        merged = model.Merged([one.file for one in objects], ())
+    def __init__(self, objects, forced=()):
+        merged = model.Merged([one.file for one in objects], [name.encode() for name in forced])
         named = lambda sizes: {name: sizes[segment] for segment, name in model.SEGMENTS.items()}
         self.objects, self.sizes, self.words = objects, named(merged.sizes), {}
         self.names = {name.decode("latin-1"): ("undefined" if external.is_undefined else KNOWN[external.kind], external.value)
@@ -82,7 +84,7 @@ class Session:
             for part in PARTS:
                 for index, (word, reloc) in enumerate(one.words[part]):
                     made = self.words[part, front[part] + 2 * index] = self.word(one, front, part, index, word, reloc)
-                    made.of, made.part, made.index, made.own, made.reloc = one, part, index, word, reloc
+                    made.of, made.part, made.index, made.own, made.reloc, made.front = one, part, index, word, reloc, front
 
     def word(self, one, front, part, index, word, reloc):
         pc, kind = reloc & 1, reloc & 0o16
@@ -127,6 +129,26 @@ class Session:
             return f"{word.kind}-{word.meant - (word.meant % 2 if word.kind != 'bss' else 0)}"
         return f"{word.kind}-end" if word.meant == size else f"{word.kind}-beyond-{word.meant}"
 
+    def spots(self):
+        """The rows of places that are no words: of those that words mean, and of names in bss and at ends."""
+        named = {}
+        for name, (kind, number) in self.names.items():
+            if kind in self.sizes:
+                named.setdefault(self.place_id(Word(0, 0, kind, name, 0, number)), []).append(f"{name}: ")
+        wanted = {self.place_id(word) for word in self.words.values()} | {spot for spot in named if re.fullmatch(r"bss-\d+|.*-end", spot)}
+        rows = {}
+        for spot in wanted:
+            kind, what, *beyond = spot.split("-") if spot else ("text", "0")
+            if kind in PARTS and what not in ("end", "beyond"):
+                continue
+            number = self.sizes[kind] if what == "end" else int([what, *beyond][-1])
+            before = WORD - number if beyond and number >= WORD // 2 else 0
+            where = f"{size_said(before)} before {kind}" if before else {"end": f"the end of {kind}", "beyond": f"after {kind}"}.get(
+                what, "outside the program" if kind == "outside" else f"in {kind}")
+            at = f"\u2212{before:o}".rjust(6, "\u2007") if before else f"{number:06o}"
+            rows[spot] = f"{at} {''.join(named.get(spot, []))}{where}"
+        return rows
+
     def instruction(self, word, offset):
         """The instruction that begins at a word; a branch has its place in the image, and then that of its object."""
         text = word.of.instructions.get(word.index, "") if word.part == "text" else ""
@@ -160,18 +182,44 @@ class Session:
         lines = []
         for (part, offset), word in self.in_order():
             said = self.instruction(word, offset)
-            lines.append(f"{part} {offset:06o} {word.value:06o} {'pc ' * word.pc}{self.place(word)}{f' / {said}' * bool(said)}")
+            given = f", in {word.of.name} {word.own:06o}" * (word.reloc & 0o16 in SEGMENT and word.value != word.own)
+            lines.append(f"{part} {offset:06o} {word.value:06o} {'pc ' * word.pc}{self.place(word)}{given}{f' / {said}' * bool(said)}")
         lines += [f"bss {size_said(self.sizes['bss'])}"] * (self.sizes["bss"] > 0)
         names = [f"name {name}: {known_as(*known)}" for name, known in self.names.items()]
         return [*lines, *sorted([*names, *(f"name {name}: multiply defined" for name in self.multiples)])]
 
 
+    def chosen(self):
+        """What the page says of each word and of each name that is chosen."""
+        found = {}
+        for (part, offset), word in self.in_order():
+            target = word.of.branch(word.index) if part == "text" and word.index in word.of.instructions else None
+            if word.kind is None:
+                said = f"{self.place(word)}, which no object has defined."
+            elif target is not None:
+                moved = (target + offset - 2 * word.index) % WORD
+                said = f"branches to text {moved:06o}: it holds the distance in its own text, which stays as it is."
+            elif not word.reloc & 0o17:
+                said = "refers to nothing: it stays as it is."
+            else:
+                name = f"{word.name}{addend_said(word.added)}, " * bool(word.name)
+                distance = ", and holds the distance to it from the place after the word" if word.kind == part else \
+                    ". The distance comes with a link, which places the segments"
+                said = f"refers to {name}{self.place(word)}{distance * word.pc}."
+            found[f"{part}-{offset}"] = f"The word at {part} {offset:06o} {said}"
+        for name, known in self.names.items():
+            place = self.place_id(Word(0, 0, known[0], name, 0, known[1])) if known[0] in self.sizes else ""
+            count = sum(word.name == name or (place != "" and self.place_id(word) == place) for word in self.words.values())
+            found[f"name {name}"] = f"{name} is {known_as(*known)}. {counted(count, 'word')} refer{'s' * (count == 1)} to it."
+        return found
+
+
 class Step:
     """What the last step did: an object was added to a session, or withdrawn."""
 
-    def __init__(self, objects, is_gone=False):
+    def __init__(self, objects, is_gone=False, forced=()):
         self.one, self.is_gone = objects[-1], is_gone
-        self.before, self.after = Session(objects[:-1]), Session(objects)
+        self.before, self.after = Session(objects[:-1], forced), Session(objects, forced)
         old, new = self.before.words, self.after.words
         self.changed = sorted((key for key in old if old[key].kind is None and new[key].kind is not None),
                               key=lambda key: (PARTS.index(key[0]), key[1]))
@@ -188,22 +236,22 @@ class Step:
         words = f": {counted(len(self.changed), 'word')} {'put back' if self.is_gone else 'bound'}" if self.changed else ""
         return f"{'Withdrew' if self.is_gone else 'Added'} {self.one.name}{words}"
 
-    def sentence(self):
-        """What the page says of the step."""
-        if not self.changed:
-            return " ".join([self.brought(), *self.doubled()])
-        part, offset = self.changed[0]
+    def told(self, part, offset):
+        """Why a word changed."""
         old, new = self.before.words[part, offset], self.after.words[part, offset]
         at, where = self.after.names[old.name][1], f"The word at {part} {offset:06o}"
-        more = [f"{counted(len(self.changed) - 1, 'other word')} changed too."] * (len(self.changed) > 1)
         if self.is_gone:
-            return " ".join([f"{where} waits for {old.name} again: its mark gave it back what it was, {old.value:06o}.", *more])
+            return f"{where} waits for {old.name} again: its mark gave it back what it was, {old.value:06o}."
         sign = lambda number: str(number if number < WORD // 2 else number - WORD).replace("-", "\u2212")
         decimal = f", in decimal {sign(old.value)} + {sign(at)} = {sign(new.value)}" if new.pc and old.value >= WORD // 2 else ""
         distance = f", the distance from {offset + 2:06o} to {new.meant:06o}" if new.pc and new.kind == part else ""
-        said = (f"{where} waited for {old.name}. This is at {at:06o} now, so the linker added it: "
+        return (f"{where} waited for {old.name}. This is at {at:06o} now, so the linker added it: "
                 f"{old.value:06o} + {at:06o} = {new.value:06o}{decimal}{distance}.")
-        return " ".join([said, *more, *self.doubled()])
+
+    def sentence(self):
+        """What the page says of the step."""
+        more = [f"{counted(len(self.changed) - 1, 'other word')} changed too."] * (len(self.changed) > 1)
+        return " ".join([*([self.told(*self.changed[0]), *more] if self.changed else [self.brought()]), *self.doubled()])
 
     def doubled(self):
         """The names that the object defines a second time."""

@@ -92,11 +92,6 @@ def known_as(kind, number):
     return f"{'the number' if kind == 'number' else kind} {number:06o}"
 
 
-def listing(path):
-    """The instructions of a file, as v7-explain has them."""
-    return ran(program("v7-explain"), "-d", path).texts("utf-8")[1]
-
-
 class Scripts:
     """The scripts of a page that need no browser, in node."""
 
@@ -122,8 +117,9 @@ class Scripts:
 class Tools:
     """The programs that the page is compared with."""
 
-    def __init__(self, folder):
-        self.v7, self.explain, self.folder, self.module = program("v7"), program("v7-explain"), folder, os.path.join(TOP, BUILD, "v7.wasm")
+    def __init__(self, folder, seed=0):
+        self.v7, self.folder, self.seed = program("v7"), folder, seed
+        self.module = os.path.join(TOP, BUILD, "v7.wasm")
         if not os.path.exists(self.module) and not shutil.which("wasm-opt"):
             print("not run, as wasm-opt is missing: Debian's package is binaryen")
             sys.exit(0)
@@ -140,28 +136,9 @@ class Tools:
         scripts = Scripts(self.page_of(files, lessons=lessons))
         return scripts, scripts.run(OPEN)
 
-    def map_of(self, files):
-        return ran(self.explain, "-m", *files).texts("utf-8")[1]
-
-    def calls(self, files):
-        """The places of the calls that the map of a link lists: it has those of their operands, one word after them."""
-        return [int(offset, 8) - 2 for offset in re.findall(r"text ([0-7]{6}) .*: jsr pc,", self.map_of(files))]
-
-    def uses(self, files):
-        """For each name how many words of objects that do not define it refer to it, by the map of a link."""
-        uses, name, definer = {}, "", ""
-        for line in self.map_of(files).partition("\nExternals\n")[2].splitlines():
-            found = re.match(r"[0-7 ]{6} [A-Za-z] (\S+)$", line)
-            name, definer = (found[1], "") if found else (name, definer)
-            defined = re.match(r"    defined in  (\S+)$", line)
-            definer = defined[1] if defined else definer
-            used = re.match(r"    (?:used in    )? +(\S+) \((\d+)\)$", line) if "common in" not in line else None
-            uses[name] = uses.get(name, 0) + (int(used[2]) if used and used[1] != definer else 0)
-        return uses
-
-    def joined(self, count, seed):
-        """So many objects that `ld -r` makes of the sixteen, which a seed puts into an order."""
-        order = random.Random(seed).sample(SIXTEEN, len(SIXTEEN))
+    def joined(self, count):
+        """So many objects that `ld -r` makes of the sixteen, which the seed puts into an order."""
+        order = random.Random(self.seed).sample(SIXTEEN, len(SIXTEEN))
         groups = [order[len(order) * number // count:len(order) * (number + 1) // count] for number in range(count)]
         return [write(f"{self.folder}/joined{count}-{number}.o", self.bytes_of_link(["-r"], group)) for number, group in enumerate(groups)]
 

@@ -6,22 +6,11 @@ import re
 from tests.lib.files import read_bytes, write
 from tests.lib.objects import unpack
 from tests.page.page_browser import Keys
-from tests.page.page_lessons import answer_said
-from tests.page.page_model import asked
+from tests.page.page_model import asked, compare_step, lines_on, read
 from tests.page.page_stage import first, steps
 from tests.page.page_state import Given, Session
-from tests.page.page_tools import LAYOUTS, addend_said, object_of, same, size_said
+from tests.page.page_tools import LAYOUTS, addend_said, same, size_said
 
-FIRST = """
-const text = (selector) => {
-    const element = document.querySelector(selector);
-    return element?.checkVisibility() ? element.textContent.trim() : "";
-};
-return { title: text("h1"), titles: document.querySelectorAll("h1").length, lead: text(".lead"),
-    legend: document.querySelectorAll(".legend li").length,
-    action: text("#first"), tour: text("#menu button"), status: text("#status"),
-    border: getComputedStyle(document.getElementById("status")).borderStyle };
-"""
 # how far texts differ from their background: the smallest contrast, and where
 CONTRAST = r"""
 const rgb = (text) => text.match(/[\d.]+/g).map(Number);
@@ -54,18 +43,30 @@ return [...document.querySelectorAll("button, summary, [tabindex]")].filter((e) 
 
 def first_view(_, page, __):
     page.open("")
-    seen = page.run(FIRST)
-    same("the title", (seen["title"], seen["titles"]), ("What a linker does", 1))
-    same("sentences of the first view", len(re.findall(r"[.:] |\.$", seen["lead"])) >= 2, True)
-    same("lines of the legend", seen["legend"], 6)
-    same("the first action", (seen["action"], seen["tour"]), ("Add main.o", "Take the tour, 5 steps"))
-    same("the status does not look like a button", seen["border"], "none")
-    same("the words of the page are not nothing", page.run("return document.body.innerText.includes('nothing\\n')"), False)
+    seen = page.run("return ['h1', '#first', '#menu button', '#welcome', '#status'].map((one) => document.querySelector(one).innerText)")
+    same("the first view", seen[:3], ["What a linker does", "Add main.o", "Take the tour, 5 steps"])
+    same("the legend", page.run("return [...document.querySelectorAll('.legend .swatch')].map((one) => [one.className, "
+                                "one.nextSibling.textContent])"),
+         [["swatch new", "new"], ["swatch bound", "bound"], ["swatch put-back", "put back"]])
+    same("the place to drop files", "Drop object files" in seen[3], True)
+    same("the picture", page.run("return document.querySelector('.first-picture').getBoundingClientRect().width > 200"), True)
     page.click("first")
-    same("the first action adds main.o", page.run("return [location.hash, document.getElementById('status').textContent]"),
-         ["#objects=1", "Added main.o"])
+    same("the first action adds main.o", page.run("return [location.hash, byId('status').textContent]"), ["#objects=1", "Added main.o"])
     page.type("2")
-    same("the legend after the first step", page.run("return document.getElementById('legend').checkVisibility()"), False)
+    same("the legend after the first step", page.run("return byId('legend').checkVisibility()"), False)
+
+
+def clicks(_, page, files):
+    """Two objects, one taken back and put back, by clicks. The tabulator reaches each button, and Enter presses it."""
+    page.open("")
+    for button, count in (("add1", 1), ("add2", 2), ("withdraw", 1), ("flick", 2), ("flick", 1), ("withdraw", 0), ("flick", 1)):
+        page.click(button)
+        same(f"click {button}", lines_on(read(page)), Session([Given(file) for file in files[:count]]).lines())
+    page.pick("addresses", "-n (n)")
+    same("the address", page.run("return location.hash"), "#objects=1&addresses=-n&whole=1")
+    page.open("")
+    page.press("add2")
+    same("Enter", lines_on(read(page)), Session([Given(files[1])]).lines())
 
 
 def roles(_, page, __):
@@ -158,7 +159,8 @@ def tour(_, page, __):
     for number in range(1, 6):
         page.wait("return new URLSearchParams(location.hash.slice(1)).get('tour') === arguments[0]", str(number))
         told.append(page.run("return document.querySelector('#guide .says').textContent"))
-        same(f"the tour at {number}", page.run("return document.querySelectorAll('.toured').length"), 1)
+        same(f"the tour at {number}", page.run("return [document.querySelectorAll('.toured').length, document.querySelector('#guide "
+                                               "h2').textContent]"), [1, f"Tour, {number} of 5"])
         if number < 5:
             page.press("next")
     same("steps of the tour", (len(set(told)), min(map(len, told)) > 60), (5, True))
@@ -246,7 +248,7 @@ def wrong_answer(_, page, __):
 WRONG_ANSWERS = """
 const wait = nextStep();
 const wrong = choicesOf(wait).filter((one) => !one.isRight);
-const known = namesOf(stateNow()).find(({ name }) => name === wait.name);
+const known = stateNow().byName.get(wait.name);
 const numbers = { value: [wait.before, wait.number + 2], where: [known?.number ?? 2, (wait.number ?? 0) + 2, 0,
     ...(known ? LAYOUTS.map((_, i) => symbolOf(stateNow(), known.i, i).value) : [])] }[wait.kind] ?? [];
 for (const number of new Set(numbers)) if (number !== wait.number) wrong.push({ number, isRight: false });
@@ -354,26 +356,16 @@ def numbers(_, page, __):
 
 
 def leads(_, page, __):
-    """Marks lead to their words, names to theirs. The bar stays, and the image fills its column."""
+    """Marks lead to their words, and names to theirs. On a phone the buttons stay, and the image is seen."""
     page.size(1280, 300)
     page.open("#objects=1,2")
     page.run("document.getElementById('main').scrollTop = 10000; document.querySelector('#marks [data-key=text-6]').click()")
-    seen = page.run("const box = document.getElementById('text-6').getBoundingClientRect(); "
-                    "const bar = document.getElementById('top').getBoundingClientRect();"
-                    "return [document.querySelector('#image [aria-selected=true]').id, "
-                    "box.top >= bar.bottom - 1 && box.bottom <= innerHeight + 1]")
-    same("a mark leads to its word", seen, ["text-6", True])
-    same("and shows its arrow", page.run("return [...document.querySelectorAll('g.arrow')].map((arrow) => arrow.dataset.from)"), ["text-6"])
+    same("a mark leads to its word, and shows its arrow",
+         page.run("const box = byId('text-6').getBoundingClientRect(); return [document.querySelector('#image [aria-selected=true]').id, "
+                  "box.top >= byId('top').getBoundingClientRect().bottom - 1 && box.bottom <= innerHeight + 1, "
+                  "[...document.querySelectorAll('g.arrow')].map((arrow) => arrow.dataset.from)]"), ["text-6", True, ["text-6"]])
     page.run("document.querySelector('#names [data-key=\"name _count\"]').click()")
     same("a name shows no arrow but its own", page.run("return document.querySelectorAll('g.arrow').length"), 0)
-    for width, height in ((390, 500), (820, 500), (1280, 500)):
-        page.size(width, height)
-        page.open("#objects=1,2,3,4,5")
-        page.run("window.scrollTo(0, 400); document.getElementById('main').scrollTop = 400;")
-        top = page.run("return ['h1', '#status', '#withdraw', "
-                       "'#flick'].map((s) => document.querySelector(s).getBoundingClientRect()).every((b) => b.top >= 0 && b.bottom <= "
-                       "innerHeight)")
-        same(f"the bar stays, {width} wide", top, True)
     page.size(390, 844)
     page.open("")
     same("on a phone the objects are folded",
@@ -381,16 +373,10 @@ def leads(_, page, __):
     page.click("first")
     for number in (2, 3, 4):
         seen = page.run("const button = document.querySelector('#adds button:not([aria-disabled=true])'), "
-                        "box = button.getBoundingClientRect(); button.click(); return box.top >= 0 && box.bottom <= innerHeight")
-        same(f"on a phone the buttons stay, {number}", (seen, page.run("return view.list.length")), (True, number))
-        same(f"on a phone the image is seen, {number}",
-             page.run("const box = document.querySelector('.word.new, .word.bound').getBoundingClientRect(); "
-                      "return box.top < innerHeight && box.bottom > 0"), True)
-    page.size(1366, 768)
-    page.open("#objects=1,2,3,4")
-    fill = page.run("const row = document.querySelector('.word').getBoundingClientRect(), "
-                    "main = document.getElementById('main').getBoundingClientRect(); return row.width / main.width")
-    same("the image fills its column", fill > 0.6, True)
+                        "box = button.getBoundingClientRect(); button.click(); "
+                        "const row = document.querySelector('.word.new, .word.bound').getBoundingClientRect(); "
+                        "return [box.top >= 0 && box.bottom <= innerHeight, row.top < innerHeight && row.bottom > 0, view.list.length]")
+        same(f"on a phone, {number} objects", seen, [True, True, number])
 
 
 def texts(_, page, __):
@@ -426,26 +412,17 @@ for (const name of ["union", "intersection", "difference", "symmetricDifference"
 delete Object.groupBy; delete Map.groupBy; delete Promise.withResolvers; delete URL.canParse; delete String.prototype.isWellFormed;
 delete Element.prototype.setHTMLUnsafe; delete HTMLElement.prototype.showPopover; delete Document.prototype.startViewTransition;
 """
-OLD_SEEN = """
-const rows = [...document.querySelectorAll("#image .word")];
-choose("text-6", true);
-return { rows: rows.length, roles: rows.filter((row) => row.getAttribute("role") === "option" && row.getAttribute("aria-label")).length,
-    chosen: document.querySelectorAll("#image [aria-selected=true]").length,
-    groups: document.querySelectorAll("#image [role=group][aria-label]").length,
-    arrows: document.querySelectorAll("g.arrow").length, sentence: document.getElementById("note").textContent.length > 20 };
-"""
 
 
-def old_browser(_, page, __):
-    """The oldest browsers, by taking away what they lack: words have roles and labels, and can be chosen."""
+def old_browser(_, page, files):
+    """The oldest browsers, by taking away what they lack: steps are shown, and words have roles and labels."""
     kept, path = page.before_loading(OLD), page.url.removeprefix("file://")
     page.load(path)
-    page.open("#objects=1,2")
-    page.type("3", "w")
-    same("steps in an old browser", page.run("return view.list.length"), 2)
-    page.type("w", "2")
-    wanted = {"rows": 7, "roles": 7, "chosen": 1, "groups": 1, "arrows": 1, "sentence": True}
-    same("an old browser", page.run(OLD_SEEN), wanted)
+    for count in (1, 2, 3):
+        page.open("#" + first(count))
+        compare_step(page, [Given(file) for file in files[:count]], False, f"{count} objects in an old browser")
+        same("rows with roles and labels", page.run("return [...document.querySelectorAll('#image .word')].every((row) => "
+                                                    "row.getAttribute('role') === 'option' && row.getAttribute('aria-label'))"), True)
     page.as_before(kept)
     page.load(path)
 
@@ -468,56 +445,49 @@ def projector(_, page, __):
     same("words for a projector", (seen[0] >= 28, seen[1] >= 24, seen[2:]), (True, True, [False, True]))
 
 
-def paper(_, page, __):
-    """A lesson on paper, without answers and with them."""
-    page.run("window.print = () => {}")
-    page.open("#lesson=2&done=0")
-    page.run("window.print = () => { window.printed = document.body.classList.contains('handout'); }")
-    page.click("handout")
-    texts = page.run("return [...document.querySelectorAll('#paper > div')].map((part) => part.textContent)")
-    asked = page.run("return GUIDES[2].steps.filter((step) => step.ask).map((step) => prose(step.ask))")
-    same("the handout is printed", page.run("return [window.printed, document.body.classList.contains('handout'), view.guide, view.done]"),
-         [True, False, 2, 0])
-    same("questions on paper, without answers and with them", (len(texts), [ask for ask in asked for text in texts if ask not in text]),
-         (2, []))
-    same("answers on paper", ["Answer: text 000006" in text for text in texts], [False, True])
-    page.open("#lesson=2&done=0&numbers=decimal")
-    page.run("window.print = () => {}")
-    page.click("handout")
-    decimal = page.run("return document.querySelectorAll('#paper tr')[3].textContent.replace(/\\s+/g, '')")
-    same("a handout in decimal", decimal, "text665528031=symbol1,pc/_twice")
-    page.open("#lesson=2&done=1")
-    same("one handout of a lesson", page.run("return document.getElementById('handout')"), None)
-
-
-# of each lesson the objects that it adds, and of its sheet without answers the headings and the lines of objects, what is marked, and what
-# follows `Answer: `; then the answers, as text, with the sheet's steps
+# of each lesson the objects that it adds and the questions that it asks; of its sheet without answers the headings and the lines of
+# objects, what is marked, and what follows `Answer: `; then the answers, as text, and the steps of both sheets
 HANDOUTS = """
-window.print = () => {};
+window.print = () => { window.printed = document.body.classList.contains("handout"); };
 return GUIDES.slice(1).map(({ steps }, i) => {
     view = guideView(i + 1, 0);
     printHandout();
-    const sheet = document.querySelector("#paper > div"),
-        all = (selector) => [...sheet.querySelectorAll(selector)].map((one) => one.textContent);
+    const sheets = [...document.querySelectorAll("#paper > div")];
+    const all = (selector) => [...sheets[0].querySelectorAll(selector)].map((one) => one.textContent);
     const added = [...new Set(steps.filter(({ act }) => act?.[0] === "add").map(({ act }) => act[1]))];
-    const asked = steps.filter(({ ask, kind }) => ask && ["value", "where"].includes(kind)).map(rightText);
+    const questions = steps.filter(({ ask }) => ask);
+    const asked = questions.filter(({ kind }) => ["value", "where"].includes(kind)).map(rightText);
+    const right = questions.flatMap(({ choices }) => choices.filter(({ isRight }) => isRight)).map(givenText);
     return [added, all("h2"), all(".paper-object tr").length, all("table").length - all(".paper-object").length,
-        sheet.textContent.includes("\u2612"), all(".line"), asked, all(".paper-step").join(" ")];
+        all(".line"), asked, all(".paper-step").join(" "), sheets.map((sheet) => sheet.textContent), questions.map(({ ask }) => prose(ask)),
+        questions.map(rightText), right.map((text) => `\u2612 ${text}`), sheets.map((one) => one.textContent.split("\u2612").length - 1)];
 });
 """
 
 
 def handouts(_, page, files):
-    """The sheet of each lesson has its objects, from which all follows, and no answer."""
+    """The sheet of each lesson has its objects, from which all follows, its questions, and no answer; the next sheet has the answers."""
     page.open("")
     objects, count = [Given(file) for file in files], 0
-    for number, (added, heads, rows, tables, is_marked, lines, answers, steps) in enumerate(page.run(HANDOUTS), 1):
+    for number, found in enumerate(page.run(HANDOUTS), 1):
+        added, heads, rows, tables, lines, answers, steps, sheets, asked, right, marked, marks = found
         same(f"the objects of handout {number}", (heads, rows),
              ([objects[one].name for one in added], sum((objects[one].text + objects[one].data) // 2 for one in added)))
         same(f"the answers of handout {number}",
-             (tables, is_marked, {*lines} - {"Answer: ______________________"},
-              [one for one in answers if re.search(rf"\b{one}\b", steps)]), (0, False, set(), []))
+             (tables, {*lines} - {"Answer: ______________________"}, [one for one in answers if re.search(rf"\b{one}\b", steps)], marks),
+             (0, set(), [], [0, len(marked)]))
+        same(f"the questions of handout {number}", [ask for ask in asked for sheet in sheets if ask not in sheet], [])
+        same(f"the answers on the last sheet of {number}",
+             [text for text in [*(f"Answer: {one}" for one in right), *marked] if text not in sheets[1]], [])
         count += len(lines)
+    page.open("#lesson=1&done=0&numbers=decimal")
+    page.run("window.print = () => { window.printed = document.body.classList.contains('handout'); }")
+    page.click("handout")
+    same("a handout in decimal", page.run("return [printed, document.body.classList.contains('handout'), view.done, "
+                                          "/\\b0[0-7]{5}\\b/.test(byId('paper').querySelector('.paper-object table').textContent)]"),
+         [True, False, 0, False])
+    page.open("#lesson=1&done=1")
+    same("one handout of a lesson", page.run("return byId('handout')"), None)
     return count
 
 
@@ -538,46 +508,20 @@ def pieces(bounds):
 
 
 def maps(tools, page, files):
-    """The memory maps have the segments of objects and links where the files have them; commons and bss are one in a file."""
+    """The memory maps have the segments of objects and links where the files have them, with the shares of objects."""
     page.open("#" + first(len(files)))
-    shown = page.run(MAPS)
-    for (title, titles, _), file in zip(shown, files):
-        text, data, bss = unpack(read_bytes(file)).header[1:4]
-        wanted = pieces([("text", 0, text), ("data", text, text + data), ("bss", text + data, text + data + bss)])
-        same(f"the map of {file}", (title, titles), (os.path.basename(file), wanted))
-    sizes = [unpack(read_bytes(file)).header[1:4] for file in files]
+    sizes, wanted = [unpack(read_bytes(file)).header[1:4] for file in files], []
+    for file, (text, data, bss) in zip(files, sizes):
+        parts = [("text", 0, text), ("data", text, text + data), ("bss", text + data, text + data + bss)]
+        wanted.append([os.path.basename(file), pieces(parts), [[] for _, start, end in parts if end > start]])
     shares = [[[number, size[which]] for number, size in enumerate(sizes, 1) if size[which]] for which in range(3)]
-    for (title, titles, shared), (name, options) in zip(shown[len(files):], LAYOUTS.items()):
-        same(f"the shares of a link, {name}", shared, [one for one in shares if one])
+    for name, options in LAYOUTS.items():
         linked = tools.link(options, files)
-        header, base = linked["header"], linked["base"]
-        rest = [one for one in titles if not one.startswith(("text", "data"))]
-        wanted = pieces([("text", 0, header[1]), ("data", base, base + header[2])])
-        same(f"the map of a link, {name}", (title, [one for one in titles if one not in rest]), (f"ld {name}" if options else "ld", wanted))
-        same(f"the map of a link, {name}: bytes after data", sum(int(one.split()[1], 8) for one in rest), header[3])
-    same("maps", len(shown), len(files) + len(LAYOUTS))
-
-
-# the steps of the practice: what is asked, in the form of the lessons of a page, and the act
-PRACTICE = """
-const askedBy = ({ kind, answers, word, name, number, before }) => ({ changes: [kind, ...answers], value: [kind, word, number, before],
-    where: [kind, name, number] })[kind];
-return GUIDES[GUIDES.length - 1].steps.filter(({ act }) => act).map((one) => [askedBy(one) ?? null, one.act]);
-"""
-
-
-def practice(tools, page, files):
-    """The answers of the practice are what the programs say."""
-    here, count = [], 0
-    for question, (act, *rest) in page.run(PRACTICE):
-        after = [*here, files[rest[0]]] if act == "add" else here
-        if question:
-            wanted = answer_said(tools, question, after, act, rest, after if act == "add" else [])
-            same(f"practice, {len(after)} objects", sorted(map(str, question)), sorted(map(str, wanted)))
-        if question and question[0] == "value":
-            same(f"practice, {len(after)} objects, before", question[3], Session([Given(file) for file in here]).rows()[question[1]].value)
-        here, count = after, count + bool(question)
-    return count
+        (_, text, data, rest), base = linked["header"][:4], linked["base"]
+        end, bss = base + data + rest, sum(size[2] for size in sizes)
+        parts = [("text", 0, text), ("data", base, base + data), ("commons", base + data, end - bss), ("bss", end - bss, end)]
+        wanted.append([f"ld {name}" if options else "ld", pieces(parts), [one for one in shares if one]])
+    same("memory maps", page.run(MAPS), wanted)
 
 
 # gives a right or a wrong answer to the open question
@@ -599,21 +543,6 @@ def result(_, page, __):
         page.run("goTo(7, arguments[0])", done + 1)
     same("the result of a lesson", (given, page.run("return document.querySelector('#guide .result')?.textContent")),
          ([True, False, True], "Your first answers: 2 right, 1 wrong, 1 open."))
-
-
-def distances(_, page, __):
-    """A distance is one within a segment, or in a link; elsewhere the page says that a link makes it."""
-    page.size(1366, 768)
-    page.open("#objects=1,2,3,5")
-    words = page.run("return allReferences(stateNow()).filter((one) => one.to).map((one) => [one.id, wordOf(stateNow(), "
-                     "one.id)]).filter(([, word]) => word.pc).map(([id, word]) => [id, SEGMENTS[word.kind] === word.part])")
-    for word, is_one in words:
-        for key, isTold in (("a", True), ("a", is_one)):
-            page.type(key)
-            page.run("choose(arguments[0], true)", word)
-            said = page.run("return chosenText(stateNow())")
-            same(f"the distance of {word}: {said}", ("holds the distance" in said, "comes with a link" in said), (isTold, not isTold))
-    same("words with and without a distance", {is_one for _, is_one in words}, {True, False})
 
 
 # ---- the object beside the image
@@ -656,30 +585,10 @@ def beside(_, page, files):
     return len(keys)
 
 
-# the line of a place, once a name is chosen
-END = "choose(`name ${arguments[0]}`, true); const row = byId(arguments[1]); return row && row.textContent.replace(/\\s+/g, ' ').trim();"
-
-
-def ends(tools, page, _):
-    """A name at the end of a segment leads to the end, in the image and in a link, and so does a word that means the end: not to what
-    follows."""
-    given = write(f"{tools.folder}/ends.o",
-                  object_of([(4, 0o2), (6, 0o4)], [("_after", 0o42, 4), ("_past", 0o43, 6), ("_room", 0o40, 2)], [1]))
-    page.load(tools.page_of([given], "ends.html"))
-    page.open("#objects=1")
-    for key, (text, data) in (("", ("000004", "000002")), ("p", ("000004", "000006")), ("n", ("000004", "020002"))):
-        page.type(*key)
-        for name, row, said in (("_after", "text-end", f"{text} _after: the end of text"),
-                                ("_past", "data-end", f"{data} _past: the end of data")):
-            same(f"the end {name}, {key or 'the image'}", page.run(END, name, row), said)
-        same(f"what words mean, {key or 'the image'}", page.run("return allReferences(stateNow()).map((one) => one.to)"),
-             ["text-end", "data-end"])
-
-
 # the checks of this file, and the pages that each is for: the class example, a program in C, pointers and bss, sixteen objects
 CHECKS = (
     (first_view, (0,)), (roles, (0,)), (stops, (3,)), (keys, (0,)), (history, (0,)), (tour, (0,)), (lessons, (0, 1, 2)),
     (wrong_answer, (0,)), (numbers, (0,)), (leads, (0,)),
-    (texts, (0,)), (presenter, (3,)), (projector, (0,)), (paper, (0,)), (handouts, (0, 1, 2)), (maps, (0, 1, 2)), (practice, (0, 1, 2)),
+    (clicks, (0,)), (texts, (0,)), (presenter, (3,)), (projector, (0,)), (handouts, (0, 1, 2)), (maps, (0, 1, 2)),
     (result, (0,)), (beside, (0, 3)), (old_browser, (0,)),
-    (distances, (1,)), (ends, (0,)), (reasons, (0, 1, 2)), (hints, (0,)))
+    (reasons, (0, 1, 2)), (hints, (0,)))
