@@ -98,8 +98,8 @@ function missingOf({ kind, choices }) {
 function ensureAllowed(steps, open, word) {
     ensure(steps.length > 0 || word === "lesson", "no lesson has begun");
     const what = open ? missingOf(open) : "";
-    const isNext = { step: ["word", "number", ...STEPS], "reason for its wrong answer": ["because"], "": [word] }[what] ?? ["right", "wrong"];
-    ensure(isNext.includes(word), `the question of line ${open?.line} has no ${what}`);
+    const next = { step: ["word", "number", ...STEPS], "reason for its wrong answer": ["because"], "": [word] }[what] ?? ["right", "wrong"];
+    ensure(next.includes(word), `the question of line ${open?.line} has no ${what}`);
 }
 
 // a question, with what it asks of its step

@@ -148,6 +148,8 @@ function editListing(number) {
     typed();
     showTab("objects");
     byId("own-text").focus();
+    byId("own-text").setSelectionRange(0, 0);
+    byId("own-text").scrollTop = 0;
 }
 
 // makes the object anew of its listing, while one types; at a mistake it shows the line, and the object stays as it was

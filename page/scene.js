@@ -142,12 +142,19 @@ function putScene(context, parts, how) {
     return room === 0 || rest.offsetTop + (isWide() && !how.isLast ? rest.offsetHeight : 0) <= room;
 }
 
-// shows parts with the instructions around their words, with a line for each word, or a cell: in two columns, three, or four where they fit
+// of each form how many columns it has at most, and how many pixels a row has at least
+const FORMS = { line: [1, 20], cells: [2, 16], "cells dense": [3, 16], "cells dense tight": [4, 12] };
+
+// shows parts with the instructions around their words, with a line for each word, or a cell: in two columns, three, or four where they
+// fit. To lay out takes long, so a form that is too high by its words alone is not tried
 function showsAll(context, parts) {
     const count = parts.flatMap(({ groups }) => groups.flatMap(({ words }) => words)).length;
+    const room = byId("stage").clientHeight || Infinity;
     const cells = ["cells", "cells dense", "cells dense tight"].map((cells) => ({ cells, isLast: true }));
-    return [...(count <= FEW ? [{ near: true }] : []), {}, { cells: "cells" }, ...cells]
-        .some((how) => putScene(context, parts, { limit: Infinity, ...how }));
+    return [...(count <= FEW ? [{ near: true }] : []), {}, { cells: "cells" }, ...cells].some((how) => {
+        const [columns, height] = FORMS[how.cells ?? "line"];
+        return count * height <= room * columns && putScene(context, parts, { limit: Infinity, ...how });
+    });
 }
 
 // puts the first scene that fits on the stage; if none does, the last one, with so many words of large groups as fit. That of another

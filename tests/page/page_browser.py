@@ -143,26 +143,10 @@ class Chromium(Browser):
         printed = self.driver.execute_cdp_cmd("Page.printToPDF", {"preferCSSPageSize": True, "printBackground": True})
         return base64.b64decode(printed["data"])
 
-    def tree(self):
-        """The accessibility tree: the nodes by their numbers, and of each its role and its name."""
-        nodes = {node["nodeId"]: node for node in self.driver.execute_cdp_cmd("Accessibility.getFullAXTree", {})["nodes"]}
-        return nodes, {number: (node.get("role", {}).get("value", ""), node.get("name", {}).get("value", ""))
-                       for number, node in nodes.items()}
-
     def roles(self):
         """What is not ignored of the accessibility tree, as pairs of a role and a name."""
-        nodes, roles = self.tree()
-        return [roles[number] for number, node in nodes.items() if not node["ignored"]]
-
-    def live(self):
-        """What the accessibility tree has in the place that is announced."""
-        nodes, roles = self.tree()
-        texts, waiting = [], [number for number, (role, _) in roles.items() if role == "status"]
-        while waiting:
-            number = waiting.pop()
-            waiting += [child for child in reversed(nodes[number].get("childIds", [])) if child in nodes]
-            texts += [roles[number][1]] if roles[number][0] == "StaticText" else []
-        return " ".join(" ".join(texts).split())
+        nodes = self.driver.execute_cdp_cmd("Accessibility.getFullAXTree", {})["nodes"]
+        return [tuple(node.get(what, {}).get("value", "") for what in ("role", "name")) for node in nodes if not node["ignored"]]
 
     def busy(self):
         """How many milliseconds of the processor the page has taken, with its layout and its drawing."""

@@ -183,18 +183,11 @@ def refusals(tools, files):
 
 
 def scripts_of(folder):
-    """The scripts are short, and so are their functions; no name is declared by two of them, as one script would be lost."""
-    declared = []
-    for name in sorted(os.listdir(folder)):
-        if name.endswith(".js"):
-            lines = read(f"{folder}/{name}").splitlines()
-            names = [re.match(r"(?:const|let|class|(?:async )?function) (\w+|\[[\w, ]+\]|\{[\w, ]+\})", line) for line in lines]
-            declared += [word for found in names if found for word in re.findall(r"\w+", found[1])]
-            starts = [i for i, line in enumerate(lines) if re.match(r"(async )?function |const \w+ = \(.*=> \{$", line)]
-            long = [lines[start] for start in starts if lines[start:].index("}" if "function " in lines[start] else "};") >= 39]
-            same(f"long functions of {name}", (long, len(starts) > 0, len(lines) <= 300), ([], True, True))
-    same("names that are declared twice", sorted({name for name in declared if declared.count(name) > 1}), [])
-    same("names that are declared", len(declared) > 200, True)
+    """The scripts are short, and so are their functions."""
+    for name in sorted(name for name in os.listdir(folder) if name.endswith(".js")):
+        functions = re.findall(r"^(?:async )?function (?:.*\n)*?}$", text := read(f"{folder}/{name}"), re.M)
+        same(f"long functions of {name}", ([one.split("(")[0] for one in functions if one.count("\n") >= 39], len(functions) > 0,
+                                           text.count("\n") <= 300), ([], True, True))
 
 
 # ---- all of it

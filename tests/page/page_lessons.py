@@ -103,7 +103,8 @@ def lessons_of_all_kinds(tools, files):
     said = [part for one in lessons for step in one["steps"] for parts in step["says"] for part in parts]
     same("a text that could end the script", [text for text in [lessons[0]["title"], *said] if "script" in str(text)],
          ["</script><b>", "<!-- </script> -->"])
-    same("relocation words and sizes in texts", [text for text in said if isinstance(text, str) and text[:1] == "0"], ["051", "0", "012 (10.)", "02 (2.)"])
+    same("relocation words and sizes in texts", [text for text in said if isinstance(text, str) and text[:1] == "0"],
+         ["051", "0", "012 (10.)", "02 (2.)"])
     same("the numbers of texts", [part for part in said if isinstance(part, int)], NUMBERS)
 
 

@@ -11,7 +11,7 @@ import asm  # of examples
 from tests.lib.files import TOP, read as text_of, write
 from tests.oracles import agree, model
 from tests.page.page_stage import SEEN, first
-from tests.page.page_state import SEGMENT, Given, Session, Step
+from tests.page.page_state import SEGMENT, Given, Session, Step, counted
 from tests.page.page_tools import CLASS, FIVE, IN_C, LAYOUTS, SIXTEEN, TABLES, WORD, addend_said, object_of, same, size_said, words_of
 
 # shows the whole image with each object unfolded, as key o and clicks on all folds do
@@ -64,6 +64,13 @@ def lines_on(shown):
     return [*lines, *sorted(f"name {name}: {known}" for name, known, *_ in names)]
 
 
+# what the scene of a step says of the words that it changed
+SCENE = """
+isWhole = false;
+showChosen(true);
+return [...document.querySelectorAll("#image .line:is(.bound, .put-back):not(.place-line)")].map((row) => [row.id,
+    row.querySelector(".result").textContent]);
+"""
 # what depends on the space for arrows, and what the first step says besides
 BESIDES = re.compile(r" \d+ arrows? more: choose a word to see its own\.| Now add another object, and look at which words change\.")
 
@@ -71,7 +78,9 @@ BESIDES = re.compile(r" \d+ arrows? more: choose a word to see its own\.| Now ad
 # ---- states
 def compare_step(page, objects, is_gone, what, forced=()):
     """The sentence, the status, the names, the marks and what is struck out, and all words, after a step."""
-    step, shown = Step(objects, is_gone, forced), read(page)
+    step, scene, shown = Step(objects, is_gone, forced), page.run(SCENE), read(page)
+    wanted = step.results()
+    same(f"{what}: the scene", scene, [[key, wanted.get(key)] for key, _ in scene])
     session = step.before if is_gone else step.after
     same(f"{what}: the sentence", BESIDES.sub("", shown["note"]), step.sentence())
     same(f"{what}: the status", shown["step"], step.status())
@@ -174,7 +183,8 @@ def played(tools, page, _, count=200):
             try:
                 Session([*here, objects[number]], forced)
             except model.Refused as refused:
-                same(f"{what}, {objects[number].name}", page.run("return refusalOf(view.list, arguments[0])", number), str(refused))
+                same(f"{what}, {objects[number].name}", page.run("return byId(arguments[0]).title", f"add{number + 1}"),
+                     f"refused here: {refused}")
                 continue
             here = [*here, objects[number]]
             compare_step(page, here, False, f"{what}, {objects[number].name}", forced)
@@ -224,7 +234,7 @@ CARDS = """
 document.querySelectorAll(".given").forEach((words, i) => { words.open = true; showListing(words, DATA.objects[i]); });
 const cells = (row) => [...row.children].map((cell) => cell.textContent);
 return [...document.querySelectorAll(".card")].map((card) => [[...card.querySelectorAll("[role=option]")].map(cells),
-    card.querySelector(".symbols").textContent.split("\\n")]);
+    card.querySelector(".symbols").textContent.split("\\n"), card.querySelector("summary").textContent]);
 """
 # the description of a chosen row, whether it is shown (Firefox says of what attribute), and the sentence
 CHOSEN = """
@@ -238,8 +248,9 @@ def cards(_, page, files):
     """Each line of a card: where the word is in its object, its value, and its relocation word; the chosen row has this too. The symbols
     have the numbers that these words name."""
     shown = page.run(CARDS)
-    for file, (rows, symbols) in zip(files, shown):
+    for file, (rows, symbols, summary) in zip(files, shown):
         one = Given(file)
+        same(f"the summary of {one.name}", summary, f"{counted((one.text + one.data) // 2, 'word')}, {counted(len(one.symbols), 'symbol')}")
         same(f"symbols of the card of {one.name}", [(line.split()[0], line.split()[-1]) for line in symbols],
              [(str(number), name) for number, (name, _, _) in enumerate(one.symbols)])
         words = Session([one]).words.values()

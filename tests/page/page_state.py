@@ -289,6 +289,15 @@ class Step:
         tag = lambda name: "" if name in kept else "cut off" if self.is_gone else "new"
         return rows + [[name, "multiply defined", "", tag(name)] for name in self.after.multiples]
 
+    def results(self):
+        """What the scene says of each word that the step changed."""
+        found = {}
+        for part, offset in self.changed:
+            old, new = self.before.words[part, offset], self.after.words[part, offset]
+            added = f"{old.value:06o} + {self.after.names[old.name][1]:06o} = {new.value:06o}"
+            found[f"{part}-{offset}"] = f"{new.value:06o} \u2192 {old.value:06o}" if self.is_gone else added
+        return found
+
     def struck(self):
         """What each word was that the step changed."""
         found = {}

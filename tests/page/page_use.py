@@ -186,33 +186,37 @@ return [[...GUIDES[view.guide].steps[view.done].says.map(prose),
 
 
 def by_keys(page, number):
-    """A lesson by keys, with the right answers, each with at most three: the place that is announced, as the accessibility tree has it,
-    has each sentence in order, with choices, answers and verdicts. Returns how many questions and sentences it has."""
+    """A lesson by keys, with the right answers: the place that is announced has each sentence in order, with choices, answers and
+    verdicts. Returns how many questions and sentences it has."""
     page.open(f"#lesson={number}&done=0")
-    log, wanted, count = [page.live()], [], 0
-    for _ in range(page.run("return GUIDES[view.guide].steps.length - 1")):
+    live = lambda: page.run("return byId('live').textContent")
+    log, wanted, count, total = [live()], [], 0, page.run("return GUIDES[view.guide].steps.length - 1")
+    for number_of_step in range(1, total + 1):
+        same(f"lesson {number}: the count of steps", page.run("return document.querySelector('#guide h2 .size').textContent"),
+             f"step {number_of_step - 1} of {total}")
         sentences, is_asked, done = page.run(SENTENCES)
         wanted += sentences
         if is_asked:
             page.type(*page.run(RIGHT))
             if page.run("return document.activeElement.id") == "number":
                 page.type(Keys.ENTER)
-            log.append(page.live())
+            log.append(live())
         page.type(Keys.ENTER)
         page.wait("return view.done === arguments[0]", done + 1)
-        log.append(page.live())
-        wanted += ["You chose ", "Right: "] if is_asked else []
-        count += is_asked
+        log.append(live())
         if is_asked:
-            same(f"lesson {number}, step {done + 1}: the answer",
-                 page.run("return document.querySelector('#guide .is-right')?.textContent.slice(0, 5)"), "Right")
+            wanted += ["You chose ", "Right: "]
+            said, right = page.run("return [document.querySelector('#guide .is-right')?.textContent, "
+                                   "rightText(GUIDES[view.guide].steps[view.done])]")
+            same(f"lesson {number}, step {done + 1}: the answer", said in [f"Right: {one}." for one in right.split(" or ")], True)
+        count += is_asked
     wanted += page.run(SENTENCES)[0]
-    text, at, missing = " ".join(log), 0, []
+    text, at, missing = " ".join(" ".join(log).split()), 0, []
     for sentence in wanted:
         found = text.find(" ".join(sentence.split()), at)
         missing += [sentence] if found < 0 else []
         at = max(at, found)
-    same(f"lesson {number}: what the log of the accessibility tree does not have in order", missing, [])
+    same(f"lesson {number}: what was not announced in order", missing, [])
     return count, len(wanted)
 
 
@@ -496,15 +500,21 @@ MAPS = """
 areMapsShown = true;
 showMaps(stateNow());
 return [...document.querySelectorAll("#mapped .map")].map((map) => [map.querySelector("h3").textContent,
-    [...map.querySelectorAll(".piece:not(.gap)")].map((piece) => piece.title),
+    [...map.querySelectorAll(".piece")].map((piece) => [piece.title, piece.querySelector("span").textContent]),
     [...map.querySelectorAll(".piece:is(.text, .data, .bss)")].map((piece) => [...piece.querySelectorAll("i")]
         .map((share) => [Number(share.textContent), Number(share.style.flexGrow)]))]);
 """
 
 
 def pieces(bounds):
-    """The pieces of a map, as their titles have them."""
-    return [f"{part}, {size_said(end - start)}, {start:06o} to {end:06o}" for part, start, end in bounds if end > start]
+    """The pieces of a map, with the gaps between them: the title and the text of each."""
+    found, at = [], 0
+    for part, start, end in bounds:
+        for name, first_byte, last, said in ((("gap", at, start, size_said(start - at)), (part, start, end, f"{part} {start:06o}"))):
+            if last > first_byte and end > start:
+                found.append([f"{name}, {size_said(last - first_byte)}, {first_byte:06o} to {last:06o}", said])
+        at = max(at, end) if end > start else at
+    return found
 
 
 def maps(tools, page, files):
