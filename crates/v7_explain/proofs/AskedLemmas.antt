@@ -1,12 +1,12 @@
 -- A call as the code has it; and the arguments of a map.
-use Rattle.std.proofs.Common.{◌≡◌, ℕ, ◌-◌, ◌≤◌, Bool, true, List, [], ◌∷◌, length, map, take, drop, Option, Some, None, refl}
+use Rattle.std.proofs.Common.{◌≡◌, ℕ, ◌-◌, ◌<◌, ◌≤◌, Bool, true, List, [], ◌∷◌, length, map, take, drop, Option, Some, None, refl}
 use Rattle.std.proofs.{Common.{sym, ap, ◌∙◌, subst, inl, arith}, lemmas.List.take_all}
-use Rattle.std.specs.{Prelude.{Ok, Err, Result, String, string_bytes, if◌then◌else◌}, declared.alloc.Global.Global}
-use Rattle.aout_core.specs.Refusals.{refused}
+use Rattle.std.specs.{Prelude.{Ok, Err, Result, String, codes, string_bytes, if◌then◌else◌}, declared.alloc.Global.Global}
+use Rattle.aout_core.specs.{Refusals.refused, Words.letter_of}
 use Rattle.surroundings.proofs.ShownLemmas.{some_words}
 use Rattle.surroundings.specs.{Answer.Answer, Answers.Ends, Events.History, declared.answer.Fault.Fault}
 use Rattle.surroundings.specs.Programs.{CallsOr, DoesWords}
-use Rattle.surroundings.specs.declared.reasons.Reason.{Reason}
+use Rattle.surroundings.specs.{declared.reasons.Reason.Reason, declared.reasons.Reason.TheVariants.NoValue}
 use Rattle.surroundings.specs.declared.answer.Fault.TheVariants as faults
 use Rattle.v7_explain.specs.{Calls.{after_map, asked_in, asked_or, map_link, words_of_link}, Runs.{IsCall, MapsWords}}
 use Rattle.v7_explain.specs.{declared.arguments.Call.Call as Code, internal.Asked.{asks_of_map, call_in}}
@@ -47,6 +47,16 @@ argument_taken_at (w ∷ n ∷ rest) after two left asks =
     let whole : after ≡ rest = left ∙ take_all (length (w ∷ n ∷ rest) - 2) rest (omega (arith)) in
     argument_taken (map string_bytes (w ∷ n ∷ rest)) (map string_bytes rest) (string_bytes w) (string_bytes n) refl asks
     ∙ ap (λ (l : List (String Global)). words_of_link (map string_bytes l)) (sym whole)
+
+-- the argument is missing
+pub argument_missing : (words : List (String Global)) → length words < 2 → asks_of_map (map string_bytes words) ≡ true →
+    words_of_link (map string_bytes words) ≡ Err (NoValue (letter_of (codes "y")))
+argument_missing [] few asks = absurd cc
+argument_missing (w ∷ []) few asks =
+    let by : Bool → Result (List (List ℕ)) Reason =
+    λ b. if b then Err (NoValue (letter_of (codes "y"))) else Ok (string_bytes w ∷ []) in
+    ap by asks
+argument_missing (w ∷ n ∷ rest) few asks = absurd (omega (arith, few))
 
 out_of : (asked : Result (List (List ℕ)) Reason) (h : History) → CallsOr MapsWords asked h h (Err (faults.Memory refused))
 out_of (Err reason) h = (refl, tt)

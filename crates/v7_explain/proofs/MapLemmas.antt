@@ -1,31 +1,14 @@
--- What the arguments of a map ask for, and what comes of its files.
-use Rattle.std.proofs.Common.{◌≡◌, ◌≢◌, ℕ, ◌≤◌, Bool, false, true, eqb, List, refl, sym, ap, ◌∙◌, ◌⊎◌, subst}
-use Rattle.std.proofs.{Common.{inl, inr, arith}, lemmas.Bool.Decides.nat_tests}
+-- What the arguments of a map ask for.
+use Rattle.std.proofs.Common.{◌≡◌, ℕ, List, refl, subst, inl, inr}
 use Rattle.std.specs.{Prelude.{Result, Ok, Err, String, Vec}, declared.alloc.Global.Global}
 use Rattle.aout_core.specs.Refusals.{refused}
 use Rattle.command_words.specs.Calls.{AsksForNone, IsAsked, IsWhole, dashes_in, files_of}
 use Rattle.command_words.specs.declared.words.Call.TheVariants.{Ld, Nm, Session, Size, Strip}
 use Rattle.command_words.specs.{declared.fault.WordsFault.TheVariants.Usage, declared.words.Call.Call}
-use Rattle.surroundings.specs.{Answer.Answer, Answers.EndsOr, Events.History, Programs.either, declared.answer.Fault.Fault}
+use Rattle.surroundings.specs.{Answer.Answer, Answers.EndsOr, Events.History, declared.answer.Fault.Fault}
 use Rattle.surroundings.specs.declared.answer.Fault.TheVariants as faults
 use Rattle.tool_options.specs.Choices.{Choices}
-use Rattle.v7_explain.specs.{Files.GivesOr, Runs.{EndsMapped, MapsCall, MapsWords, link_words}}
-
--- some files are not objects
-pub not_mapped : (said : Answer) → said.status ≢ 0 → EndsMapped said (Ok said)
-not_mapped said status =
-    let test : eqb said.status 0 ≡ false = grind (arith, nat_tests) in
-    let answered : Result Answer Fault = Ok said in
-    subst (λ (t : Bool). either t (GivesOr (λ (a : Answer). a.status ≤ 1) answered) (answered ≡ Ok said)) (sym test) refl
-
--- all are
-pub mapped : (said : Answer) (result : Result Answer Fault) → said.status ≡ 0 → GivesOr (λ (a : Answer). a.status ≤ 1) result →
-    EndsMapped said result
-mapped said result status h =
-    subst (λ (t : Bool). either t (GivesOr (λ (a : Answer). a.status ≤ 1) result) (result ≡ Ok said))
-    (sym (ap (λ (k : ℕ). eqb k 0) status)) h
-
--- ---- what the arguments ask for
+use Rattle.v7_explain.specs.Runs.{MapsCall, MapsWords, link_words}
 
 -- memory runs out for them
 pub words_out : (words : List (List ℕ)) (old new : History) (result : Result Answer Fault) → new ≡ old →

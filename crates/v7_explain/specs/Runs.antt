@@ -2,7 +2,7 @@
 --
 -- Each file is read and explained before the next one is opened. The answer has what is shown of each, in order, and the largest status.
 -- If memory runs out, that is the answer, and nothing was stored.
-use Rattle.std.specs.Prelude.{◌≡◌, ◌⊎◌, ℕ, ◌≤◌, true, eqb, List, [], ◌∷◌, map, Option, Result, Ok, Err, codes, is_err, if◌then◌else◌}
+use Rattle.std.specs.Prelude.{◌≡◌, ◌≢◌, ◌⊎◌, ℕ, ◌≤◌, true, eqb, List, [], ◌∷◌, map, Option, Result, Ok, Err, codes, is_err, if◌then◌else◌}
 use Rattle.std.specs.Prelude.{string_bytes}
 use Rattle.aout_core.specs.{Decoding.decode, Refusals.refused}
 use Rattle.command_words.specs.Calls.{AsksForNone, IsAsked, IsWhole, dashes_in, files_of}
@@ -99,7 +99,7 @@ Takes path = Answers ReadsAt (λ bytes. HasStatus (status_taken bytes)) path
 
 -- there is a map if each file is an object, and its status is 0 or 1; else the answer says which are not
 abbrev pub EndsMapped : Answer → Result Answer Fault → Type 0
-EndsMapped said result = either (eqb said.status 0) (GivesOr (λ a. a.status ≤ 1) result) (result ≡ Ok said)
+EndsMapped said result = ((said.status ≡ 0) × GivesOr (λ a. a.status ≤ 1) result) ⊎ ((said.status ≢ 0) × (result ≡ Ok said))
 
 -- the files are those that `ld` takes with the same arguments; or memory runs out
 abbrev pub IsMapping : List (List ℕ) → Step Answer

@@ -1,5 +1,5 @@
 //! The objects of a link, from their files.
-ghost use Rattle.std.specs.Prelude.{◌≡◌, IfErr, IfOk, Ok, is_err, map, string_bytes};
+ghost use Rattle.std.specs.Prelude.{◌≡◌, true, IfErr, IfOk, Ok, is_err, map, string_bytes};
 ghost use Rattle.aout_core.specs.Decoding.{decode};
 ghost use Rattle.link_out.specs.Inputs.{object_in};
 ghost use Rattle.surroundings.specs.Answers.{Stops};

@@ -1,4 +1,5 @@
 use Rattle.std.proofs.Common.{rules, ◌≡◌, inl, subst}
+use Rattle.surroundings.specs.Sources.{ReadsAt}
 use Rattle.v7_explain.specs.{Files.{GivesOr, HasStatus}, Runs.status_taken}
 use Rattle.v7_explain.proofs.EachLemmas.{answers_none, answers_unread}
 use Rattle.v7_explain.proofs.map_objects.take_at.Goals as goal
@@ -10,8 +11,10 @@ returns-in-Ok g c =
     inl (c.in-Ok.bytes.items, c.in-Ok.ensures.ok, says)
 
 pub returns-in-Err-Memory : goal.returns-in-Err-Memory
-returns-in-Err-Memory g c = answers_unread _ _ _ _ _ _ (search rules) c.in-Err-Memory.ensures.err
+returns-in-Err-Memory g c =
+    answers_unread ReadsAt (λ bytes. HasStatus (status_taken bytes)) _ _ _ _ (search rules) c.in-Err-Memory.ensures.err
 
 pub returns-in-Err-Answered : goal.returns-in-Err-Answered
 returns-in-Err-Answered g c =
-    answers_none _ _ _ _ _ _ c.in-Err-Answered.answer _ c.in-Err-Answered.field-0-is c.in-Err-Answered.ensures.err (search rules)
+    answers_none ReadsAt (λ bytes. HasStatus (status_taken bytes)) _ _ _ _ c.in-Err-Answered.answer _ c.in-Err-Answered.field-0-is
+    c.in-Err-Answered.ensures.err (search rules)
