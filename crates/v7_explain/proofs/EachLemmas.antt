@@ -8,7 +8,7 @@ use Rattle.link_out.specs.Inputs.{Cause, object_in}
 use Rattle.surroundings.specs.{Answer.Answer, Answers.Stops, Events.History, Programs.Step, declared.answer.Fault.Fault}
 use Rattle.surroundings.specs.Sources.{EndsReading}
 use Rattle.surroundings.specs.declared.answer.Fault.TheVariants as faults
-use Rattle.v7_explain.specs.{Files.{GivesOr, HasStatus, joined, nothing_said}, Runs.{Answers, IsEach, said_of, status_taken}}
+use Rattle.v7_explain.specs.{Files.{GivesOr, HasStatus, joined, most_bytes, nothing_said}, Runs.{Answers, IsEach, said_of, status_taken}}
 
 -- ---- one file
 
@@ -24,13 +24,13 @@ module _ (ReadsBy : History → History → List ℕ → List ℕ → Type 0) (S
   answers_out bytes result reads memory = inl (bytes, reads, gives_out (Says bytes) result memory)
 
   -- it is not read, and the answer says so
-  pub answers_none : (fault : Fault) (given answer : Answer) → fault ≡ faults.Answered given → EndsReading old new path fault →
+  pub answers_none : (fault : Fault) (given answer : Answer) → fault ≡ faults.Answered given → EndsReading most_bytes old new path fault →
       answer ≡ given → Answers ReadsBy Says path old new (Ok answer)
   answers_none fault given answer is ends same =
       let answered : Answer → Result Answer Fault = λ a. Ok a in inr (fault, ends, ap answered same ∙ sym (ap said_of is))
 
   -- it is not read, and there is no memory to say so
-  pub answers_unread : (fault : Fault) → fault ≡ faults.Memory refused → EndsReading old new path fault →
+  pub answers_unread : (fault : Fault) → fault ≡ faults.Memory refused → EndsReading most_bytes old new path fault →
       Answers ReadsBy Says path old new (Err (faults.Memory refused))
   answers_unread fault is ends = inr (fault, ends, sym (ap said_of is))
 

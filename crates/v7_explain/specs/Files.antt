@@ -14,6 +14,10 @@ use Rattle.surroundings.specs.Programs.{Quietly, Reads, Step, Then}
 use Rattle.v7_explain.specs.declared.explaining.Mode.{Mode}
 use Rattle.v7_explain.specs.declared.explaining.Mode.TheVariants.{Listing, Show, Check, Inventory}
 
+-- the most bytes of a file that is read whole: the largest core file has 1,024 bytes and 131,070 blocks of 64
+abbrev pub most_bytes : ℕ
+most_bytes = 8389504
+
 -- ---- answers
 
 abbrev pub nothing_said : Answer
@@ -94,4 +98,4 @@ status_asked what (Err fault) = 1
 
 -- the file at a path is read and asked
 abbrev pub AnswersAt : List ℕ → List ℕ → Step Answer
-AnswersAt what path = Then (Reads path) (λ bytes. Quietly (GivesOr (HasStatus (status_asked what (decode bytes)))))
+AnswersAt what path = Then (Reads most_bytes path) (λ bytes. Quietly (GivesOr (HasStatus (status_asked what (decode bytes)))))

@@ -14,7 +14,7 @@ use Rattle.surroundings.specs.Programs.{AnswersGiven, CallsOr, Quietly, Reads, S
 use Rattle.surroundings.specs.{Sources.{EndsReading, ReadsAt, ReadsFront}, Answer.Answer, Nodes.ChecksOutput, declared.answer.Fault.Fault}
 use Rattle.surroundings.specs.declared.answer.Fault.TheVariants as faults
 use Rattle.v7_explain.specs.Calls.{Call, ask, asked_in, explain, map_link, store, walk, words_of_link}
-use Rattle.v7_explain.specs.{Files.{AnswersAt, GivesOr, HasStatus, IsSaid, joined, nothing_said}, declared.explaining.Mode.Mode}
+use Rattle.v7_explain.specs.{Files.{AnswersAt, GivesOr, HasStatus, IsSaid, joined, most_bytes, nothing_said}, declared.explaining.Mode.Mode}
 use Rattle.v7_explain.specs.declared.explaining.Mode.TheVariants.{Listing, Inventory}
 
 -- ---- one file
@@ -28,9 +28,9 @@ said_of (faults.Memory r) = Err (faults.Memory r)
 abbrev pub Answers : (History → History → List ℕ → List ℕ → Type 0) → (List ℕ → Answer → Type 0) → List ℕ → Step Answer
 Answers ReadsBy Says path old new result =
     ((bytes : List ℕ) × ReadsBy old new path bytes × GivesOr (Says bytes) result)
-    ⊎ ((fault : Fault) × EndsReading old new path fault × (result ≡ said_of fault))
+    ⊎ ((fault : Fault) × EndsReading most_bytes old new path fault × (result ≡ said_of fault))
 
--- an inventory reads the front of a file: one byte more than the largest core file has, 1,024 bytes and 131,070 blocks of 64
+-- an inventory reads the front of a file: one byte more than others are read of
 abbrev pub ReadsFor : Mode → History → History → List ℕ → List ℕ → Type 0
 ReadsFor Inventory old new path bytes = ReadsFront 8389505 old new path bytes
 ReadsFor _ old new path bytes = ReadsAt old new path bytes
@@ -85,7 +85,7 @@ IsStoring to said old new result =
 abbrev pub StoresListing : List ℕ → List ℕ → Step Answer
 StoresListing to path =
     Then (ChecksOutput path to) (λ _.
-    Then (Reads path) (λ bytes.
+    Then (Reads most_bytes path) (λ bytes.
     Then (Quietly (GivesOr (IsSaid (Listing true) bytes (decode bytes)))) (IsStoring to)))
 
 -- ---- the map of a link

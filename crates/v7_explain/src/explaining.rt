@@ -2,7 +2,7 @@
 ghost use Rattle.std.specs.Prelude.{◌≡◌, OnOk, IfErr, IfOk, IfSome, map, string_bytes};
 ghost use Rattle.aout_core.specs.Decoding.{decode};
 ghost use Rattle.surroundings.specs.Sources.{EndsReading};
-ghost use Rattle.v7_explain.specs.Files.{IsSaid, joined, nothing_said};
+ghost use Rattle.v7_explain.specs.Files.{IsSaid, joined, most_bytes, nothing_said};
 ghost use Rattle.v7_explain.specs.Runs.{Explains, ExplainsAt, IsEach, IsUnopened, IsWalk, ReadsFor};
 ghost use Rattle.v7_explain.specs.declared.explaining.Mode.TheVariants.{Inventory};
 
@@ -80,7 +80,7 @@ fn bytes_for<O: Office>(
     ensures ok { IfOk result (λ bytes.
         ReadsFor mode (O.history office.old) (O.history office.new) path.now bytes.items) }
     ensures err { IfErr result (λ fault.
-        EndsReading (O.history office.old) (O.history office.new) path.now fault) }
+        EndsReading most_bytes (O.history office.old) (O.history office.new) path.now fault) }
 {
     match mode {
         Mode::Inventory => read_front(alloc, office, NAME, path, u64::from(MOST_BYTES) + 1),
