@@ -165,11 +165,13 @@ fn office_with_a_history(rt: HostRuntime) -> Result<(), Fail> {
     let (status, answers) = session(rt.alloc(), &mut office, script)?;
     assert!(rt; status == 1);
     assert!(rt; answers.as_slice() == b"nofile: cannot open\nadded a.o\nlinked out 0\n".as_slice());
-    assert!(rt; office.was_asked(&[
-        ("open", "nofile"),
-        ("open", "a.o"),
-        ("close", ""),
-        ("store", "out"),
-    ]));
+    assert!(rt;
+        office.was_asked(&[
+            ("open", "nofile"),
+            ("open", "a.o"),
+            ("close", ""),
+            ("store", "out"),
+        ])
+    );
     Ok(())
 }
