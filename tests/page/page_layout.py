@@ -73,6 +73,7 @@ for (const chain of document.querySelectorAll("g.chain")) {
     const [line, ...ticks] = chain.querySelectorAll(".dash");
     const rows = chain.dataset.rows.split(" ");
     if (ticks.length !== rows.length) fault("a dashed line of too few words");
+    if (!near(line.getTotalLength(), middle(rowBox(rows.at(-1))) - middle(rowBox(rows[0])))) fault(`the dashed line of ${rows} is short`);
     rows.forEach((id, i) => {
         counts.lines += 1;
         const box = rowBox(id);

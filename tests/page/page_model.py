@@ -40,7 +40,7 @@ return {
     bss: text(document.querySelector("#bss .size")),
     names: all("#names .name", (row) => [...["b", ".state", ".was", ".tag", ".address"].map((name) => text(row.querySelector(name))),
         row.classList.contains("cut")]),
-    marks: all(".overwrote .was", text), done: all(".undone .was", text),
+    marks: all(".overwrote .was", text), done: all(".undone .was", text), cuts: all("#marks p", text),
     table: one("table"), report: one("report"), step: one("status"), refused: document.querySelector("#note.refused") ? one("note") : "",
     note: one("note"), title: one("image-title"),
     hash: location.hash, focus: document.activeElement.id };
@@ -69,7 +69,7 @@ SCENE = """
 isWhole = false;
 showChosen(true);
 return [...document.querySelectorAll("#image .line:is(.bound, .put-back):not(.place-line)")].map((row) => [row.id,
-    row.querySelector(".result").textContent]);
+    row.querySelector(".result").textContent, label(Number(row.querySelector(".badge").textContent) - 1)]);
 """
 # what depends on the space for arrows, and what the first step says besides
 BESIDES = re.compile(r" \d+ arrows? more: choose a word to see its own\.| Now add another object, and look at which words change\.")
@@ -80,7 +80,7 @@ def compare_step(page, objects, is_gone, what, forced=()):
     """The sentence, the status, the names, the marks and what is struck out, and all words, after a step."""
     step, scene, shown = Step(objects, is_gone, forced), page.run(SCENE), read(page)
     wanted = step.results()
-    same(f"{what}: the scene", scene, [[key, wanted.get(key)] for key, _ in scene])
+    same(f"{what}: the scene", scene, [wanted.get(key) for key, *_ in scene])
     session = step.before if is_gone else step.after
     same(f"{what}: the sentence", BESIDES.sub("", shown["note"]), step.sentence())
     same(f"{what}: the status", shown["step"], step.status())
@@ -88,6 +88,7 @@ def compare_step(page, objects, is_gone, what, forced=()):
     same(f"{what}: what is struck out", {word["id"]: word["was"] for word in shown["words"] if word["isOld"]}, step.struck())
     same(f"{what}: what is marked", {word["id"] for word in shown["words"] if word["tag"] in ("bound", "put back")}, {*step.struck()})
     same(f"{what}: the marks", sorted(map(words_of, shown["done" if is_gone else "marks"])), step.marks())
+    same(f"{what}: what is said of the marks", shown["cuts"][:2], step.cuts())
     same(f"{what}: labels", {word["id"]: sorted(word["labels"]) for word in shown["words"] if word["labels"]}, step.after.labels())
     same(f"{what}: headings", [head for head in shown["heads"] if head.startswith(tuple(session.sizes))
                                and not (is_gone and " 00 (0.)" in head)], session.heads())
@@ -287,7 +288,7 @@ def sentences(_, page, files):
 
 
 OWNERS = """
-const chips = [...document.querySelectorAll("#rest .fold")].map((row) => row.textContent.replace(/ (new|cut off)$/, ""));
+const chips = [...document.querySelectorAll("#rest .fold")].map((row) => [row.textContent.replace(/ (new|cut off)$/, ""), row.title]);
 return [chips, [...document.querySelectorAll(".place-line .owned")].map((one) => [one.closest(".word").id, one.textContent])];
 """
 
@@ -299,7 +300,8 @@ def owners(_, page, files):
     chips, places = page.run(OWNERS)
     objects = [Given(file) for file in files]
     same(f"{len(files)} objects in their order", chips,
-         [f"{number} {one.name} {(one.text + one.data) // 2}" for number, one in enumerate(objects, 1)])
+         [[f"{number} {one.name} {count}", f"{counted(count, 'word')}: show in the whole image"]
+          for number, one in enumerate(objects, 1) for count in [(one.text + one.data) // 2]])
     words = Session(objects).rows()
     same(f"{len(files)} objects: the objects of places", [said for _, said in places], [words[key].of.name for key, _ in places])
     return len(places)

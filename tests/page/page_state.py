@@ -258,12 +258,23 @@ class Step:
         new = [name for name in self.after.multiples if name not in self.before.multiples]
         return [f"{name} is defined a second time: the first definition counts." for name in new if not self.is_gone]
 
-    def brought(self):
+    def parts(self):
+        """What the object brings."""
         names = len(self.after.names) - len(self.before.names)
         parts = [(self.one.text, f"{counted(self.one.text // 2, 'word')} of text"),
                  (self.one.data, f"{counted(self.one.data // 2, 'word')} of data"),
                  (self.one.bss, f"{size_said(self.one.bss)} of bss"), (names, counted(names, "name"))]
-        said = ", ".join(text for number, text in parts if number)
+        return ", ".join(text for number, text in parts if number)
+
+    def cuts(self):
+        """What is said above and below the marks."""
+        these = "these" if self.is_gone else "these; a withdrawal puts them back"
+        what = these if self.changed or self.renamed else "nothing"
+        return [f"The withdrawal of {self.one.name} put back {what}" if self.is_gone else f"{self.one.name} overwrote {what}",
+                f"{'It cut' if self.is_gone else 'A withdrawal cuts'} off {self.parts() or 'nothing'}."]
+
+    def brought(self):
+        said = self.parts()
         if self.is_gone:
             return f"{said or 'Nothing'} of {self.one.name} cut off."
         waiting = self.after.waiting()
@@ -295,7 +306,8 @@ class Step:
         for part, offset in self.changed:
             old, new = self.before.words[part, offset], self.after.words[part, offset]
             added = f"{old.value:06o} + {self.after.names[old.name][1]:06o} = {new.value:06o}"
-            found[f"{part}-{offset}"] = f"{new.value:06o} \u2192 {old.value:06o}" if self.is_gone else added
+            said = f"{new.value:06o} \u2192 {old.value:06o}" if self.is_gone else added
+            found[f"{part}-{offset}"] = [f"{part}-{offset}", said, new.of.name]
         return found
 
     def struck(self):

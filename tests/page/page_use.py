@@ -62,6 +62,7 @@ def clicks(_, page, files):
     for button, count in (("add1", 1), ("add2", 2), ("withdraw", 1), ("flick", 2), ("flick", 1), ("withdraw", 0), ("flick", 1)):
         page.click(button)
         same(f"click {button}", lines_on(read(page)), Session([Given(file) for file in files[:count]]).lines())
+        same(f"the button after {button}", page.run("return byId('flick').textContent === (view.gone >= 0 ? 'After f' : 'Before f')"), True)
     page.pick("addresses", "-n (n)")
     same("the address", page.run("return location.hash"), "#objects=1&addresses=-n&whole=1")
     page.open("")
@@ -163,6 +164,7 @@ def tour(_, page, __):
                                                "h2').textContent]"), [1, f"Tour, {number} of 5"])
         if number < 5:
             page.press("next")
+    same("what the tour counts", "It defines what 1 word waited for" in told[3], True)
     same("steps of the tour", (len(set(told)), min(map(len, told)) > 60), (5, True))
     page.back()
     page.wait("return new URLSearchParams(location.hash.slice(1)).get('tour') === '4'")
