@@ -22,11 +22,12 @@ pub fn call_law<W: Write, E: Write>()
 ///
 /// - `linked`: take a line `link P` that stored its file, and any `ld -o Q` with the options and the `-u` of the session, of the files
 ///   that are left, on a disk that has the bytes which the session read. It opens these files and stores in Q what the line stored in
-///   P, the line answered what it writes, and after that `linked P` with its status, and has that status too. Or memory ran out, an
-///   input could not be read, or the file or the report not written.
+///   P, the line answered what it writes, and after that `linked P` with its status, and has that status too. Or memory ran out, or its
+///   last event shows that an input could not be read or the file not written, or standard output failed.
 /// - `refused`: take a line `link P` that asked for nothing to be stored, for another reason than that memory ran out. Then `ld` ends with
 ///   2, stores nothing and writes nothing to standard output, and its line on standard error is `v7: ` and the answer of the session. Or
-///   memory ran out, or an input could not be read. A line that met `cannot create` or `write error` asked for its file.
+///   memory ran out, or its last event shows that an input could not be read. A line that met `cannot create` or `write error` asked for
+///   its file.
 /// - `disks`: a disk has the bytes which the session read, if it has those of the session's disk at the paths that are left, and no
 ///   line before stored a file at these paths.
 pub fn session_law<W: Write, E: Write>()
@@ -39,7 +40,7 @@ pub fn session_law<W: Write, E: Write>()
 ///
 /// Take two sessions that end well, with the same options and `-u`, of a script and of the same with two lines put in anywhere: `add P`,
 /// which is accepted, and `withdraw`. If the system gave both the same, the longer one answers what the shorter one does, with `added P` and
-/// `withdrew P` between. It asks of the system what that asks, and opens P between, and it ends with the same status.
+/// `withdrew P` between. It asks of the system what that asks, and opens and closes P between, and it ends with the same status.
 pub fn undo_law<W: Write, E: Write>()
     ensures { UndoLaw W.contents E.contents }
 {}
@@ -50,7 +51,8 @@ pub fn undo_law<W: Write, E: Write>()
 /// - `builds`: take two builds, on one disk or on two, whose last commands have the same options and the same `-u`, and stand for files with
 ///   the same bytes in the same order, at any paths. They store the same bytes, write the same report, and have the same status. Or both
 ///   are refused: neither stores or writes anything, and they write the same line to standard error if all files are objects that a
-///   session accepts. Or memory ran out, an input could not be read, or the file or the report not written. Each step has to be without
+///   session accepts. Or memory ran out, or the last event shows that an input could not be read or the file not written, or standard output
+///   failed. Each step has to be without
 ///   `-d`, to keep the locals that the last command keeps, and to force no other names than that, and no name of the files may be
 ///   multiply defined.
 /// - `once`: so a build does what one `ld` does with all its files, as they were before the build.
