@@ -1,12 +1,12 @@
 -- Files that are read one after another, and outputs that are checked, from what comes of those that are left.
-use Rattle.std.proofs.Common.{◌≡◌, ℕ, ◌<◌, ◌+◌, List, [], ◌∷◌, ◌++◌, Some, length, drop, get_or, map, refl, sym, ap, ◌∙◌, subst, inl, inr}
+use Rattle.std.proofs.Common.{◌≡◌, ℕ, ◌<◌, ◌+◌, List, [], ◌∷◌, ◌++◌, Some, false, length, drop, get_or, map, refl, sym, ap, ◌∙◌, subst, inl, inr}
 use Rattle.std.proofs.lemmas.List.{drop_more}
 use Rattle.std.specs.Prelude.{Result, Ok, Err, string_bytes}
 use Rattle.std.specs.{declared.alloc.Global.Global, Prelude.String}
 use Rattle.aout_core.specs.Refusals.{refused}
 use Rattle.surroundings.specs.{Nodes.ChecksOutput, Sources.EndsReading, Sources.ReadsAt}
 use Rattle.surroundings.specs.{Events.History, declared.answer.Fault.Fault, declared.answer.Fault.TheVariants.Memory}
-use Rattle.v7_origin.specs.{Files.Source, Runs.ChecksEach, Runs.IsReading, Runs.source_of}
+use Rattle.v7_origin.specs.{Files.Source, Runs.ChecksEach, Runs.IsReading, Runs.most_bytes, Runs.source_of}
 
 abbrev pub bytes_of : List (String Global) → List (List ℕ)
 bytes_of paths = map string_bytes paths
@@ -25,7 +25,7 @@ GoesOn old mid read left all =
 -- one is not read
 pub reading_ends : (old mid new : History) (read : List Source) (all left later : List (List ℕ)) (path : List ℕ) (fault : Fault) →
     GoesOn old mid read left all → left ≡ path ∷ later →
-    EndsReading mid new path fault → IsReading [] all old new (Err fault)
+    EndsReading most_bytes mid new path fault → IsReading [] all old new (Err fault)
 reading_ends old mid new read all left later path fault inv e h =
     inv new (Err fault) (subst (λ paths. IsReading read paths mid new (Err fault)) (sym e) (inr (fault, h, refl)))
 
@@ -33,7 +33,7 @@ reading_ends old mid new read all left later path fault inv e h =
 pub reading_stops : (old mid new : History) (read : List Source) (all left later : List (List ℕ)) (path bytes : List ℕ) →
     GoesOn old mid read left all → left ≡ path ∷ later → ReadsAt mid new path bytes → IsReading [] all old new (Err (Memory refused))
 reading_stops old mid new read all left later path bytes inv e h =
-    reading_ends old mid new read all left later path (Memory refused) inv e ((Some h.0, h.1), tt)
+    reading_ends old mid new read all left later path (Memory refused) inv e (inl (Some h.0, false, h.1, tt))
 
 -- one more is read
 pub reading_more : (old mid next : History) (read more : List Source) (all left later : List (List ℕ)) (path bytes : List ℕ) →

@@ -26,12 +26,16 @@ ChecksOut (Some out) paths old new result = ChecksEach out paths old new result
 abbrev pub source_of : List ℕ → List ℕ → Source
 source_of path bytes = record { path = path; bytes = bytes }
 
+-- the most bytes of a file that is read
+abbrev pub most_bytes : ℕ
+most_bytes = 16777216
+
 -- the files at these paths are read after others, each before the next one is opened, up to the first that can't be
 abbrev pub IsReading : List Source → List (List ℕ) → Step (List Source)
 IsReading read [] old new result = (new ≡ old) × (result ≡ Ok read)
 IsReading read (path ∷ paths) old new result =
     ((bytes : List ℕ) × (between : History) × ReadsAt old between path bytes × IsReading (read ++ source_of path bytes ∷ []) paths between new result)
-    ⊎ ((fault : Fault) × EndsReading old new path fault × (result ≡ Err fault))
+    ⊎ ((fault : Fault) × EndsReading most_bytes old new path fault × (result ≡ Err fault))
 
 -- ---- what was found
 
@@ -66,7 +70,7 @@ ReadsObjects call bytes = Then (IsReading [] call.objects) (Judges call bytes)
 
 -- the program is read first
 abbrev pub ReadsFiles : Call → Step Answer
-ReadsFiles call = Then (Reads call.program) (ReadsObjects call)
+ReadsFiles call = Then (Reads most_bytes call.program) (ReadsObjects call)
 
 abbrev pub IsOrigin : Call → Step Answer
 IsOrigin call = Then (ChecksOut call.out (call.program ∷ call.objects)) (λ _. ReadsFiles call)

@@ -1,6 +1,6 @@
 use Rattle.std.proofs.Common.{rules, ◌≡◌, subst, inl, inr}
 use Rattle.surroundings.specs.Sources.{EndsReading, ReadsAt}
-use Rattle.v7_origin.specs.Runs.{ReadsObjects}
+use Rattle.v7_origin.specs.Runs.{ReadsObjects, most_bytes}
 use Rattle.v7_origin.proofs.origin.read_program.Goals as goal
 
 pub returns : goal.returns
@@ -20,4 +20,4 @@ pub returns-in_err-bytes : goal.returns-in_err-bytes
 returns-in_err-bytes g c =
     let old = g.O.Office.history c.args.office.now in
     let path : c.as_str.result.now ≡ c.args.call.now.program = search rules in
-    inl (c.in_err-bytes.field-0.0, subst (λ p. EndsReading old (g.O.Office.history c.read_whole.new.office) p c.in_err-bytes.field-0.0) path c.in_err-bytes.ensures.err, search rules)
+    inl (c.in_err-bytes.field-0.0, subst (λ p. EndsReading most_bytes old (g.O.Office.history c.read_whole.new.office) p c.in_err-bytes.field-0.0) path c.in_err-bytes.ensures.err, search rules)

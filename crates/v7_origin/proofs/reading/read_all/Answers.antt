@@ -2,7 +2,7 @@ use Rattle.std.proofs.Common.{rules, ◌≡◌, [], ◌∷◌, ◌++◌, subst, 
 use Rattle.std.specs.Prelude.{Err, string_bytes}
 use Rattle.aout_core.specs.Refusals.{refused}
 use Rattle.surroundings.specs.{Sources.EndsReading, Sources.ReadsAt, declared.answer.Fault.TheVariants.Memory}
-use Rattle.v7_origin.specs.{Runs.IsReading, Runs.source_of, internal.Lists.listed}
+use Rattle.v7_origin.specs.{Runs.IsReading, Runs.most_bytes, Runs.source_of, internal.Lists.listed}
 use Rattle.v7_origin.proofs.ReadingLemmas.{bytes_of, next_path, reading_ends, reading_more, reading_stops}
 use Rattle.v7_origin.proofs.reading.read_all.Goals as goal
 
@@ -15,7 +15,7 @@ returns-in-Err g c =
     let next = next_path c.args.paths.now c.loop-path.path-index c.path-item.result c.loop-path-test.true c.path-item.is in
     reading_ends old mid new c.loop-path.sources.items (bytes_of c.args.paths.now) _ _ (string_bytes c.path-item.result) c.in-Err.fault
     c.loop-path.invariant next
-    (subst (λ path. EndsReading mid new path c.in-Err.fault) same c.in-Err.ensures.err)
+    (subst (λ path. EndsReading most_bytes mid new path c.in-Err.fault) same c.in-Err.ensures.err)
 
 pub returns-in_err-push : goal.returns-in_err-push
 returns-in_err-push g c =
