@@ -1,8 +1,8 @@
 -- What a file system over memory was asked, as the events of a history.
 use Rattle.std.specs.Prelude.{List, map, Some, option_map, string_bytes}
 use Rattle.surroundings.specs.{Events.{Event, History, closed, looked, opened, stored, written}, declared.nodes.Found.TheVariants.NoFile}
-use Rattle.device_tests.specs.declared.memory_office.Asked.{Asked}
-use Rattle.device_tests.specs.declared.memory_office.Asked.TheVariants.{Closed, Looked, Opened, Stored, Written}
+use Rattle.device_tests.specs.declared.fixtures.asked.Asked.{Asked}
+use Rattle.device_tests.specs.declared.fixtures.asked.Asked.TheVariants.{Closed, Looked, Opened, Stored, Written}
 
 abbrev pub event_of : Asked → Event
 event_of (Opened path found) = opened (string_bytes path) (option_map (λ bytes. Some bytes.now) found)

@@ -2,7 +2,7 @@
 //! system says of this one what was opened and stored. A session is run on it.
 ghost use Rattle.std.specs.Prelude.{◌≡◌, [], ◌∷◌, ◌++◌, string_bytes};
 
-use crate::fixtures::words;
+use crate::fixtures::{Asked, words};
 use aout_core::samples::{A_O, TestReader, TestWriter};
 use aout_core::{File, Parts, Wire};
 use std::alloc::Global;
@@ -10,21 +10,6 @@ use std::process::Abort;
 use std::test::Fail;
 use surroundings::Found;
 use v7tools::{BlockWriter, Office, Outputs, Stored, perform};
-
-/// What a file system was asked, and what came of it.
-#[derive(Drop)]
-enum Asked {
-    /// The file at a path was to be opened: its bytes, if there is one.
-    Opened(String, Option<&'static [u8]>),
-    /// A file was closed, and its device had failed or had not.
-    Closed(bool),
-    /// A file was to be stored at a path.
-    Stored(String, File, Stored),
-    /// A text was to be stored at a path.
-    Written(String, Vec<u8>, Stored),
-    /// The file that a path leads to was asked for, and there was none.
-    Looked(String),
-}
 
 /// What a file system was asked for: the request and its path.
 fn request(asked: &Asked) -> (&str, &str) {
