@@ -102,8 +102,8 @@ def fits(program, stored, text, place):
 
 def rows_of(text):
     """The rows of objects: where the text begins, where it ends, where the data begins or None, and the path."""
-    rows = re.findall(r"^(\d{6})-(\d{6})  (\d{6}|-) +(\S+)", text, re.M)
-    return [(int(one, 8), int(other, 8), None if data == "-" else int(data, 8), path) for one, other, data, path in rows]
+    rows = re.findall(r"^(\d{6})-(\d{6})  (\d{6}|-|\?) +(\S+)", text, re.M)
+    return [(int(one, 8), int(other, 8), int(data, 8) if data.isdigit() else None, path) for one, other, data, path in rows]
 
 
 def find_whole(what, paths, options, every):

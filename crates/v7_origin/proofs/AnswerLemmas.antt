@@ -1,9 +1,9 @@
 -- The answer with what was found, and the file that is stored.
-use Rattle.std.proofs.Common.{arith, ◌≡◌, ℕ, ◌⊎◌, Bool, true, false, if◌then◌else◌, List, [], Some, None, refl, sym, ap, subst, inl, inr}
+use Rattle.std.proofs.Common.{arith, ◌≡◌, ℕ, ◌⊎◌, Bool, true, false, if◌then◌else◌, codes, List, [], Some, None, refl, sym, ap, ◌∙◌, subst, inl, inr}
 use Rattle.std.specs.Prelude.{Option, Result}
-use Rattle.aout_core.specs.{Contents.Contents, declared.symbol.Symbol.Symbol}
-use Rattle.surroundings.specs.{Answer.Answer, Events.History, Events.stored, Programs.Stores, declared.answer.Fault.Fault}
-use Rattle.v7_origin.specs.{Calls.Call, Files.Source, Files.with_symbols, Runs.Ends, Runs.IsFound, Whole.IsWhole, internal.Lists.IfStored}
+use Rattle.aout_core.specs.{Contents.Contents, declared.symbol.Symbol.Symbol, Words.letter_of}
+use Rattle.surroundings.specs.{Answer.Answer, Arguments.Given, Arguments.has_letter, Events.History, Events.stored, Programs.Stores, declared.answer.Fault.Fault}
+use Rattle.v7_origin.specs.{Runs.Ends, Runs.IsFound, Runs.with_symbols, Whole.IsWhole, Whole.Source, internal.Lists.IfStored}
 
 abbrev status_by : Bool → ℕ
 status_by is_whole = if is_whole then 0 else 1
@@ -16,14 +16,15 @@ whole_by_status : (is_whole : Bool) → status_by is_whole ≡ 0 → is_whole �
 whole_by_status true e = refl
 whole_by_status false e = absurd (omega (arith, e))
 
-pub found_answer : (call : Call) (program : Contents) (sources : List Source) (lines : List ℕ) (is_whole : Bool) (a : Answer) →
-    (is_whole ≡ true → IsWhole program sources) →
-    a ≡ record { output = if call.is_quiet then [] else lines; errors = []; status = if is_whole then 0 else 1 } → IsFound call program sources a
-found_answer call program sources lines is_whole a whole e = subst (IsFound call program sources) (sym e)
+pub found_answer : (given : Given) (program : Contents) (sources : List Source) (lines : List ℕ) (is_quiet is_whole : Bool)
+    (a : Answer) → is_quiet ≡ has_letter given.letters (letter_of (codes "q")) → (is_whole ≡ true → IsWhole program sources) →
+    a ≡ record { output = if is_quiet then [] else lines; errors = []; status = if is_whole then 0 else 1 } →
+    IsFound given program sources a
+found_answer given program sources lines is_quiet is_whole a asked whole e = subst (IsFound given program sources) (sym e)
     (record {
       ends = is_status is_whole;
       whole = λ z. whole (whole_by_status is_whole z);
-      quiet = ap (λ (b : Bool). if b then [] else lines);
+      quiet = λ q. ap (λ (b : Bool). if b then [] else lines) (asked ∙ q);
       no_errors = refl;
     })
 

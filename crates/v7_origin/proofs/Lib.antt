@@ -1,4 +1,4 @@
 pub mod ReadingLemmas
-pub mod FileLemmas
 pub mod LinkLemmas
 pub mod AnswerLemmas
+pub mod RunLemmas

@@ -6,7 +6,7 @@ use Rattle.std.specs.{declared.alloc.Global.Global, Prelude.String}
 use Rattle.aout_core.specs.Refusals.{refused}
 use Rattle.surroundings.specs.{Nodes.ChecksOutput, Sources.EndsReading, Sources.ReadsAt}
 use Rattle.surroundings.specs.{Events.History, declared.answer.Fault.Fault, declared.answer.Fault.TheVariants.Memory}
-use Rattle.v7_origin.specs.{Files.Source, Runs.ChecksEach, Runs.IsReading, Runs.most_bytes, Runs.source_of}
+use Rattle.v7_origin.specs.{Runs.ChecksEach, Runs.IsReading, Runs.most_bytes, Runs.source_of, Whole.Source}
 
 abbrev pub bytes_of : List (String Global) → List (List ℕ)
 bytes_of paths = map string_bytes paths

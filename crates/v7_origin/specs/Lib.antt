@@ -1,5 +1,3 @@
-pub mod Files
 pub mod Whole
-pub mod Calls
 pub mod Runs
 pub mod internal

@@ -1,4 +1,7 @@
 //! The objects that are tried. Those that are equal but for their paths are one candidate.
+use crate::known::Row;
+use crate::lines::path_of;
+use crate::reading::Source;
 use crate::scanning::work_of;
 use aout_core::{File, Name, Object, Symbol};
 use indexmap::IndexMap;
@@ -15,15 +18,13 @@ pub(crate) struct Candidate {
     /// A number that equal objects share.
     checksum: u32,
     /// The numbers of the files that have it.
-    pub(crate) sources: Vec<usize>,
+    pub(crate) files: Vec<usize>,
     /// The number of each symbol's name, among the names of all objects.
     pub(crate) names: Vec<u16>,
-    /// At how many places it fits, if nothing is known of names.
-    pub(crate) count: usize,
+    /// At how many places it fits, if nothing is known of names; `None` if it was not tried.
+    pub(crate) count: Option<usize>,
     /// These places; none, if they are too many to be kept.
     pub(crate) places: Vec<u16>,
-    /// Whether it was tried at all places.
-    pub(crate) is_tried: bool,
 }
 
 impl Candidate {
@@ -35,17 +36,65 @@ impl Candidate {
         usize::from(self.object.file().header().data_size)
     }
 
+    /// Whether it has no words: nothing of it can be found.
+    pub(crate) fn is_empty(&self) -> bool {
+        self.text_size() == 0 && self.data_size() == 0
+    }
+
+    /// How many of its words a link leaves alone.
+    pub(crate) fn still_words(&self) -> usize {
+        let file = self.object.file();
+        file.text_reloc()
+            .iter()
+            .chain(file.data_reloc())
+            .filter(|reloc| reloc.0 == 0)
+            .count()
+    }
+
     /// Whether its text may be at an address.
     pub(crate) fn may_be_at(&self, text: u16) -> bool {
-        self.count > MOST_PLACES || self.places.binary_search(&text).is_ok()
+        self.count.is_none_or(|count| count > self.places.len())
+            || self.places.binary_search(&text).is_ok()
     }
 }
 
-/// The candidates, and the names of all of them.
+/// A program, the files that were read, and the candidates among them.
 #[derive(Drop)]
-pub(crate) struct Candidates {
+pub(crate) struct Trial<'a> {
+    pub(crate) alloc: Global,
+    pub(crate) program: &'a File,
+    pub(crate) sources: &'a [Source],
     pub(crate) all: Vec<Candidate>,
-    pub(crate) names: IndexMap<Name, ()>,
+    /// How many names they have.
+    pub(crate) names: usize,
+}
+
+impl<'a> Trial<'a> {
+    /// The path of one of the files that have a candidate.
+    pub(crate) fn path(&self, candidate: &Candidate, file: usize) -> &'a str {
+        match candidate.files.get(file) {
+            Some(number) => path_of(self.sources, *number),
+            None => "",
+        }
+    }
+
+    /// Where the text of a row ends, and its data.
+    pub(crate) fn end_of(&self, row: &Row) -> (usize, usize) {
+        let (text, data) = self.all.get(row.candidate).map_or(
+            (0, 0),
+            |candidate| (candidate.text_size(), candidate.data_size()),
+        );
+        (
+            usize::from(row.text).saturating_add(text),
+            usize::from(row.place.unwrap_or(0)).saturating_add(data),
+        )
+    }
+
+    /// Where the text of the program ends, and its data.
+    pub(crate) fn end(&self) -> (usize, usize) {
+        let header = self.program.header();
+        (usize::from(header.text_size), usize::from(header.data_size))
+    }
 }
 
 /// A number by which most objects that are not equal differ.
@@ -66,7 +115,7 @@ fn is_equal(one: &File, other: &File) -> bool {
         && one.symbols() == other.symbols()
 }
 
-/// The number of a name, which is entered if it is new. After 65,533 names all others have one number.
+/// The number of a name. A new one is entered; after 65,533 names all others have one number.
 fn number_of(names: &mut IndexMap<Name, ()>, name: Name) -> Result<u16, AllocError> {
     let number = match names.get_index_of(&name) {
         Some(number) => number,
@@ -79,6 +128,7 @@ fn number_of(names: &mut IndexMap<Name, ()>, name: Name) -> Result<u16, AllocErr
     Ok(number.min(65533) as u16)
 }
 
+/// The numbers of the names of externals; that of a local is 0, since no word refers to its name.
 fn numbers_of(
     alloc: Global,
     names: &mut IndexMap<Name, ()>,
@@ -96,82 +146,68 @@ fn numbers_of(
     Ok(numbers)
 }
 
-/// Where an object fits, unless that takes more work than is left.
+/// How often an object fits, and where, unless that takes more work than is left.
 fn places_of(
     alloc: Global,
     program: &File,
     object: &Object,
     left: &mut u64,
-) -> Result<Option<Vec<u16>>, AllocError> {
+) -> Result<(Option<usize>, Vec<u16>), AllocError> {
     if object.file().text_words().is_empty() {
-        return Ok(Some(Vec::new(alloc)));
+        return Ok((Some(0), Vec::new(alloc)));
     }
-    let work = work_of(program, object, *left);
+    let work = work_of(program, object, left);
     if work > *left {
         *left = left.saturating_sub(*left / 16);
-        return Ok(None);
+        return Ok((None, Vec::new(alloc)));
     }
     *left -= work;
-    Ok(Some(places(alloc, program, object)?))
+    let places = places(alloc, program, object)?;
+    let count = Some(places.len());
+    Ok(if places.len() > MOST_PLACES {
+        (count, Vec::new(alloc))
+    } else {
+        (count, places)
+    })
 }
 
-/// The number of the candidate that is equal to an object.
-fn equal_to(all: &[Candidate], checksum: u32, object: &Object) -> Option<usize> {
-    for (number, other) in all.iter().enumerate() {
-        if other.checksum == checksum && is_equal(other.object.file(), object.file()) {
-            return Some(number);
-        }
-    }
-    None
-}
-
-/// The candidates that objects are; where each fits is not known yet.
-fn grouped(alloc: Global, objects: Vec<Object>) -> Result<Candidates, AllocError> {
-    let mut all: Vec<Candidate> = Vec::new(alloc);
-    let mut names = IndexMap::new(alloc);
-    let mut number = 0usize;
-    for object in objects {
-        let source = number;
-        number = number.saturating_add(1);
-        let checksum = checksum_of(object.file());
-        if let Some(equal) = equal_to(&all, checksum, &object)
-            && let Some(other) = all.get_mut(equal)
-        {
-            other.sources.push(source)?;
-            continue;
-        }
-        let numbers = numbers_of(alloc, &mut names, object.file().symbols())?;
-        let mut sources = Vec::new(alloc);
-        sources.push(source)?;
-        all.push(Candidate {
-            object,
-            checksum,
-            sources,
-            names: numbers,
-            count: 0,
-            places: Vec::new(alloc),
-            is_tried: false,
-        })?;
-    }
-    Ok(Candidates { all, names })
-}
-
-/// The candidates that objects are, and where each fits. `left` is how many words may be compared.
-pub(crate) fn candidates_of(
+/// The candidates that objects are, of all files but the first. `left` is how many words may be compared to find where each fits.
+pub(crate) fn trial_of<'a>(
     alloc: Global,
-    program: &File,
+    program: &'a File,
+    sources: &'a [Source],
     objects: Vec<Object>,
     left: &mut u64,
-) -> Result<Candidates, AllocError> {
-    let mut candidates = grouped(alloc, objects)?;
-    for candidate in candidates.all.iter_mut() {
-        if let Some(places) = places_of(alloc, program, &candidate.object, left)? {
-            candidate.is_tried = true;
-            candidate.count = places.len();
-            if places.len() <= MOST_PLACES {
-                candidate.places = places;
-            }
+) -> Result<Trial<'a>, AllocError> {
+    let mut all: Vec<Candidate> = Vec::new(alloc);
+    let mut names = IndexMap::new(alloc);
+    let mut file = 0usize;
+    for object in objects {
+        file = file.saturating_add(1);
+        let checksum = checksum_of(object.file());
+        let equal = all.iter().position(|other| other.checksum == checksum
+            && is_equal(other.object.file(), object.file()));
+        if let Some(equal) = equal
+            && let Some(equal) = all.get_mut(equal)
+        {
+            equal.files.push(file)?;
+            continue;
         }
+        let (count, places) = places_of(alloc, program, &object, left)?;
+        all.push(Candidate {
+            names: numbers_of(alloc, &mut names, object.file().symbols())?,
+            object,
+            checksum,
+            files: vec![in alloc; file; 1]?,
+            count,
+            places,
+        })?;
     }
-    Ok(candidates)
+    Ok(Trial {
+        alloc,
+        program,
+        sources,
+        all,
+        names: names.len().min(65534),
+    })
 }

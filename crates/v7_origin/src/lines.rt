@@ -1,7 +1,8 @@
 //! The lines about objects and their places.
-use crate::candidates::Candidate;
+use crate::candidates::{Candidate, Trial};
+use crate::known::Row;
+use crate::linking::layout_of;
 use crate::reading::Source;
-use crate::search::Row;
 use aout_core::File;
 use link_out::Layout;
 use surroundings::Path;
@@ -15,18 +16,11 @@ fn put_size(text: &mut Text, size: u16) {
     text.put_octal(u64::from(size));
 }
 
-pub(crate) fn flag_of(layout: Layout) -> &'static str {
-    match layout {
-        Layout::Plain => "",
-        Layout::Pure => " -n",
-        Layout::Split => " -i",
-    }
-}
-
 /// Puts the line of the program: its sizes, and its layout.
-pub(crate) fn put_head(text: &mut Text, path: &str, program: &File, layout: Layout) {
+pub(crate) fn put_head(text: &mut Text, sources: &[Source], program: &File) {
     let header = program.header();
-    text.say(format_args!("{}: text ", Path(path)));
+    text.say(Path(path_of(sources, 0)));
+    text.put(": text ");
     put_size(text, header.text_size);
     text.put(", data ");
     put_size(text, header.data_size);
@@ -34,7 +28,7 @@ pub(crate) fn put_head(text: &mut Text, path: &str, program: &File, layout: Layo
         text.put(", bss ");
         put_size(text, header.bss_size);
     }
-    text.put(match layout {
+    text.put(match layout_of(header.magic) {
         Layout::Plain => ", plain\n",
         Layout::Pure => ", pure\n",
         Layout::Split => ", split\n",
@@ -46,51 +40,46 @@ pub(crate) fn put_range(text: &mut Text, from: usize, to: usize) {
     text.say(format_args!("{from:06o}-{to:06o}  "));
 }
 
-fn path_of(sources: &[Source], number: usize) -> &str {
+/// The path of a file.
+pub(crate) fn path_of(sources: &[Source], number: usize) -> &str {
     sources
         .get(number)
         .map_or("", |source| source.path.as_str())
 }
 
-/// The path of the file that a row has.
-pub(crate) fn row_path<'a>(sources: &'a [Source], candidate: &Candidate, file: usize) -> &'a str {
-    match candidate.sources.get(file) {
-        Some(number) => path_of(sources, *number),
-        None => "",
-    }
-}
-
-/// Puts the paths of a candidate from one of its files on, and ends the line.
-fn put_paths(text: &mut Text, sources: &[Source], candidate: &Candidate, row: &Row, used: usize) {
-    text.say(Path(row_path(sources, candidate, row.file)));
-    for number in candidate.sources.get(used..).unwrap_or(&[]) {
-        text.say(format_args!(" or {}", Path(path_of(sources, *number))));
-    }
-    text.put_byte(b'\n');
-}
-
-/// Puts the row of an object: its text, where its data begins, and its paths.
-pub(crate) fn put_row(
-    text: &mut Text,
-    program: &File,
-    sources: &[Source],
-    candidate: &Candidate,
-    row: &Row,
-    used: usize,
-) {
-    let first = usize::from(row.text);
-    put_range(text, first, first.saturating_add(candidate.text_size()));
-    match row.place {
-        Some(place) if candidate.data_size() != 0 => {
-            let address = program
-                .header()
-                .data_start()
-                .wrapping_add(usize::from(place));
+/// Puts where the data of a row begins.
+fn put_place(text: &mut Text, program: &File, candidate: &Candidate, place: Option<u16>) {
+    match place {
+        _ if candidate.data_size() == 0 => text.put("-       "),
+        None => text.put("?       "),
+        Some(place) => {
+            let start = program.header().data_start();
+            let address = start.wrapping_add(usize::from(place));
             text.say(format_args!("{address:06o}  "));
         }
-        _ => text.put("-       "),
     }
-    put_paths(text, sources, candidate, row, used);
+}
+
+/// Puts the row of an object: its text, where its data begins, and its path, with those of equal files that are in no row.
+pub(crate) fn put_row(text: &mut Text, trial: &Trial<'_>, rows: &[Row], row: &Row) {
+    let Some(candidate) = trial.all.get(row.candidate) else {
+        return;
+    };
+    if candidate.is_empty() {
+        text.put("-              ");
+    } else {
+        put_range(text, usize::from(row.text), trial.end_of(row).0);
+    }
+    put_place(text, trial.program, candidate, row.place);
+    text.say(Path(trial.path(candidate, row.file)));
+    let used = rows
+        .iter()
+        .filter(|other| other.candidate == row.candidate)
+        .count();
+    for file in used..candidate.files.len() {
+        text.say(format_args!(" or {}", Path(trial.path(candidate, file))));
+    }
+    text.put_byte(b'\n');
 }
 
 /// Whether a shell takes a byte as it is.
@@ -119,21 +108,17 @@ fn put_argument(text: &mut Text, path: &str) {
 }
 
 /// Puts the command that makes the program of files in an order.
-pub(crate) fn put_command(
-    text: &mut Text,
-    path: &str,
-    program: &File,
-    layout: Layout,
-    sources: &[Source],
-    order: &[usize],
-) {
-    text.put("v7 ld");
-    text.put(flag_of(layout));
+pub(crate) fn put_command(text: &mut Text, program: &File, sources: &[Source], order: &[usize]) {
+    text.put(match layout_of(program.header().magic) {
+        Layout::Plain => "v7 ld",
+        Layout::Pure => "v7 ld -n",
+        Layout::Split => "v7 ld -i",
+    });
     if program.symbols().is_empty() {
         text.put(" -s");
     }
     text.put(" -o");
-    put_argument(text, path);
+    put_argument(text, path_of(sources, 0));
     for number in order {
         put_argument(text, path_of(sources, *number));
     }

@@ -1,11 +1,9 @@
 //! The link of the objects that were found, and whether it is the program.
-ghost use Rattle.std.specs.Prelude.{◌≡◌, ◌∷◌, ◌++◌, [], false, true, IfOk, IfSome, IsTrue, None, Ok, Some};
-ghost use Rattle.aout_core.specs.Strip.{stripped};
-ghost use Rattle.link_out.specs.function.Link.{link_of};
-ghost use Rattle.link_out.specs.Outcomes.{outcome_of};
-ghost use Rattle.tool_options.specs.Choices.{options_of};
-ghost use Rattle.tool_options.specs.declared.options.Keep.TheVariants.{Nothing};
-ghost use Rattle.v7_origin.specs.{Files.object_of, Whole.{IsLinkOfAll, chosen_from, labelled_of}, internal.Lists.IsAdded};
+ghost use Rattle.std.specs.Prelude.{◌≡◌, [], false, true, IfOk, IfSome, IsTrue, None, Ok};
+ghost use Rattle.aout_core.specs.{Decoding.decode, Strip.stripped};
+ghost use Rattle.link_out.specs.{Inputs.object_in, Outcomes.outcome_of, function.Link.link_of};
+ghost use Rattle.tool_options.specs.{Choices.options_of, declared.options.Keep.TheVariants.Nothing};
+ghost use Rattle.v7_origin.specs.{Whole.AreChosen, Whole.IsLinkOfAll, internal.Lists.IsAdded};
 ghost use Rattle.v7_origin.specs.declared.linking.Compared.TheVariants.{Equal};
 
 use crate::reading::Source;
@@ -26,7 +24,7 @@ pub(crate) fn layout_of(magic: u16) -> Layout {
 
 /// The object of a file, if it is one.
 fn object_of(alloc: Global, source: &Source) -> Result<Option<Object>, AllocError>
-    ensures { IfOk result (λ o. IfSome o (λ object. object_of source.now.bytes ≡ Some object)) }
+    ensures { IfOk result (λ o. IfSome o (λ object. object_in (decode source.now.bytes) ≡ Ok object)) }
 {
     match decode_file(alloc, &source.bytes)? {
         Ok(file) => match Object::from_file(file) {
@@ -39,7 +37,7 @@ fn object_of(alloc: Global, source: &Source) -> Result<Option<Object>, AllocErro
 
 /// Adds the object of a file to a session, unless it passes a limit.
 fn add(alloc: Global, session: &mut Session, source: &Source) -> Result<bool, AllocError>
-    ensures added { result ≡ Ok true → IsAdded (labelled_of (Some source.now)) session.old session.new }
+    ensures { result ≡ Ok true → IsAdded source.now session.old session.new }
 {
     let Some(object) = object_of(alloc, source)? else {
         return Ok(false);
@@ -61,7 +59,7 @@ pub(crate) fn session_of(
     order: &[usize],
 ) -> Result<Option<Session>, AllocError>
     ensures { IfOk result (λ o. IfSome o (λ session.
-        (session.forced ≡ []) × (chosen_from [] sources.now order.now ≡ Some session.entries))) }
+        (session.forced ≡ []) × AreChosen sources.now order.now session.entries)) }
 {
     let mut session = Session::new(alloc);
     for number in order {
@@ -131,10 +129,6 @@ pub(crate) enum Compared {
     Differs(Text),
 }
 
-fn put_field(text: &mut Text, name: &str, program: u16, link: u16) {
-    text.say(format_args!("{name} is {program:06o}, in the link {link:06o}"));
-}
-
 /// Says which header word differs, if one does.
 fn put_header(text: &mut Text, program: &Header, link: &Header) -> bool {
     for (name, one, other) in [
@@ -145,41 +139,46 @@ fn put_header(text: &mut Text, program: &Header, link: &Header) -> bool {
         ("the unused word of the header", program.unused, link.unused),
     ] {
         if one != other {
-            put_field(text, name, one, other);
+            text.say(format_args!("{name} is {one:06o}, in the link {other:06o}"));
             return true;
         }
     }
     false
 }
 
-/// Says which word differs first.
-fn put_word(text: &mut Text, program: &File, link: &File) {
-    let all = program.text_words().iter().zip(link.text_words());
-    for (number, (one, other)) in all.enumerate() {
+/// Says which word of a segment at an address differs first, if one does.
+fn put_word(text: &mut Text, name: &str, start: usize, program: &[u16], link: &[u16]) -> bool {
+    for (number, (one, other)) in program.iter().zip(link).enumerate() {
         if one != other {
-            text.say(format_args!("the word of text at {:06o}", number.wrapping_mul(2)));
-            return put_field(text, "", *one, *other);
+            let address = start.wrapping_add(number.wrapping_mul(2));
+            text.say(format_args!(
+                "the word of {name} at {address:06o} is {one:06o}, in the link {other:06o}"
+            ));
+            return true;
         }
     }
-    let all = program.data_words().iter().zip(link.data_words());
-    for (number, (one, other)) in all.enumerate() {
-        if one != other {
-            let address = program
-                .header()
-                .data_start()
-                .wrapping_add(number.wrapping_mul(2));
-            text.say(format_args!("the word of data at {address:06o}"));
-            return put_field(text, "", *one, *other);
-        }
-    }
+    false
 }
 
 /// Says where a link differs from the program first.
 fn difference(alloc: Global, program: &File, link: &File) -> Text {
     let mut text = Text::new(alloc);
-    if !put_header(&mut text, program.header(), link.header()) {
-        put_word(&mut text, program, link);
-    }
+    let start = program.header().data_start();
+    let _ = put_header(&mut text, program.header(), link.header())
+        || put_word(
+            &mut text,
+            "text",
+            0,
+            program.text_words(),
+            link.text_words(),
+        )
+        || put_word(
+            &mut text,
+            "data",
+            start,
+            program.data_words(),
+            link.data_words(),
+        );
     text
 }
 

@@ -1,12 +1,12 @@
 //! The program `v7-origin`: which objects a program was linked from. Only tested: what it finds but for the whole, and what it says.
 #![tactic(auto)]
 
-mod arguments;
 mod candidates;
-mod files;
 mod finding;
 mod gaps;
 mod help;
+mod known;
+mod late;
 mod lines;
 mod linking;
 mod naming;

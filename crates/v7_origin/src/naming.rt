@@ -1,24 +1,25 @@
 //! The symbols that objects give a program.
 ghost use Rattle.std.specs.Prelude.{◌≡◌, take};
-ghost use Rattle.v7_origin.specs.Files.{with_symbols};
+ghost use Rattle.v7_origin.specs.Runs.{with_symbols};
 
-use crate::candidates::Candidate;
-use crate::search::Row;
+use crate::candidates::Trial;
+use crate::known::Row;
 use aout_core::{File, Segment, Symbol};
-use std::alloc::{AllocError, Global};
+use std::alloc::AllocError;
 
 /// The most symbols that a file has. (a.out(5))
 const MOST_ROWS: usize = 5461;
 
 /// A symbol that an object defines, at its address in the program, if that is known.
-fn moved(program: &File, candidate: &Candidate, row: &Row, symbol: &Symbol) -> Option<Symbol> {
-    let text = candidate.object.file().header().text_size;
+fn moved(program: &File, object: &File, row: &Row, symbol: &Symbol) -> Option<Symbol> {
     let own = match symbol.segment() {
         Segment::Absolute => 0,
         Segment::TextSeg => row.text,
         Segment::DataSeg => {
             let start = (program.header().data_start() % 65536) as u16;
-            start.wrapping_add(row.place?).wrapping_sub(text)
+            start
+                .wrapping_add(row.place?)
+                .wrapping_sub(object.header().text_size)
         }
         Segment::BssSeg => row.bss?,
         Segment::Undefined | Segment::Other => return None,
@@ -29,42 +30,29 @@ fn moved(program: &File, candidate: &Candidate, row: &Row, symbol: &Symbol) -> O
     })
 }
 
-fn put_symbols(
-    symbols: &mut Vec<Symbol>,
-    program: &File,
-    candidate: &Candidate,
-    row: &Row,
-    external: bool,
-) -> Result<(), AllocError> {
-    for symbol in candidate.object.file().symbols() {
-        if symbol.is_external() == external
-            && let Some(symbol) = moved(program, candidate, row, symbol)
-        {
-            symbols.push(symbol)?;
-        }
-    }
-    Ok(())
-}
-
 /// The symbols of objects that were found: locals, if they are wanted, and then externals.
 pub(crate) fn symbols_of(
-    alloc: Global,
-    program: &File,
-    candidates: &[Candidate],
+    trial: &Trial<'_>,
     rows: &[Row],
     with_locals: bool,
 ) -> Result<Vec<Symbol>, AllocError> {
-    let mut symbols = Vec::new(alloc);
-    for external in [false, true] {
-        for row in rows {
-            if (external || with_locals)
-                && let Some(candidate) = candidates.get(row.candidate)
-            {
-                put_symbols(&mut symbols, program, candidate, row, external)?;
+    let mut locals = Vec::new(trial.alloc);
+    let mut externals = Vec::new(trial.alloc);
+    for row in rows {
+        let Some(candidate) = trial.all.get(row.candidate) else {
+            continue;
+        };
+        let object = candidate.object.file();
+        for symbol in object.symbols() {
+            match moved(trial.program, object, row, symbol) {
+                Some(moved) if moved.is_external() => externals.push(moved)?,
+                Some(moved) if with_locals => locals.push(moved)?,
+                _ => {}
             }
         }
     }
-    Ok(symbols)
+    locals.extend_from_slice(&externals)?;
+    Ok(locals)
 }
 
 /// A file with other symbols, as many as a file has at most.

@@ -1,27 +1,17 @@
 //! What is opened, read and stored for a program whose objects are looked for.
-ghost use Rattle.std.specs.Prelude.{◌≡◌, ◌∷◌, [], List, if◌then◌else◌, map, string_bytes, IfOk};
-ghost use Rattle.aout_core.specs.declared.symbol.Symbol.{Symbol};
-ghost use Rattle.surroundings.specs.Programs.{Stores};
-ghost use Rattle.surroundings.specs.Events.{stored};
-ghost use Rattle.v7_origin.specs.{Files.with_symbols, Runs.{Answers, ChecksEach, ChecksOut, IsFound, IsOrigin, Judges, ReadsFiles, ReadsObjects}, internal.Lists.IfStored};
+ghost use Rattle.std.specs.Prelude.{◌≡◌, [], List, if◌then◌else◌, codes, map, string_bytes, option_map, IfOk};
+ghost use Rattle.aout_core.specs.{declared.symbol.Symbol.Symbol, Words.letter_of};
+ghost use Rattle.surroundings.specs.{Arguments.has_letter, Events.stored, Programs.Stores};
+ghost use Rattle.v7_origin.specs.Runs.{ChecksEach, ChecksOut, FindsAmong, IsFound, IsOrigin, Judges, out_of, with_symbols};
+ghost use Rattle.v7_origin.specs.internal.Lists.{IfStored};
 
-use crate::arguments::Call;
-use crate::files::{objects_in, program_in};
 use crate::finding::{Finding, find};
 use crate::naming::named;
 use crate::program::NAME;
-use crate::reading::{MOST_BYTES, Source, read_all};
+use crate::reading::{Source, objects_in, program_in, read_all};
 use aout_core::{File, Object};
 use std::alloc::{AllocError, Global};
-use surroundings::{Answer, Fault, Office, answer_stored, check_output, read_whole};
-
-/// What is asked of a program.
-#[derive(Clone, Copy)]
-pub(crate) struct Wanted<'a> {
-    pub(crate) path: &'a str,
-    pub(crate) bytes: &'a [u8],
-    pub(crate) has_locals: bool,
-}
+use surroundings::{Answer, Fault, Given, Office, answer_stored, check_output};
 
 /// Checks that the output is none of these files.
 fn check_each<O: Office>(
@@ -39,40 +29,32 @@ fn check_each<O: Office>(
     Ok(())
 }
 
-/// Checks that the output is neither the program nor one of the objects.
-fn check_all<O: Office>(alloc: Global, office: &mut O, out: &str, call: &Call) -> Result<(), Fault>
-    ensures { ChecksEach out.now (call.now.program ∷ call.now.objects)
-        (O.history office.old) (O.history office.new) result }
-{
-    check_output(alloc, office, NAME, call.program.as_str(), out)?;
-    check_each(alloc, office, out, call.objects.as_slice())
-}
-
 /// Checks the output, if there is one.
-fn check_out<O: Office>(alloc: Global, office: &mut O, call: &Call) -> Result<(), Fault>
-    ensures { ChecksOut call.now.out (call.now.program ∷ call.now.objects)
+fn check_out<O: Office>(
+    alloc: Global,
+    office: &mut O,
+    out: Option<&str>,
+    paths: &[String],
+) -> Result<(), Fault>
+    ensures { ChecksOut (option_map (λ o. o.now) out.entry) (map string_bytes paths.now)
         (O.history office.old) (O.history office.new) result }
 {
-    match &call.out {
-        Some(out) => check_all(alloc, office, out.as_str(), call),
+    match out {
+        Some(out) => check_each(alloc, office, out, paths),
         None => Ok(()),
     }
 }
 
 /// The answer with what was found.
-fn answer_of(alloc: Global, call: &Call, lines: Vec<u8>, is_whole: bool) -> Answer
+fn answer_of(alloc: Global, is_quiet: bool, lines: Vec<u8>, is_whole: bool) -> Answer
     ensures { result ≡ record {
-      output = if call.now.is_quiet then [] else lines.items;
+      output = if is_quiet then [] else lines.items;
       errors = [];
       status = if is_whole then 0 else 1;
     } }
 {
     Answer {
-        output: if call.is_quiet {
-            Vec::new(alloc)
-        } else {
-            lines
-        },
+        output: if is_quiet { Vec::new(alloc) } else { lines },
         errors: Vec::new(alloc),
         status: if is_whole { 0 } else { 1 },
     }
@@ -88,27 +70,21 @@ struct Found {
 /// What is found of a program, and the program with the symbols of the objects.
 fn found_of(
     alloc: Global,
-    call: &Call,
-    bytes: &[u8],
+    given: &Given,
     program: File,
     sources: &[Source],
     objects: Vec<Object>,
 ) -> Result<Found, AllocError>
-    ensures { IfOk result (λ f. IsFound call.now program sources.now f.answer
+    ensures { IfOk result (λ f. IsFound given.now program sources.now f.answer
         × ((rows : List Symbol) × (f.file ≡ with_symbols program rows))) }
 {
-    let wanted = Wanted {
-        path: call.program.as_str(),
-        bytes,
-        has_locals: call.has_locals,
-    };
     let Finding {
         text,
         is_whole,
         symbols,
-    } = find(alloc, &wanted, &program, sources, objects)?;
+    } = find(alloc, given.has(b'a'), &program, sources, objects)?;
     Ok(Found {
-        answer: answer_of(alloc, call, text.finish()?, is_whole),
+        answer: answer_of(alloc, given.has(b'q'), text.finish()?, is_whole),
         file: named(program, symbols),
     })
 }
@@ -131,78 +107,56 @@ fn store<O: Office>(
 fn answer_found<O: Office>(
     alloc: Global,
     office: &mut O,
-    call: &Call,
+    out: Option<&str>,
     found: Found,
 ) -> Result<Answer, Fault>
-    ensures { IfStored call.now.out found.file found.answer (O.history office.old) (O.history office.new) result }
+    ensures { IfStored (option_map (λ o. o.now) out.entry) found.file found.answer
+        (O.history office.old) (O.history office.new) result }
 {
     let Found { answer, file } = found;
-    match &call.out {
-        Some(out) => store(alloc, office, out.as_str(), &file, answer),
+    match out {
+        Some(out) => store(alloc, office, out, &file, answer),
         None => Ok(answer),
     }
-}
-
-/// Finds the objects among files that were read.
-fn find_among<O: Office>(
-    alloc: Global,
-    office: &mut O,
-    call: &Call,
-    bytes: &[u8],
-    program: File,
-    sources: &[Source],
-    objects: Vec<Object>,
-) -> Result<Answer, Fault>
-    ensures { Answers call.now program sources.now (O.history office.old) (O.history office.new) result }
-{
-    let found = found_of(alloc, call, bytes, program, sources, objects)?;
-    answer_found(alloc, office, call, found)
 }
 
 /// Finds the objects of a program among files that were read, if they are such files.
 fn judge<O: Office>(
     alloc: Global,
     office: &mut O,
-    call: &Call,
-    bytes: &[u8],
+    given: &Given,
     sources: &[Source],
 ) -> Result<Answer, Fault>
-    ensures { Judges call.now bytes.now sources.now (O.history office.old) (O.history office.new) result }
+    ensures { Judges given.now sources.now (O.history office.old) (O.history office.new) result }
 {
-    let program = program_in(alloc, call.program.as_str(), bytes)?;
+    let program = program_in(alloc, sources)?;
     let objects = objects_in(alloc, sources)?;
-    find_among(alloc, office, call, bytes, program, sources, objects)
+    let found = found_of(alloc, given, program, sources, objects)?;
+    answer_found(alloc, office, given.value_of(b'o'), found)
 }
 
-/// Reads the objects, and judges all files.
-fn read_objects<O: Office>(
+/// Reads files, and finds which of the objects the program was linked from.
+fn find_among<O: Office>(
     alloc: Global,
     office: &mut O,
-    call: &Call,
-    bytes: &[u8],
+    given: &Given,
+    paths: &[String],
 ) -> Result<Answer, Fault>
-    ensures { ReadsObjects call.now bytes.now (O.history office.old) (O.history office.new) result }
+    ensures { FindsAmong given.now (map string_bytes paths.now)
+        (O.history office.old) (O.history office.new) result }
 {
-    let sources = read_all(alloc, office, call.objects.as_slice())?;
-    judge(alloc, office, call, bytes, sources.as_slice())
+    check_out(alloc, office, given.value_of(b'o'), paths)?;
+    let sources = read_all(alloc, office, paths)?;
+    judge(alloc, office, given, sources.as_slice())
 }
 
-/// Reads the program, and then the objects.
-fn read_program<O: Office>(alloc: Global, office: &mut O, call: &Call) -> Result<Answer, Fault>
-    ensures { ReadsFiles call.now (O.history office.old) (O.history office.new) result }
-{
-    let bytes = read_whole(alloc, office, NAME, call.program.as_str(), MOST_BYTES)?;
-    read_objects(alloc, office, call, bytes.as_slice())
-}
-
-/// Reads the files, and finds which of the objects the program was linked from.
+/// Finds which of the objects a program was linked from.
 pub(crate) fn origin_of<O: Office>(
     alloc: Global,
     office: &mut O,
-    call: &Call,
+    given: &Given,
 ) -> Result<Answer, Fault>
-    ensures { IsOrigin call.now (O.history office.old) (O.history office.new) result }
+    ensures { IsOrigin given.now (O.history office.old) (O.history office.new) result }
 {
-    check_out(alloc, office, call)?;
-    read_program(alloc, office, call)
+    find_among(alloc, office, given, given.paths())
 }

@@ -1,29 +1,49 @@
 //! The program, over any files and any streams.
-ghost use Rattle.std.specs.Prelude.{map, string_bytes};
+ghost use Rattle.std.specs.Prelude.{◌≡◌, map, string_bytes};
 ghost use Rattle.surroundings.specs.Programs.{AnswersGiven, DoesWords};
-ghost use Rattle.v7_origin.specs.{Calls.{call_asked, call_in}, Runs.{IsOrigin, PerformsOrigin}};
+ghost use Rattle.v7_origin.specs.Runs.{call_asked, call_in, IsOrigin, PerformsOrigin, refusal_by, refusal_of};
 
-use crate::arguments::call_in;
 use crate::help::{HELP, USAGE};
 use crate::origin::origin_of;
 use std::alloc::Global;
 use std::io::Write;
 use surroundings::{
-    Answer, Fault, Given, Office, Outputs, give, given_in, refused_answer, shown_answer, shown_in,
+    Answer, Fault, Given, Office, Outputs, Reason, give, given_in, refused_answer, shown_answer,
+    shown_in,
 };
 
 /// The name of the program.
 pub(crate) const NAME: &str = "v7-origin";
 
+/// Why arguments with these paths are refused: they name no program, or `-a` comes without `-o`.
+fn refusal_by(given: &Given, paths: &[String]) -> Option<Reason>
+    ensures { result ≡ refusal_by given.now (map string_bytes paths.now) }
+{
+    let [_, ..] = paths else {
+        return Some(Reason::NoFile);
+    };
+    let out = given.value_of(b'o');
+    if given.has(b'a') && out.is_none() {
+        return Some(Reason::Needs(b'a', b'o'));
+    }
+    None
+}
+
+fn refusal_of(given: &Given) -> Option<Reason>
+    ensures { result ≡ refusal_of given.now }
+{
+    refusal_by(given, given.paths())
+}
+
 /// Does what is asked for, if something is.
-#[tactic(auto, using(surroundings::proofs::ShownLemmas::by_words))]
+#[tactic(auto, using(crate::proofs::RunLemmas::by_given))]
 fn answer_given<O: Office>(alloc: Global, office: &mut O, given: &Given) -> Result<Answer, Fault>
     ensures { DoesWords IsOrigin (call_in given.now)
         (O.history office.old) (O.history office.new) result }
 {
-    match call_in(alloc, given)? {
-        Ok(call) => origin_of(alloc, office, &call),
-        Err(reason) => Ok(refused_answer(alloc, NAME, USAGE, reason)?),
+    match refusal_of(given) {
+        None => origin_of(alloc, office, given),
+        Some(reason) => Ok(refused_answer(alloc, NAME, USAGE, reason)?),
     }
 }
 

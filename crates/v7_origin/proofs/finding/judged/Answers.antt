@@ -1,6 +1,6 @@
-use Rattle.std.proofs.Common.{rules, ◌≡◌, [], Some, sym, ◌∙◌}
+use Rattle.std.proofs.Common.{rules, ◌≡◌, sym, ◌∙◌}
 use Rattle.std.proofs.lemmas.Bool.{false≢true}
-use Rattle.v7_origin.specs.Whole.{IsLinkOfAll, chosen_from}
+use Rattle.v7_origin.specs.Whole.{AreChosen, IsLinkOfAll}
 use Rattle.v7_origin.proofs.finding.judged.Goals as goal
 use Rattle.v7_origin.proofs.finding.judged.Goals.{in-Equal, in-Differs+in_ok-so_far-in-Differs}
 
@@ -10,7 +10,7 @@ returns c is =
       | in-Equal w ↦
           let entries = c.in-Some.session.entries in
           let layout = c.layout_of-layout.result in
-          let chosen : chosen_from [] c.args.sources.now c.args.order.now ≡ Some entries = search rules in
+          let chosen : AreChosen c.args.sources.now c.args.order.now entries = search rules in
           let equal : IsLinkOfAll entries layout c.args.program.now = search rules in
           (c.args.order.now, entries, layout, chosen, equal)
       | in-Differs+in_ok-so_far-in-Differs w ↦ absurd (false≢true (sym w.is_whole-is ∙ is))

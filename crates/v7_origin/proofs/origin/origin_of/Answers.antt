@@ -1,8 +1,9 @@
-use Rattle.std.proofs.Common.{rules, inl, inr}
+use Rattle.std.proofs.Common.{subst}
+use Rattle.v7_origin.specs.Runs.{FindsAmong}
 use Rattle.v7_origin.proofs.origin.origin_of.Goals as goal
 
 pub returns : goal.returns
-returns g c = inr (tt, g.O.Office.history c.check_out.new.office, c.in_ok-check_out.ensures, c.read_program.ensures)
-
-pub returns-in_err-check_out : goal.returns-in_err-check_out
-returns-in_err-check_out g c = inl (c.in_err-check_out.field-0.0, c.in_err-check_out.ensures, search rules)
+returns g c =
+    let old = g.O.Office.history c.args.office.now in
+    let new = g.O.Office.history c.find_among.new.office in
+    subst (λ paths. FindsAmong c.args.given.now paths old new c.find_among.result) c.paths.ensures c.find_among.ensures
