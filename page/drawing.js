@@ -15,13 +15,6 @@ function svg(name, attributes, ...children) {
     return element;
 }
 
-// the rows of the image in their order
-function rowOrder() {
-    const order = new Map();
-    for (const row of document.querySelectorAll("#image .word, #image .fold")) order.set(row, order.size);
-    return order;
-}
-
 // the row of a word, or the fold that has it in the whole image
 function rowAt(place, part, id) {
     const fold = byId(id) ? null : shownFolds.find((one) => one.place === place && one.part === part);
@@ -83,13 +76,14 @@ function chosenReferences(state) {
 // the words whose arrows are wanted: those that belong to the choice, or those that the last step changed or brought
 function wantedReferences(state) {
     if (chosen) return chosenReferences(state).map((one) => ({ ...one, rank: 0 }));
-    const rank = (id) => ["bound", "put-back", "new"].findIndex((change) => byId(id)?.classList.contains(change));
-    return allReferences(state).map((one) => ({ ...one, rank: rank(one.id) })).filter((one) => one.rank >= 0);
+    const ranks = new Map(["new", "put-back", "bound"].flatMap((change, i) =>
+        [...document.querySelectorAll(`#image .word.${change}`)].map(({ id }) => [id, 2 - i])));
+    return allReferences(state).filter(({ id }) => ranks.has(id)).map((one) => ({ ...one, rank: ranks.get(one.id) }));
 }
 
 // arrows that end at one row, and words that wait for one name, as bundles that share a lane
 function bundles(state, references) {
-    const order = rowOrder();
+    const order = new Map([...document.querySelectorAll("#image .word, #image .fold")].map((row, i) => [row, i]));
     const found = { arrows: new Map(), chains: new Map() };
     for (const one of references) {
         const [row, target] = [rowAt(one.place, one.part, one.id), rowOfPlace(state, one.to)];

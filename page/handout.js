@@ -23,10 +23,6 @@ function paperObject(object) {
         symbolsOf(object));
 }
 
-// the objects that a lesson adds
-const objectsOf = (guide) => [...new Set(GUIDES[guide].steps.filter(({ act }) => act?.[0] === "add").map(({ act }) => act[1]))]
-    .map((number) => DATA.objects[number]);
-
 // the words of a state on paper, each with its place in the segment, pc, and what it refers to
 function paperWords(state) {
     const rows = PARTS.flatMap((part) => state.list.flatMap((number, place) => DATA.objects[number][part].map((_, index) => {
@@ -54,7 +50,8 @@ function paperSteps(guide, withAnswers) {
 // prints a lesson as a handout, with its objects, and after it the same with the answers
 function printHandout() {
     const kept = view;
-    const given = (withAnswers) => (withAnswers ? [] : objectsOf(kept.guide).map(paperObject));
+    const added = GUIDES[kept.guide].steps.filter(({ act }) => act?.[0] === "add").map(({ act }) => act[1]);
+    const given = (withAnswers) => (withAnswers ? [] : [...new Set(added)].map((number) => paperObject(DATA.objects[number])));
     const parts = [false, true].map((withAnswers) => make("div", withAnswers ? "answers" : "", make("h1", "", guideTitle(kept.guide)),
         ...given(withAnswers), ...paperSteps(kept.guide, withAnswers)));
     view = kept;

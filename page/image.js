@@ -148,7 +148,8 @@ function edgeRows(context, segment, areBefore) {
 
 // the rows of a segment with words
 function partRows(context, part) {
-    const rows = context.full.list.flatMap((object, place) => (countOf(object, part) > 0 ? objectRows(context, place, part) : []));
+    const { list, owners } = context.full;
+    const rows = list.flatMap((_, place) => (owners[part].includes(place) ? objectRows(context, place, part) : []));
     return [...edgeRows(context, part, true), ...rows, ...edgeRows(context, part, false)];
 }
 
@@ -162,7 +163,8 @@ function imageContext(state, changed) {
     const named = namedSpots(state);
     return {
         state, full, changed, labels: labelsOf(full), named, spots: spotsOf(full, named),
-        bases: isLinked(state) ? state.links[view.layout].bases : null, isNew: (place) => view.gone < 0 && place === state.list.length - 1,
+        bases: isLinked(state) ? linkIn(state, view.layout).bases : null,
+        isNew: (place) => view.gone < 0 && place === state.list.length - 1,
     };
 }
 

@@ -170,12 +170,9 @@ function showTab(name) {
     for (const tab of ["names", "objects", "guide"]) byId(`tab-${tab}`).setAttribute("aria-pressed", String(tab === name));
 }
 
-function watchTabs() {
-    for (const tab of ["names", "objects", "guide"]) byId(`tab-${tab}`).addEventListener("click", () => showTab(tab));
-}
-
 function watchKeys() {
     lists().forEach(watchList);
     watchBar();
+    for (const tab of ["names", "objects", "guide"]) byId(`tab-${tab}`).addEventListener("click", () => showTab(tab));
     document.addEventListener("keydown", shortcut);
 }

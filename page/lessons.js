@@ -27,11 +27,11 @@ const changedIn = (state) => wordMarksOf(state).map(markKey);
 const hasBareNumber = (text) => /[0-9]/.test(text.replace(/"[^"]*("|$)|\{[^}]*(\}|$)/g, "\0").replace(/[A-Za-z_][A-Za-z_0-9.-]*/g, ""));
 
 function numberInLink(state, layout, text) {
-    const link = state.links[layout];
+    const link = linkIn(state, layout);
     const word = wordNamed(text);
     if (text === "text" || text === "data") return startOf(link, text);
     if (link.refused) return null;
-    if (word) return link[word.part][word.offset / 2]?.[0] ?? null;
+    if (word) return link.words[word.part][word.offset / 2] ?? null;
     return addressIn(link, text);
 }
 // the address of a name, if it has one
@@ -132,7 +132,7 @@ function answerQuestion(question, state, layout, changed) {
         ensure(isWord || known, "after the step there is no such name");
         const text = isWord ? word.replace(/-(.*)/, (_, offset) => ` ${Number(offset).toString(8)}`) : name;
         const now = isWord ? cellAt(state, wordNamed(text))?.value : known.kind in REFERENTS ? known.number : null;
-        question.number = (layout < 0 ? now : isWord ? numberInLink(state, layout, text) : addressIn(state.links[layout], name)) ?? null;
+        question.number = (layout < 0 ? now : isWord ? numberInLink(state, layout, text) : addressIn(linkIn(state, layout), name)) ?? null;
         ensure(!isWord || question.number !== null, "after the step there is no such word");
         ensure(given === null || question.number !== null, "the name is nowhere");
         ensure(given === null || given === question.number, `the number is ${question.number?.toString(8)}`);

@@ -125,10 +125,7 @@ function saveFile(name, content) {
     URL.revokeObjectURL(link.href);
 }
 
-const linkFile = () => {
-    reach(view.list);
-    return current.link({ options: LINK_OPTIONS[view.layout], entry: ASKED.entry }).file;
-};
+const linkFile = () => linkOf(view.list, view.layout).file;
 
 // the output of -r as one more object
 function addLink() {

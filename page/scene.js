@@ -130,16 +130,17 @@ function scenesOf(context) {
 }
 
 // ---- what fits is measured
-const isWide = () => innerWidth >= 1280;
+// whether the folds of the objects have to fit too: not in a narrow window, and not if they are many
+const isRestSeen = ({ full }) => innerWidth >= 1280 && full.list.length <= FEW;
 
-// puts parts on the stage, and says whether they fit; the folds of the objects need not in a narrow window, or at last
+// puts parts on the stage, and says whether they fit; the folds of the objects need not at last
 function putScene(context, parts, how) {
     const used = new Set();
     const rest = withAttributes(byId("rest") ?? make("div"), { id: "rest", role: "group", "aria-label": "Objects" });
     setChildren(rest, context.full.list.map((_, place) => foldRow(context, place, "")));
     setChildren(byId("image"), [...parts.flatMap((part, i) => partElements(context, part, i, how, used)), rest]);
     const room = byId("stage").clientHeight;
-    return room === 0 || rest.offsetTop + (isWide() && !how.isLast ? rest.offsetHeight : 0) <= room;
+    return room === 0 || rest.offsetTop + (isRestSeen(context) && !how.isLast ? rest.offsetHeight : 0) <= room;
 }
 
 // of each form how many columns it has at most, and how many pixels a row has at least
@@ -151,7 +152,7 @@ function showsAll(context, parts) {
     const count = parts.flatMap(({ groups }) => groups.flatMap(({ words }) => words)).length;
     const room = byId("stage").clientHeight || Infinity;
     const cells = ["cells", "cells dense", "cells dense tight"].map((cells) => ({ cells, isLast: true }));
-    return [...(count <= FEW ? [{ near: true }] : []), {}, { cells: "cells" }, ...cells].some((how) => {
+    return [...(count <= FEW ? [{ near: true }] : []), {}, ...(isRestSeen(context) ? [{ cells: "cells" }] : []), ...cells].some((how) => {
         const [columns, height] = FORMS[how.cells ?? "line"];
         return count * height <= room * columns && putScene(context, parts, { limit: Infinity, ...how });
     });

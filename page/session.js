@@ -4,11 +4,11 @@
 const [NO_MEMORY, NO_ROOM] = [50, 60];
 // the sizes of structs of v7.h in bytes
 const [ANSWER, REQUEST, RESULT, REMARK, SESSION] = [32, 64, 288, 40, 16];
-// where a result has its fault, the word of that and its place, and the bounds of its segments
-const [FAULT_AT, BOUNDS_AT] = [8, 120];
+// where a result has its fault, the word of that and its place; and of its map the bounds of segments, and why the link is refused
+const [FAULT_AT, BOUNDS_AT, REFUSED_AT] = [8, 120, 168];
 // for each buffer of a result where its size is, its place and its room, and how many bytes each of its items has
 const BUFFERS = [[24, 40, 1], [32, 56, 1], [192, 224, 40], [200, 240, 40], [208, 256, 48], [216, 272, 24]];
-const [WANTS_REPORT, WANTS_MAP] = [1, 8];
+const WANTS_REPORT_AND_MAP = 9;
 
 // bytes as characters of the same numbers, and back
 function latin(bytes) {
@@ -41,7 +41,7 @@ class Memory {
     constructor({ exports }) {
         this.calls = exports;
         this.lent = [];
-        // how large a room is at first: as large as the largest result so far
+        // how large a room is at first: the state of one object more is not made twice
         this.most = 4096;
     }
     get view() { return new DataView(this.calls.memory.buffer); }
@@ -87,7 +87,7 @@ class Memory {
         };
         act(place, { size: this.most, count: 64 });
         if (answer().fault === NO_ROOM) act(place, answer());
-        this.most = Math.max(this.most, answer().size);
+        this.most = Math.max(this.most, 2 * answer().size);
         if (answer().fault) throw new Fault(answer());
         return answer();
     }
@@ -116,10 +116,8 @@ class Linker {
     fromListing(bytes) { return this.memory.written("v7_from_listing", bytes); }
     fromGnu(bytes) { return this.memory.written("v7_from_gnu", { option: 0 }, bytes); }
     session(forced = []) { return new Session(this.memory, forced); }
-    // where the segments of a link are, also of one that is refused
-    mapOf(objects, asked) { return this.memory.whole(() => linked(this.memory, "v7_run", [], asked, WANTS_MAP, objects).bases); }
 
-    // the words of a file with their relocation words, and its symbols
+    // the words of a file, their relocation words, and its symbols
     read(bytes) {
         const { memory } = this;
         return memory.whole(() => {
@@ -127,18 +125,15 @@ class Linker {
             const [header, counts, text, data, symbols] = [16, 32, 2 * most, 2 * most, most].map((size) => memory.room(size));
             const rooms = [text, most >> 1, data, most >> 1, symbols, Math.floor(most / 12)];
             memory.made((place) => memory.call("v7_read", ...memory.given(bytes), header, ...rooms, counts, place));
-            const pairs = (from, count) => {
-                const words = memory.words(from, 2 * count);
-                return Array.from({ length: count }, (_, i) => [words[2 * i], words[2 * i + 1]]);
-            };
+            const [texts, datas, names] = [0, 8, 16].map((field) => memory.size(counts + field));
+            const both = { text: memory.words(text, 2 * texts), data: memory.words(data, 2 * datas) };
+            const halves = (odd) => byPart((part) => Array.from(both[part].filter((_, i) => i % 2 === odd)));
             const symbol = (_, i) => {
                 const name = latin(memory.bytes(symbols + 12 * i, 8)).replace(/\0[^]*/, "");
                 const [type, value] = memory.words(symbols + 12 * i + 8, 2);
                 return { name, type, value };
             };
-            const [texts, datas, names] = [0, 8, 16].map((field) => memory.size(counts + field));
-            return { text: pairs(text, texts), data: pairs(data, datas), bss: memory.u32(counts + 24),
-                symbols: Array.from({ length: names }, symbol) };
+            return { words: halves(0), relocs: halves(1), bss: memory.u32(counts + 24), symbols: Array.from({ length: names }, symbol) };
         });
     }
 
@@ -158,26 +153,30 @@ class Linker {
             });
         });
     }
-}
 
-// A link, by a request and a result as in v7.h: the first call says how large the buffers have to be.
-function linked(memory, name, before, { options, entry = "", forced = [] }, wants, objects = []) {
-    const [request, result, slices] = [memory.room(REQUEST), memory.room(RESULT), memory.room(16 * objects.length)];
-    objects.forEach((bytes, i) => memory.setSizes(slices + 16 * i, ...memory.given(bytes)));
-    memory.setSizes(request, REQUEST, 0, ...memory.given(bytesOf(entry)), ...memory.given(paddedNames(forced)), slices, objects.length);
-    memory.view.setUint32(request + 8, options, true);
-    memory.view.setUint32(request + 12, wants, true);
-    for (let round = 0; round < 2; round++) {
-        const sizes = BUFFERS.map(([size]) => memory.size(result + size));
-        memory.setSizes(result, RESULT);
-        BUFFERS.forEach(([, place, each], i) => memory.setSizes(result + place, memory.room(sizes[i] * each), sizes[i]));
-        memory.call(name, ...before, request, result);
-        if (memory.u32(result + FAULT_AT) !== NO_ROOM) break;
+    // a link, by a request and a result as in v7.h: its file, its report and where its segments are; or why it is refused. The first call
+    // says how large the buffers have to be
+    link(objects, { options, entry, forced }) {
+        const { memory } = this;
+        return memory.whole(() => {
+            const [request, result, slices] = [memory.room(REQUEST), memory.room(RESULT), memory.room(16 * objects.length)];
+            objects.forEach((bytes, i) => memory.setSizes(slices + 16 * i, ...memory.given(bytes)));
+            memory.setSizes(request, REQUEST, options + WANTS_REPORT_AND_MAP * 2 ** 32, ...memory.given(bytesOf(entry)),
+                ...memory.given(paddedNames(forced)), slices, objects.length);
+            for (let round = 0; round < 2; round++) {
+                const sizes = BUFFERS.map(([size]) => memory.size(result + size));
+                memory.setSizes(result, RESULT);
+                BUFFERS.forEach(([, place, each], i) => memory.setSizes(result + place, memory.room(sizes[i] * each), sizes[i]));
+                memory.call("v7_run", request, result);
+                if (memory.u32(result + FAULT_AT) !== NO_ROOM) break;
+            }
+            const fault = memory.u32(result + FAULT_AT);
+            if (fault) throw new Fault({ fault });
+            const [file, report] = BUFFERS.map(([size, place]) => memory.bytes(memory.size(result + place), memory.size(result + size)));
+            return { file: file.slice(), report: latin(report), bases: [0, 1, 2, 3, 4].map((i) => memory.size(result + BOUNDS_AT + 8 * i)),
+                refused: FAULTS[memory.u32(result + REFUSED_AT)] };
+        });
     }
-    const fault = memory.u32(result + FAULT_AT);
-    if (fault) throw new Fault({ fault, word: memory.u32(result + FAULT_AT + 4), place: memory.size(result + FAULT_AT + 8) });
-    const [file, report] = BUFFERS.map(([size, place]) => memory.bytes(memory.size(result + place), memory.size(result + size)).slice());
-    return { file, report: latin(report), bases: [0, 1, 2, 3, 4].map((i) => memory.size(result + BOUNDS_AT + 8 * i)) };
 }
 
 // A session, which is there until it is freed.
@@ -200,7 +199,6 @@ class Session {
     withdraw() { this.memory.whole(() => this.memory.answered("v7_session_withdraw", [this.handle])); }
     // it is ASCII: JSON has other bytes of names by their numbers
     state() { return JSON.parse(new TextDecoder().decode(this.memory.written("v7_session_state", this.handle))); }
-    link(asked) { return this.memory.whole(() => linked(this.memory, "v7_session_link", [this.handle], asked, WANTS_REPORT)); }
     free() {
         this.memory.call("v7_session_free", this.handle);
         this.memory.call("free", this.handle);

@@ -51,13 +51,13 @@ function decodedOf(bytes, words) {
 
 const isOfText = (byte) => byte === 0 || byte === 9 || byte === 10 || (byte >= 32 && byte < 127);
 // the texts in words of data, by the index of the first word of each
-function textsIn(words) {
+function textsIn(words, relocs) {
     const texts = new Map();
     let first = 0;
     for (let next = 0; next <= words.length; next++) {
-        const [word, reloc] = words[next] ?? [0, 0];
-        if (!refers(reloc) && word & 255 && isOfText(word & 255) && isOfText(word >> 8)) continue;
-        if (next - first >= 2) texts.set(first, words.slice(first, next).map(([one]) => String.fromCharCode(one & 255, one >> 8)).join(""));
+        const word = words[next];
+        if (word & 255 && isOfText(word & 255) && isOfText(word >> 8) && !refers(relocs[next])) continue;
+        if (next - first >= 2) texts.set(first, words.slice(first, next).map((one) => String.fromCharCode(one & 255, one >> 8)).join(""));
         first = next + 1;
     }
     return texts;
@@ -77,7 +77,7 @@ function piecesOf(words, labels) {
 }
 
 // the names that an object defines in a segment
-function labelsIn({ symbols }, part, start) {
+function labelsIn(symbols, part, start) {
     const all = symbols.filter(({ type }) => ({ 2: "text", 3: "data" }[type % 32]) === part);
     return all.map(({ name, type, value }) => ({ index: modulo(value - start) >> 1, isExternal: (type & 32) !== 0, name }))
         .sort((a, b) => a.index - b.index);
@@ -89,14 +89,15 @@ const byPart = (of) => Object.fromEntries(PARTS.map((part) => [part, of(part)]))
 function objectOf(path, bytes) {
     LINKER.check(bytes);
     const file = LINKER.read(bytes);
-    const sizes = { text: 2 * file.text.length, data: 2 * file.data.length, bss: file.bss };
+    const { words, relocs, bss, symbols } = file;
+    const sizes = { text: 2 * words.text.length, data: 2 * words.data.length, bss };
     const starts = { text: 0, data: sizes.text, bss: sizes.text + sizes.data };
-    const [words, labels] = [byPart((part) => file[part].map(([word]) => word)), byPart((part) => labelsIn(file, part, starts[part]))];
-    const [{ instructions, branches, units }, strings] = [decodedOf(bytes, words.text), textsIn(file.data)];
+    const labels = byPart((part) => labelsIn(symbols, part, starts[part]));
+    const [{ instructions, branches, units }, strings] = [decodedOf(bytes, words.text), textsIn(words.data, relocs.data)];
     return {
-        path, bytes, starts, sizes, ...words, bss: file.bss, relocs: byPart((part) => file[part].map(([, reloc]) => reloc)),
-        references: byPart((part) => file[part].flatMap(([, reloc], index) => (refers(reloc) ? [index] : []))),
-        table: file.symbols, symbols: file.symbols.map(lineOfSymbol), labels, instructions, branches, strings,
+        path, bytes, starts, sizes, ...words, bss, relocs,
+        references: byPart((part) => relocs[part].flatMap((reloc, index) => (refers(reloc) ? [index] : []))),
+        table: symbols, symbols: symbols.map(lineOfSymbol), labels, instructions, branches, strings,
         units: { text: units, data: unitsOfData(words.data, strings) }, pieces: byPart((part) => piecesOf(words[part], labels[part])),
     };
 }
@@ -146,7 +147,7 @@ function foundAt({ bases: [text, start, data, bss, end], isSplit }, inText, at) 
 
 function linkPlace(link, cell, part, offset) {
     const address = modulo(startOf(link, part) + offset);
-    const meant = placeMeant({ value: link[part][offset / 2][0], pc: cell.pc }, address);
+    const meant = placeMeant({ value: link.words[part][offset / 2], pc: cell.pc }, address);
     const segment = cell.target === "external" ? { 2: "text", 3: "data", 4: "bss" }[link.byName.get(cell.name).type % 32] : cell.target;
     const [text, start, data, , end] = link.bases;
     const bounds = { text: [0, text], data: [start, data], bss: [data, end] }[segment];
@@ -159,27 +160,24 @@ const startOf = ({ bases }, part) => (part === "data" && bases[1] < WORD ? bases
 
 // the id of the row of the place that a word refers to, in the image (-1) or in a link; "" if there is none
 function placeOf(state, part, offset, layout) {
-    const [cell, link] = [state.words[part][offset / 2], state.links[layout]];
+    const [cell, link] = [state.words[part][offset / 2], layout < 0 ? null : linkIn(state, layout)];
     return link && !link.refused ? linkPlace(link, cell, part, offset) : imagePlace(cell, offset, state.sizes);
 }
 
 // ---- states
-function linkOf(list, options, bss, count) {
-    const isSplit = options === 32;
-    try {
-        const { file, report } = current.link({ options, entry: ASKED.entry });
-        const read = LINKER.read(file);
-        const [text, data] = [2 * read.text.length, 2 * read.data.length];
-        const start = options === 16 ? Math.ceil(text / 0o20000) * 0o20000 : isSplit ? 0 : text;
-        const end = start + data + read.bss;
-        const externals = read.symbols.slice(read.symbols.length - count);
-        return { ...read, bases: [text, start, start + data, end - bss, end], report, isSplit, externals,
-            byName: new Map(externals.map((one) => [one.name, one])) };
-    } catch (fault) {
-        if (endsLinker(fault) || !(fault instanceof Fault)) throw fault;
-        const bases = LINKER.mapOf(list.map((object) => DATA.objects[object].bytes), { options, forced: ASKED.forced });
-        return { refused: fault.message, bases, isSplit };
+// a link of the objects of a list, as it is asked for
+const linkOf = (list, layout) => LINKER.link(list.map((object) => DATA.objects[object].bytes), { options: LINK_OPTIONS[layout], ...ASKED });
+
+// the link of a state in a layout, which is made when it is wanted
+function linkIn(state, layout) {
+    if (!state.links[layout]) {
+        const { file, ...link } = linkOf(state.list, layout);
+        const read = link.refused ? { symbols: [] } : LINKER.read(file);
+        const externals = read.symbols.slice(read.symbols.length - state.names.length);
+        const byName = new Map(externals.map((one) => [one.name, one]));
+        state.links[layout] = { ...read, ...link, isSplit: layout === 2, externals, byName };
     }
+    return state.links[layout];
 }
 
 // a mark: the word or the name that was overwritten; of a word also what was added to it, and what it is now
@@ -188,7 +186,8 @@ function markOf({ segment: part = "", offset, name, was }, words, byName) {
     const by = was.target === "external" ? byName.get(was.name) : null;
     const isBound = by && by.kind in REFERENTS;
     return { part, offset, value: was.value, pc: was.pc, meant: placeMeant(was, offset), name: by?.name ?? "",
-        kind: REFERENTS[was.target] ?? -1, bound: isBound ? by.number : null, now: isBound ? words[part][offset / 2].value : null };
+        kind: REFERENTS[was.target] ?? -1, found: by?.kind, bound: isBound ? by.number : null,
+        now: isBound ? words[part][offset / 2].value : null };
 }
 
 function computed(list) {
@@ -204,8 +203,8 @@ function computed(list) {
     }
     const sizes = fronts.pop();
     return { list, words, sizes, fronts, names, byName, multiples: raw.multiples,
-        marks: raw.marks.map((mark) => markOf(mark, words, byName)),
-        links: LINK_OPTIONS.map((options) => linkOf(list, options, sizes.bss, names.length)) };
+        marks: raw.marks.map((mark) => markOf(mark, words, byName)), links: [],
+        owners: byPart((part) => list.flatMap((object, place) => DATA.objects[object][part].map(() => place))) };
 }
 
 const STATES = new Map();

@@ -39,7 +39,8 @@ function markText(state, mark) {
     const [word, where] = [wordAt(state, part, offset), `The word at ${part} ${shown(offset)}`];
     if (view.gone >= 0) return `${where} waits for ${name} again: its mark gave it back what it was, ${shown(mark.value)}.`;
     const distance = word.pc && isDistance(word) ? `, the distance from ${shown(offset + 2)} to ${shown(word.meant)}` : "";
-    return `${where} waited for ${name}. This is at ${shown(bound)} now, so the linker added it: ${markSum(mark)}${distance}.`;
+    const found = stateText(mark.found, bound);
+    return `${where} waited for ${name}, which is ${found} now, so the linker added that: ${markSum(mark)}${distance}.`;
 }
 
 // the marks of words that the last step made or put back, in the order of the image
@@ -58,10 +59,8 @@ function broughtText() {
 
 // the sentence above the image: why the chosen word changed, or the first of those that did, and what came or went
 function sentence(state) {
-    const refused = view.layout >= 0 ? state.links[view.layout].refused : "";
-    if (refused) return [`refused: ${refused}`];
-    if (isLinked(state) && view.list.length > 0) return ["Each sum is the word of the object + the address of what it refers to"
-        + " (\u2212 how far the word has moved, with pc) = the word of the link."];
+    if (isLinked(state) && view.list.length > 0) return ["Each sum is the word of the object + the address of the name, or how far the"
+        + " segment has moved, that it refers to (\u2212 how far the word itself has moved, with pc) = the word of the link."];
     const marks = wordMarks();
     const mark = marks.find((one) => markKey(one) === chosen) ?? (chosen ? null : marks[0]);
     const notes = [mark ? markText(state, mark) : chosen ? chosenText(state) : broughtText()];
@@ -106,9 +105,9 @@ function waitingText(state) {
 }
 
 function showNotes(state) {
-    const refused = view.layout >= 0 && state.links[view.layout].refused;
+    const refused = view.layout >= 0 ? linkIn(state, view.layout).refused : "";
     byId("note").classList.toggle("refused", Boolean(refused));
-    setText(byId("note"), sentence(state).join(" "));
+    setText(byId("note"), refused ? `refused: ${refused}` : sentence(state).join(" "));
 }
 
 // brings a row onto the stage, if it is not wholly there: so rows stay where they are, if they can. Others come too, if all fit
@@ -169,7 +168,7 @@ let shownList = [];
 function showAll() {
     const state = stateNow();
     const changed = changesOf(view);
-    const focus = document.activeElement;
+    const hadFocus = document.activeElement !== document.body;
     chosen = "";
     forget();
     clearFound();
@@ -185,19 +184,15 @@ function showAll() {
     showMaps(state);
     // what asks for the layout comes together, so that the browser makes it once
     showChosen(true, () => {
-        keepFocus(focus);
+        // the focus goes to the image, if what had it is not there any more
+        const isThere = document.activeElement !== document.body && isLaidOut(document.activeElement);
+        if (hadFocus && !isThere) byId("image").focus({ preventScroll: true });
         bring(byId("names").querySelector(".changed, .put-back, .new"));
         showNext();
         return firstChanged();
     });
     say([stepText(), byId("note").textContent, guideText()]);
     shownList = view.list;
-}
-
-// the focus goes to the image, if what had it is not there any more
-function keepFocus(focus) {
-    if (!focus || focus === document.body) return;
-    if (document.activeElement === document.body || !isLaidOut(document.activeElement)) byId("image").focus({ preventScroll: true });
 }
 
 // says something to a reader of the screen, in one place
@@ -279,7 +274,6 @@ async function begin() {
     fold();
     watchKeys();
     watchFind();
-    watchTabs();
     watchOwn();
     watchFaults();
     window.addEventListener("popstate", restore);

@@ -64,7 +64,7 @@ PLAY = r"""(jobs) => {
             },
         };
         const made = words.flatMap(([kind, ...rest]) => given[kind](...rest));
-        const fault = name.endsWith("link") || name === "v7_run" ? made.at(-1) + FAULT_AT : made.at(-1);
+        const fault = name === "v7_run" ? made.at(-1) + FAULT_AT : made.at(-1);
         const out = heap.heap_out(), isEdit = /_(new|add|withdraw|free)$/.test(name);
         let value;
         for (let limit = ++count % 20 === 0 ? 0 : -1; ; limit = limit < 40 ? limit + 1 : limit * 2) {
@@ -310,14 +310,14 @@ def of_file(rng, job, data):
         job.sized(rng, "v7_from_listing", listed)
 
 
-def of_link(rng, job, name, request, *words):
+def of_link(rng, job, request):
     """A link, by a result that has no rooms, those that it needs, and one too small."""
-    result = job.call(name, *words, request, Result([0] * 8))[0]
+    result = job.call("v7_run", request, Result([0] * 8))[0]
     counts = [struct.unpack_from("<Q", result, at)[0] for at, _, _ in BUFFERS]
-    found = job.call(name, *words, request, Result(counts))
+    found = job.call("v7_run", request, Result(counts))
     short = rng.randrange(8)
     if counts[short]:
-        job.call(name, *words, request, Result([count - (number == short) for number, count in enumerate(counts)]))
+        job.call("v7_run", request, Result([count - (number == short) for number, count in enumerate(counts)]))
     return found
 
 
@@ -325,7 +325,7 @@ def of_links(rng, job, objects, forced):
     """Links of objects."""
     for wants in (1, 15, rng.randrange(17)):
         options, entry = rng.choice([0, *OPTIONS]), rng.choice([b"", b"", b"_a", b"_main", b"_ninebyte"])
-        of_link(rng, job, "v7_run", Request(options, wants, objects, entry, forced))
+        of_link(rng, job, Request(options, wants, objects, entry, forced))
     if rng.random() < 0.1:
         sizes = rng.choice([(8, 288), (63, 288), (64, 8), (64, 39), (64, 120), (64, 287)])
         job.call("v7_run", Request(0, rng.randrange(16), objects, b"", forced, sizes[0]), Result([999] * 8, sizes[1]))
@@ -336,18 +336,15 @@ def of_links(rng, job, objects, forced):
 def linked(library, rng, objects):
     """The files of links in each layout, and without symbols."""
     for options in (0, 1, 2, 16, 18, 32, 4):
-        found = of_link(rng, Job(library), "v7_run", Request(options, 0, objects))
+        found = of_link(rng, Job(library), Request(options, 0, objects))
         if found[1]:
             yield found[1]
 
 
 def of_session(rng, job, objects, forced, steps=20):
-    """A session: additions, withdrawals, states, and links in each layout."""
+    """A session: additions, withdrawals and states."""
     def act(what):
-        if what == "link":
-            asked = Request(rng.choice(OPTIONS), rng.choice([1, 1, 2, 3, 0, 4, 8]), [], rng.choice([b"", b"_a"]))
-            of_link(rng, job, "v7_session_link", asked, None)
-        elif what == "state":
+        if what == "state":
             job.sized(rng, "v7_session_state", None)
         elif what == "withdraw":
             job.call("v7_session_withdraw", None, [32])
@@ -355,16 +352,17 @@ def of_session(rng, job, objects, forced, steps=20):
             job.call("v7_session_add", None, what, [32])
 
     if rng.random() < 0.2:
-        act(rng.choice(["link", "state", "withdraw", b"", *objects]))
+        act(rng.choice(["state", "withdraw", b"", *objects]))
     job.call("v7_session_new", None, forced, [32])
     if rng.random() < 0.1:
         job.call("v7_session_new", None, forced, [32])
     is_large = sum(map(len, objects)) > 99_999
     for one in objects:
         act(one)
-        act("link" if is_large else "state")
+        if not is_large:
+            act("state")
     for _ in range(0 if is_large else steps):
-        act(rng.choice(["link", "link", "state", "withdraw", "withdraw", *objects, *objects][:5 + 2 * len(objects)]))
+        act(rng.choice(["state", "withdraw", "withdraw", *objects, *objects]))
     for _ in range(len(objects) + 1):
         act("withdraw")
     act("state")
@@ -423,7 +421,7 @@ def check_heap(tools):
         scripts.run(BEGIN)
         came = scripts.run(HEAP, 7, 20_000)
         same("the heap", came if isinstance(came, dict) else (came[0], 5 <= came[1] <= 20, came[2] <= 40), ([], True, True))
-        same("blocks that are too large", scripts.run("() => [1n << 29n, 1n << 30n, 1n << 40n].map((size) => String(heap.malloc(size)))"),
+        same("blocks that are too large", scripts.run("() => [29n, 30n, 40n].map((size) => String(heap.malloc(1n << size)))"),
              ["0"] * 3)
 
 

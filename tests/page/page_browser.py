@@ -9,6 +9,8 @@ import sys
 import tempfile
 import time
 
+from tests.page.page_tools import faults, same
+
 SYSTEM = "/usr/bin/python3"
 PACKAGES = "Debian's packages are chromium, chromium-driver and python3-selenium"
 
@@ -18,7 +20,6 @@ try:
     from selenium.webdriver.chrome.service import Service
     from selenium.webdriver.common.action_chains import ActionChains
     from selenium.webdriver.common.keys import Keys
-    from selenium.webdriver.support.ui import Select
 except ImportError:
     # the system's Python has the package, if another one comes first
     if os.path.exists(SYSTEM) and os.path.realpath(sys.executable) != os.path.realpath(SYSTEM):
@@ -46,8 +47,12 @@ class Browser:
         self.quit()
 
     def load(self, path):
-        self.url = "file://" + path
+        self.path = path
         self.open("")
+
+    def sizes(self, sizes):
+        """The sizes of a window that the browser can have."""
+        return sizes
 
     def back(self):
         self.run("history.back()")
@@ -63,8 +68,6 @@ class Browser:
 
 class Chromium(Browser):
     name = "Chromium"
-    # it tells how much of the processor the page has taken
-    counts_processor = True
 
     def __init__(self, text=16):
         """`text` is the size of text that the browser is set to, in pixels."""
@@ -90,20 +93,13 @@ class Chromium(Browser):
 
     def open(self, address):
         self.driver.get("about:blank")
-        self.driver.get(self.url + address)
+        self.driver.get(f"file://{self.path}{address}")
         self.wait(READY)
 
     def size(self, width, height, scale=1):
         metrics = {"width": width, "height": height, "deviceScaleFactor": scale, "mobile": False}
         self.driver.execute_cdp_cmd("Emulation.setDeviceMetricsOverride", metrics)
         self.settle()
-
-    def before_loading(self, script):
-        """Runs a script in each page before its own ones; gives what ends this."""
-        return self.driver.execute_cdp_cmd("Page.addScriptToEvaluateOnNewDocument", {"source": script})["identifier"]
-
-    def as_before(self, identifier):
-        self.driver.execute_cdp_cmd("Page.removeScriptToEvaluateOnNewDocument", {"identifier": identifier})
 
     def media(self, medium="", scheme="light"):
         features = [{"name": "prefers-color-scheme", "value": scheme}]
@@ -131,10 +127,6 @@ class Chromium(Browser):
     def click(self, name):
         self.driver.find_element("id", name).click()
 
-    def pick(self, name, option):
-        """Chooses an option of a list by its text."""
-        Select(self.driver.find_element("id", name)).select_by_visible_text(option)
-
     def picture(self, path):
         self.driver.save_screenshot(path)
 
@@ -153,10 +145,10 @@ class Chromium(Browser):
         metrics = self.driver.execute_cdp_cmd("Performance.getMetrics", {})["metrics"]
         return 1000 * next(metric["value"] for metric in metrics if metric["name"] == "TaskDuration")
 
-    def errors(self):
-        return [entry["message"] for entry in self.driver.get_log("browser") if entry["level"] == "SEVERE"]
-
     def quit(self):
+        """The page has made no errors, and loaded no files."""
+        faults.extend(f"the console: {entry['message']}" for entry in self.driver.get_log("browser") if entry["level"] == "SEVERE")
+        same("files that the page loads", self.run("return performance.getEntriesByType('resource').length"), 0)
         self.driver.quit()
 
 
@@ -169,7 +161,6 @@ class Firefox(Browser):
     """The same for Firefox, as far as it is needed. Its window is at least 500 pixels wide, so the page is a frame in it."""
 
     name = "Firefox"
-    counts_processor = False
 
     def __init__(self, zoom=1):
         self.home = tempfile.mkdtemp()
@@ -180,7 +171,7 @@ class Firefox(Browser):
             out.write(f'user_pref("marionette.port", {port});\nuser_pref("layout.css.devPixelsPerPx", "{zoom}");\n')
             out.write('user_pref("browser.shell.checkDefaultBrowser", false);\nuser_pref("security.fileuri.strict_origin_policy", '
                       'false);\n')
-        self.window, self.framed = (1366, 768), (0, 0)
+        self.zoom, self.window, self.framed = zoom, (1366, 768), (0, 0)
         words = [firefox(), "--headless", "--marionette", "--no-remote", "--profile", self.home]
         self.process = subprocess.Popen(words, stdout=subprocess.DEVNULL, stderr=subprocess.DEVNULL, env={**os.environ, "HOME": self.home})
         self.socket, self.rest, self.number = self.reach(port), b"", 0
@@ -214,6 +205,9 @@ class Firefox(Browser):
             raise RuntimeError(f"{command}: {fault['error']}: {fault['message']}")
         return result
 
+    def sizes(self, sizes):
+        return [one for one in sizes if one[2] == self.zoom]
+
     def size(self, width, height, scale=1):
         """The size of the frame that the next page is opened in. A dot is what `zoom` of the browser makes it."""
         self.window = width, height
@@ -222,7 +216,7 @@ class Firefox(Browser):
         width, height = self.window
         path = os.path.join(self.home, "frame.html")
         with open(path, "w", encoding="ascii") as out:
-            out.write(f'<body style="margin: 0"><iframe src="{self.url}{address}" style="width: {width}px; height: {height}px; '
+            out.write(f'<body style="margin: 0"><iframe src="file://{self.path}{address}" style="width: {width}px; height: {height}px; '
                       f'border: 0"></iframe>')
         if self.window != self.framed:
             self.send("WebDriver:SetWindowRect", {"width": max(width + 40, 500), "height": height + 120})

@@ -19,7 +19,7 @@ from tests.lib.objects import unpack
 from tests.lib.programs import v7
 from tests.oracles.disassembly import decoded
 from tests.page.page_lessons import bad_lessons, lesson_answers, lessons_of_all_kinds, remarks
-from tests.page.page_state import Given, Session, Step
+from tests.page.page_state import Given, Session, Step, place_in_link
 from tests.page.page_tools import (
     CLASS, FIVE, IN_C, LAYOUTS, OPEN, PARTS, SEGMENTS, SIXTEEN, TABLES, WORD, Tools, known_as, lessons_of, object_of, planted, report, same,
 )
@@ -32,13 +32,13 @@ STATE = """(list) => {
         const word = imageWord(state, place, part, index), { offset, value, pc, kind, name, to } = word;
         return [part, offset, value, pc, kind < 0 ? name : SEGMENTS[kind], to,
             LAYOUTS.map((_, layout) => placeOf(state, part, offset, layout)),
-            LAYOUTS.map((_, layout) => (state.links[layout].refused ? null : sumOf(state, word, layout).final))];
+            LAYOUTS.map((_, layout) => (linkIn(state, layout).refused ? null : sumOf(state, word, layout).final))];
     })));
     const marks = state.marks.map((mark) => (mark.part
         ? [mark.part, mark.offset, mark.value, mark.name, mark.bound, mark.now] : [mark.name, mark.kind, mark.number]));
     return { words, names: state.names.map(({ name, kind, number }) => [name, kind, number]), multiples: state.multiples, marks,
-        bss: state.sizes.bss, links: state.links.map(({ bases, report, refused }, layout) =>
-            ({ bases, report, refused, table: refused ? "" : tableOf(state, layout) })) };
+        bss: state.sizes.bss, links: LAYOUTS.map((_, layout) => linkIn(state, layout)).map(({ bases, report, refused, symbols }) =>
+            ({ bases, report, refused, table: symbols.map(lineOfSymbol).join("\\n") })) };
 }"""
 OBJECTS = """() => DATA.objects.map((one) => ({ text: one.text, data: one.data, bss: one.bss, symbols: one.symbols, texts: [...one.strings],
     operands: one.units.text.flatMap((start, index) => (start === index ? [] : [index])),
@@ -71,21 +71,6 @@ def compare_image(shown, objects, what):
           state["multiples"], state["bss"]))
 
 
-def place_in_link(linked, own, meant):
-    """The id of the place at an address of a link, of which the word names the segment `own`, or none: its end goes before what follows
-    it."""
-    base, (magic, text, data, bss) = linked["base"], linked["header"][:4]
-    bounds = {"text": (0, text), "data": (base, base + data), "common": (base + data, base + data + linked["commons"]),
-              "bss": (base + data + linked["commons"], base + data + bss)}
-    start, end = {"": (0, 0), **bounds, "bss": (base + data, base + data + bss)}[own]
-    if start < meant == end:
-        return f"{own}-end"
-    for part, (start, end) in bounds.items():
-        if (magic != 0o411 or (own in ("", "text")) == (part == "text")) and start <= meant < end:
-            return f"{part}-{meant if part == 'common' else meant - start if part == 'bss' else (meant - start) // 2 * 2}"
-    return f"outside-{meant}"
-
-
 def compare_link(shown, layout, name, linked, session, what):
     """The words of a link, its table and report, and the places that its words mean."""
     link = shown["links"][layout]
@@ -95,9 +80,9 @@ def compare_link(shown, layout, name, linked, session, what):
     same(f"{what}: table", link["table"] + "\n" * bool(link["table"]), linked["table"])
     same(f"{what}: report", (link["report"] or "nothing to report").rstrip("\n") + "\n", linked["report"])
     same(f"{what}: where segments begin and end", [*bases[:3], bases[4]], [header[1], base, base + header[2], base + header[2] + header[3]])
-    linked["commons"] = bases[3] - bases[2]
     laid = sum(size + size % 2 for kind, size in session.names.values() if kind == "common")
-    same(f"{what}: bytes of commons", linked["commons"], 0 if name == "-r" else laid)
+    same(f"{what}: bytes of commons", bases[3] - bases[2], 0 if name == "-r" else laid)
+    bounds = {"text": (0, bases[0]), "data": bases[1:3], "commons": bases[2:4], "bss": bases[3:]}
     letters = {line[9:]: line[7] for line in linked["table"].splitlines() if line[7].isupper()}
     for part, offset, _, pc, referent, _, places, finals in shown["words"]:
         final, word = linked["segments"][part][offset // 2], session.words[part, offset]
@@ -106,7 +91,7 @@ def compare_link(shown, layout, name, linked, session, what):
         meant = (final + offset + (base if part == "data" else 0) + 2) % WORD if pc else final
         if word.reloc & 0o17:
             same(f"{what}: {part} {offset:o}, which refers to {referent}, means", places[layout], "" if own is None
-                 else place_in_link(linked, own, meant))
+                 else place_in_link(bounds, header[0] == 0o411, own, meant))
     return None
 
 
@@ -182,12 +167,17 @@ def refusals(tools, files):
              ["text full", "text full"])
 
 
+# what the oldest browsers lack that a script could call: they have no roles and labels as properties
+NEW = r"\.(?:toSorted|toReversed|toSpliced|with|findLast\w*|groupBy|fromAsync|checkVisibility|union|withResolvers|aria[A-Z]\w+|role)\b"
+
+
 def scripts_of(folder):
-    """The scripts are short, and so are their functions."""
+    """The scripts are short, and so are their functions, and they run in old browsers."""
     for name in sorted(name for name in os.listdir(folder) if name.endswith(".js")):
         functions = re.findall(r"^(?:async )?function (?:.*\n)*?}$", text := read(f"{folder}/{name}"), re.M)
         same(f"long functions of {name}", ([one.split("(")[0] for one in functions if one.count("\n") >= 39], len(functions) > 0,
                                            text.count("\n") <= 300), ([], True, True))
+        same(f"what old browsers lack, {name}", re.findall(NEW, text), [])
 
 
 # ---- all of it

@@ -4,6 +4,8 @@ import re
 import tempfile
 
 from tests.lib.files import read_bytes
+from tests.page.page_browser import Chromium
+from tests.page.page_stage import CHOOSE_FROM, first
 from tests.page.page_tools import faults, same
 
 # faults of the layout that is shown, as texts, and how many things were looked at
@@ -93,11 +95,11 @@ for (const frame of document.querySelectorAll(FRAMES)) {
     if (frame.closest(".adds, .maps")) continue;
     const column = (frame.closest(".stage, main, .side, .known, header") ?? document.body).getBoundingClientRect();
     if (outer.right > column.right + 1) fault(`${frame.id || frame.className} is wider than its column`);
-    for (const { box, text } of textBoxes(frame)) {
+    for (const { box, node, text } of textBoxes(frame)) {
         counts.texts += 1;
         const scrolls = frame.scrollHeight > frame.clientHeight + 1 && getComputedStyle(frame).overflowY === "auto";
         if (box.left < outer.left - 1 || box.right > outer.right + 1) fault(`"${text}" leaves ${frame.id || frame.className} by the side`);
-        if (!scrolls && (box.top < outer.top - 1 || box.bottom > outer.bottom + 1))
+        if (!scrolls && !isClipped(node.parentElement) && (box.top < outer.top - 1 || box.bottom > outer.bottom + 1))
             fault(`"${text}" leaves ${frame.id || frame.className}`);
     }
 }
@@ -141,30 +143,19 @@ if (main.scrollWidth > main.clientWidth + 1) fault("the image is wider than its 
 return { faults, counts };
 """
 
-def look(page, what, counts):
-    """Looks at what is shown; adds to the faults, and to the counts."""
-    add(page.run(LOOK), what, counts)
 
-
-# widths, heights and scales of a window in Chromium; a zoom of 200 % at 1280 is a window of 640 pixels, each of two dots
+# widths, heights and scales of a window; a zoom of 200 % at 1280 is a window of 640 pixels, each of two dots
 SIZES = [(390, 844, 1), (820, 1180, 1), (1280, 720, 1), (1920, 1080, 1), (640, 360, 2)]
-FIREFOX_SIZES = [(width, 800, 1) for width in (390, 820, 1280, 1920)]
 
-# of each page the states that are looked at
-STATES = {
-    "the default page": ["", "objects=1", "objects=1,2", "objects=1&withdrawn=2", "objects=3,4", "objects=4,3,1,2,5&addresses=-n",
-                         "objects=3,4&withdrawn=1",
-                         "objects=1,2&addresses=-r&numbers=decimal", "tour=1", "objects=1,2&tour=4", "objects=1&lesson=1&done=1",
-                         "objects=1,2,5&addresses=plain&lesson=5&done=4"],
-    "five objects": ["objects=1", "objects=1,2", "objects=1,2,3,4,5", "objects=1,2,3,4,5&addresses=-i", "objects=1,2,3,4&withdrawn=5"],
-    "five large objects": ["objects=1", "objects=1,2,3,4,5", "objects=5,4,3,2,1&addresses=plain", "objects=1,2,3,4&withdrawn=5"],
-    "sixteen objects": [f"objects={','.join(map(str, range(1, count + 1)))}" for count in (1, 2, 4, 7, 16)]
-    + ["objects=1,2,3,4,5,6,7,8,9,10&addresses=-r", "objects=1,2,3,4,5,6,7,8,9&withdrawn=10"],
-}
-# names and words that are chosen besides, each in the last state but one of its page
-CHOSEN = {"the default page": ["name _count", "text-6"], "five objects": ["name left", "text-2", "text-46"],
-          "five large objects": ["name csv", "name _say"],
-          "sixteen objects": ["name csv", "name _say", "text-0", "name _here"]}
+
+def states_of(page, files):
+    """The states that are looked at: steps, withdrawals, links, and of a page with lessons the first view, the tour and lessons."""
+    count, places = len(files), [str(number) for number in range(1, len(files) + 1)]
+    backwards = "objects=" + ",".join(reversed(places))
+    lessons = ["", "tour=1", first(2) + "&tour=4", "objects=1&lesson=1&done=1"] * (page.run("return GUIDES.length") > 2)
+    return [*lessons, *map(first, sorted({1, 2, min(7, count), count})), first(2) + "&addresses=-r&numbers=decimal",
+            backwards + "&addresses=-n", f"{first(count - 1)}&withdrawn={count}"]
+
 
 # gives each word of text an instruction, as long as they come; how many of them are shown
 INSTRUCTIONS = """
@@ -195,10 +186,17 @@ return { faults, counts: { printed: document.querySelectorAll(".word").length } 
 """
 
 
-def add(seen, what, counts):
-    faults.extend(f"{what}: {text}" for text in seen["faults"])
-    for name, count in seen["counts"].items():
-        counts[name] = counts.get(name, 0) + count
+class Counts(dict):
+    """How many things were looked at."""
+
+    def add(self, what, seen):
+        faults.extend(f"{what}: {text}" for text in seen["faults"])
+        for name, count in seen["counts"].items():
+            self[name] = self.get(name, 0) + count
+
+    def total(self, but=()):
+        same("what was not counted", [what for what, count in self.items() if count == 0 and what not in but], [])
+        return sum(self.values())
 
 
 def go(page, state):
@@ -206,51 +204,60 @@ def go(page, state):
     page.wait("return location.hash.replace('#', '') === arguments[0] && hashOf(view) === arguments[0]", state)
 
 
-def look_at_states(page, name, what, counts):
-    for state in STATES[name]:
+def look_at_states(page, files, what, counts):
+    for state in states_of(page, files):
         go(page, state)
-        look(page, f"{name}, {what}, {state}", counts)
-    go(page, STATES[name][2])
-    for key in CHOSEN[name]:
+        counts.add(f"{what}, {state}", page.run(LOOK))
+    go(page, first(len(files)))
+    for key in page.run(CHOOSE_FROM, 2)[::max(1, len(files) // 5)]:
         page.run("choose(arguments[0], true);", key)
-        look(page, f"{name}, {what}, {key}", counts)
+        counts.add(f"{what}, {key}", page.run(LOOK))
 
 
-def look_on_paper(page, pages, counts):
+def look_on_paper(_, page, files):
     """As it is printed, upright and across: the window has the width of the paper less its margins."""
-    for name, path in pages.items():
-        page.load(path)
-        for width in (703, 1032):
-            page.size(width, 1000)
-            page.media("print")
-            for state in [one for one in STATES[name] if "addresses" not in one and "objects" in one]:
-                go(page, state)
-                look(page, f"{name}, {width} on paper, {state}", counts)
-                add(page.run(PAPER), f"{name} on paper, {state}", counts)
-            page.media("")
-        counts["sheets"] = counts.get("sheets", 0) + len(re.findall(rb"/Type /Page[\n ]", page.paper()))
+    counts = Counts()
+    for width in (703, 1032):
+        page.size(width, 1000)
+        page.media("print")
+        for state in [one for one in states_of(page, files) if "addresses" not in one and "objects" in one]:
+            go(page, state)
+            for script in (LOOK, PAPER):
+                counts.add(f"{width} on paper, {state}", page.run(script))
+        page.media("")
+    return counts.total(("arrows", "lines", "crossings")) * len(re.findall(rb"/Type /Page[\n ]", page.paper()))
 
 
-def look_with_instructions(page, path, counts):
+def look_with_instructions(_, page, __):
     """The longest instruction beside each word of text, in the image, in a link and in the objects."""
-    page.load(path)
+    counts = Counts()
     for width, height, scale in SIZES:
         page.size(width, height, scale)
         for state in ("#objects=1,2", "#objects=4,3,1,2,5&addresses=-n"):
             page.open(state)
             counts["instructions"] = counts.get("instructions", 0) + page.run(INSTRUCTIONS)
             page.settle()
-            look(page, f"instructions, {width} wide, {state}", counts)
+            counts.add(f"instructions, {width} wide, {state}", page.run(LOOK))
+    return counts.total(("lines",))
 
 
-def look_everywhere(page, pages, sizes, what, counts):
-    """In these sizes."""
-    for name, path in pages.items():
-        page.load(path)
-        for width, height, scale in sizes:
-            page.size(width, height, scale)
-            page.open("")
-            look_at_states(page, name, f"{width} wide, {what}", counts)
+def look_everywhere(_, page, files):
+    """In each size that the browser has."""
+    counts = Counts()
+    for width, height, scale in page.sizes(SIZES):
+        page.size(width, height, scale)
+        page.open("")
+        look_at_states(page, files, f"{width} wide in {page.name}", counts)
+    return counts.total()
+
+
+def look_at_large_text(_, page, files):
+    """Where the browser is set to text of 200 %."""
+    counts = Counts()
+    with Chromium(text=32) as large:
+        large.load(page.path)
+        look_at_states(large, files, "text of 200 %", counts)
+    return counts.total(("lines",))
 
 
 # ---- pictures
@@ -286,15 +293,20 @@ def make_pictures(page, folder):
         page.picture(f"{folder}/{name}.png")
 
 
-def difference(page, one, other):
-    """How many of a thousand pixels differ."""
-    return page.driver.execute_async_script(DIFFERENCE, *(base64.b64encode(read_bytes(path)).decode() for path in (one, other)))
-
-
-def compare_pictures(page):
+def compare_pictures(_, page, __):
     """The pictures are those of the page."""
     with tempfile.TemporaryDirectory() as folder:
         make_pictures(page, folder)
         for name in STATES_SHOWN:
+            both = [base64.b64encode(read_bytes(f"{of}/{name}.png")).decode() for of in (folder, PICTURES)]
             same(f"docs/pictures/{name}.png, as the part `pictures` makes it",
-                 difference(page, f"{folder}/{name}.png", f"{PICTURES}/{name}.png") <= LIMIT, True)
+                 page.driver.execute_async_script(DIFFERENCE, *both) <= LIMIT, True)
+
+
+def write_pictures(_, page, __):
+    make_pictures(page, PICTURES)
+
+
+# the checks of both browsers, and those of Chromium alone: the class example, sixteen objects, five, and five that are joined
+CHECKS_EVERYWHERE = ((look_everywhere, (0, 3, 4, 5)),)
+CHECKS = ((look_with_instructions, (0,)), (look_on_paper, (0, 3, 4, 5)), (look_at_large_text, (0, 3, 4, 5)), (compare_pictures, (0,)))

@@ -1,4 +1,5 @@
 """Compares the lessons of the page with the programs: their answers, and the faults of a file of lessons."""
+import os
 import re
 
 from tests.page.page_state import Given, Session, Step
@@ -121,6 +122,9 @@ def lesson_answers(tools, scripts, files, lessons=10, answers=12):
                 said = answer_said(tools, step, after, act, rest, after if act == "add" else here if act == "withdraw" else [])
                 same(f"the answer to {step['ask']}, {act}", sorted(step["answers"]) or step.get("number"), said)
                 count += 1
+            if guide is guides[-1] and act == "add":
+                same("what the practice adds", re.findall(r"([\w.]+) (?:is added\?|has been added\.)", str(step["ask"] or step["says"])),
+                     [os.path.basename(files[rest[0]])])
             if step["kind"] == "value":
                 word = Session([Given(file) for file in here]).rows().get(step["word"])
                 same(f"the word before {step['ask']}", step["before"], word.value if word else 0)

@@ -11,7 +11,7 @@ import asm  # of examples
 from tests.lib.files import TOP, read as text_of, write
 from tests.oracles import agree, model
 from tests.page.page_stage import SEEN, first
-from tests.page.page_state import SEGMENT, Given, Session, Step, counted
+from tests.page.page_state import SEGMENT, Given, Session, Step, counted, place_in_link
 from tests.page.page_tools import CLASS, FIVE, IN_C, LAYOUTS, SIXTEEN, TABLES, WORD, addend_said, object_of, same, size_said, words_of
 
 # shows the whole image with each object unfolded, as key o and clicks on all folds do
@@ -42,8 +42,8 @@ return {
         row.classList.contains("cut")]),
     marks: all(".overwrote .was", text), done: all(".undone .was", text), cuts: all("#marks p", text),
     table: one("table"), report: one("report"), step: one("status"), refused: document.querySelector("#note.refused") ? one("note") : "",
-    note: one("note"), title: one("image-title"),
-    hash: location.hash, focus: document.activeElement.id };
+    note: one("note"), title: one("image-title"), left: drawn.left,
+    arrows: Object.fromEntries(all("g.arrow", ({ dataset }) => [dataset.from, dataset.to])) };
 """
 
 
@@ -64,23 +64,34 @@ def lines_on(shown):
     return [*lines, *sorted(f"name {name}: {known}" for name, known, *_ in names)]
 
 
-# what the scene of a step says of the words that it changed
+# what the scene of a step says of the words that it changed, and the labels of the places that they mean
 SCENE = """
 isWhole = false;
 showChosen(true);
-return [...document.querySelectorAll("#image .line:is(.bound, .put-back):not(.place-line)")].map((row) => [row.id,
-    row.querySelector(".result").textContent, label(Number(row.querySelector(".badge").textContent) - 1)]);
+const part = (row, name) => row.querySelector(name)?.textContent;
+const labels = (row) => [...row.querySelectorAll(".label")].map((one) => one.textContent).sort();
+const rows = [...document.querySelectorAll("#image .line:is(.bound, .put-back), #image .place-line:not(.spot)")];
+return rows.map((row) => [label(Number(part(row, ".badge")) - 1), ...(row.matches(".place-line") ? [`place ${row.id}`, ...labels(row)]
+    : [row.id, part(row, ".result"), part(row, ".instruction")])]);
 """
+# the segments of names in a table
+SEGMENT_OF = {"T": "text", "D": "data", "B": "bss"}
 # what depends on the space for arrows, and what the first step says besides
 BESIDES = re.compile(r" \d+ arrows? more: choose a word to see its own\.| Now add another object, and look at which words change\.")
 
 
 # ---- states
+def compare_arrows(shown, places, what):
+    """Arrows lead to the places that their words mean. If none is left out, each word that the step changed or brought has its own."""
+    new = [word["id"] for word in shown["words"] if word["tag"] in ("bound", "put back", "new")]
+    same(f"{what}: arrows", shown["arrows"], {key: places[key] for key in (shown["arrows"] if shown["left"] else new) if places[key]})
+
+
 def compare_step(page, objects, is_gone, what, forced=()):
     """The sentence, the status, the names, the marks and what is struck out, and all words, after a step."""
     step, scene, shown = Step(objects, is_gone, forced), page.run(SCENE), read(page)
     wanted = step.results()
-    same(f"{what}: the scene", scene, [wanted.get(key) for key, *_ in scene])
+    same(f"{what}: the scene", scene, [wanted.get(key) for _, key, *_ in scene])
     session = step.before if is_gone else step.after
     same(f"{what}: the sentence", BESIDES.sub("", shown["note"]), step.sentence())
     same(f"{what}: the status", shown["step"], step.status())
@@ -93,6 +104,7 @@ def compare_step(page, objects, is_gone, what, forced=()):
     same(f"{what}: headings", [head for head in shown["heads"] if head.startswith(tuple(session.sizes))
                                and not (is_gone and " 00 (0.)" in head)], session.heads())
     same(f"{what}: lines", lines_on(shown), session.lines())
+    compare_arrows(shown, {key: session.place_id(word) for key, word in session.rows().items()}, what)
     if not is_gone:
         same(f"{what}: places that are no words", dict(shown["spots"]), session.spots())
 
@@ -118,7 +130,7 @@ def compare_link(tools, page, objects, number, what, forced=(), entry=""):
     addresses = {one: int(said[0], 8) for one, said in letters.items() if said[-1] not in "UC"}
     same(f"{what}: names", {row[0]: row[4] for row in shown["names"] if row[1] != "multiply defined"},
          {one: f"{addresses[one]:06o}" if one in addresses else "no address" for one in session.names})
-    words = session.rows()
+    words, places = session.rows(), {}
     for row in shown["words"]:
         word, final = words[row["id"]], linked["segments"][row["segment"]][row["number"] // 2]
         moved = {part: (bounds[part][0] + word.front[part] - word.of.start(part)) % WORD for part in session.sizes}
@@ -128,6 +140,10 @@ def compare_link(tools, page, objects, number, what, forced=(), entry=""):
         said = [f"{word.own:06o} + {plus:06o}{minus} = {final:06o}",
                 f"{word.name}{addend_said(word.added)}" if word.name else SEGMENT.get(word.reloc & 0o16, "")]
         same(f"{what}: the sum of {row['id']}", [row["sum"], row["of"]], said if word.reloc & 0o17 else ["", ""])
+        own = SEGMENT_OF.get(letters.get(word.name, [""])[-1]) if word.kind is None else word.kind or ("" if word.pc else None)
+        meant = (final + bounds[word.part][0] + row["number"] + 2) % WORD if word.pc else final
+        places[row["id"]] = "" if own is None else place_in_link(bounds, number == 2, own, meant)
+    compare_arrows(shown, places, what)
     same(f"{what}: table", shown["table"] + "\n", linked["table"] or "empty\n")
     return same(f"{what}: report", shown["report"].rstrip("\n") + "\n", linked["report"])
 
@@ -138,7 +154,7 @@ def says(tools, page, files, most=1000):
     objects, count = [Given(file) for file in files], len(files)
     lists = [order for length in range(1, count + 1)
              for order in (permutations(range(count), length) if count <= 5 else [tuple(range(length))])]
-    lists = lists[::max(1, len(lists) // most)]
+    lists = lists[::max(1, len(lists) // (most if page.name == "Chromium" else 40))]
     for number, order in enumerate(lists):
         here, what = [objects[one] for one in order], f"{[*order]}"
         page.run("isWhole = null; show({ ...START, list: arguments[0] })", [*order])
@@ -237,17 +253,10 @@ const cells = (row) => [...row.children].map((cell) => cell.textContent);
 return [...document.querySelectorAll(".card")].map((card) => [[...card.querySelectorAll("[role=option]")].map(cells),
     card.querySelector(".symbols").textContent.split("\\n"), card.querySelector("summary").textContent]);
 """
-# the description of a chosen row, whether it is shown (Firefox says of what attribute), and the sentence
-CHOSEN = """
-choose(arguments[0], true);
-const row = byId(arguments[0]), said = row.getAttribute("aria-description"), after = getComputedStyle(row, "::after").content;
-return [said, after.includes(said) || after.includes("attr(aria-description)"), byId("note").textContent];
-"""
-
 
 def cards(_, page, files):
-    """Each line of a card: where the word is in its object, its value, and its relocation word; the chosen row has this too. The symbols
-    have the numbers that these words name."""
+    """Each line of a card: where the word is in its object, its value, and its relocation word. The symbols have the numbers that these
+    words name."""
     shown = page.run(CARDS)
     for file, (rows, symbols, summary) in zip(files, shown):
         one = Given(file)
@@ -263,28 +272,36 @@ def cards(_, page, files):
     page.open("#objects=1,2")
     buttons = page.run("return [...document.querySelectorAll('.add > span')].map((one) => one.textContent)")
     same("the buttons of the cards", buttons, ["1 of 2", "2 of 2", *["Add"] * (len(files) - 2)])
-    for key, word in [*Session([Given(file) for file in files[:2]]).rows().items()][::2]:
-        said, is_seen, _ = page.run(CHOSEN, key)
-        same(f"the relocation word of the chosen {key}", (said, is_seen), (reloc_said(word.reloc), True))
 
 
+# of a chosen word or name the sentence and the place of its arrow; the description of its row, and whether that is shown (Firefox says of
+# what attribute); and the beginnings of the lines that are marked in cards, and whether they are seen
 CHOOSE = """
 choose(arguments[0], true);
-return [byId("note").textContent, document.querySelector(`g.arrow[data-from="${arguments[0]}"]`)?.dataset.to ?? ""];
+const row = byId(arguments[0]), said = row?.getAttribute("aria-description") ?? "";
+const after = row ? getComputedStyle(row, "::after").content : "", lines = [...document.querySelectorAll("#cards [aria-selected=true]")];
+const isSeen = (box) => box.height > 0 && box.top >= 0 && box.bottom <= innerHeight;
+return [byId("note").textContent, document.querySelector(`g.arrow[data-from="${arguments[0]}"]`)?.dataset.to ?? "",
+    said, after.includes(said) || after.includes("attr(aria-description)"),
+    lines.map((line) => line.textContent.slice(0, 12)), lines.every((line) => isSeen(line.getBoundingClientRect()))];
 """
 
 
-def sentences(_, page, files):
-    """The sentence and the arrow of each word, or of some, and the sentence of each name, where it is chosen in the image."""
+def chosen(_, page, files):
+    """Each word, or some, and each name, where it is chosen: the sentence, the arrow, its relocation word, and its line in the card of its
+    object."""
     objects = [Given(file) for file in files]
     for here in (objects[:2], objects):
         page.run("show({ ...START, list: DATA.objects.map(({ number }) => number).slice(0, arguments[0]) })", len(here))
         session = Session(here)
         wanted = {**session.chosen(), **{f"{part}-{offset}": Step(here).told(part, offset) for part, offset in Step(here).changed}}
         for key in [*wanted][::max(1, len(wanted) // 60)]:
-            said, to = page.run(CHOOSE, key)
-            place = session.place_id(session.rows()[key]) if key in session.rows() else ""
-            same(f"{len(here)} objects, {key}", [BESIDES.sub("", said), to], [wanted[key], place])
+            page.settle()
+            said, *more = page.run(CHOOSE, key)
+            word = session.rows().get(key)
+            row = ["", "", True, [], True] if word is None else [session.place_id(word), reloc_said(word.reloc), True,
+                   [f"{word.of.start(word.part) + 2 * word.index:06o}{word.own:06o}"], True]
+            same(f"{len(here)} objects, {key}", [BESIDES.sub("", said), *more], [wanted[key], *row])
 
 
 OWNERS = """
@@ -372,5 +389,5 @@ def questions(_, page, __):
 
 
 # the checks of this file, and those of pages.py's pages that each is for
-CHECKS = ((says, (0, 1, 2, 3)), (played, (0,)), (others, (0,)), (in_decimal, (0, 1, 2)), (cards, (0, 1, 2)), (sentences, (0, 1, 2, 3)),
+CHECKS = ((says, (0, 1, 2, 3)), (played, (0,)), (others, (0,)), (in_decimal, (0, 1, 2)), (cards, (0, 1, 2)), (chosen, (0, 1, 2, 3)),
           (owners, (3,)), (questions, (0, 1, 2)))

@@ -52,6 +52,7 @@ def dropped(tools, page, files):
     squares, listed = read_bytes(f"{folder}/squares.gnu"), read_bytes(f"{folder}/k.lst")
     same("dropped", drop(page, ("own.o", read_bytes(IN_C[0])), ("squares.gnu", squares), ("listed.lst", listed)),
          [[*names, "own.o", "squares.gnu", "listed.lst"], ""])
+    same("what is announced", page.run("return byId('live').textContent"), "3 files opened.")
     same("lessons that stay", page.run("return GUIDES.length"), 12)
     same("the bytes of dropped objects", page.run("return DATA.objects.slice(5).map(({ bytes }) => btoa(latin(bytes)))"),
          [base64.b64encode(data).decode() for data in (read_bytes(IN_C[0]), v7.from_gnu(squares), read_bytes(f"{folder}/k.o"))])

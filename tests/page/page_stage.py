@@ -39,23 +39,6 @@ const within = (element, room) => {
     return box.top >= frame.top - 1 && box.bottom <= Math.min(frame.bottom, innerHeight) + 1 && box.left >= -1
         && box.right <= innerWidth + 1;
 };
-// whether a row shows the instruction that its word belongs to, if it belongs to one
-const showsInstruction = (one) => {
-    const word = wordOf(stateNow(), one.id);
-    const object = DATA.objects[stateNow().list[word.place]];
-    const start = word.part === "text" ? object.units.text[word.index] : -1;
-    const first = byId(wordKey("text", word.offset - 2 * (word.index - start)));
-    const instruction = instructionAt(object, start, movedBy(word));
-    return start < 0 || !instruction || [one, first].some((row) => row?.querySelector(".instruction")?.textContent === instruction);
-};
-// whether a row has the name for which its word waited, and what the word was; the row of the place has the name too, if it is a word
-const isNamed = (row) => {
-    const [word, names] = [wordOf(stateNow(), row.id),
-        [...row.querySelectorAll(".instruction, .bound-name, .target")].map((part) => part.textContent).join(" ")];
-    const labels = byId(word.to)?.matches(".place-line")
-        && word.own.meant === 0 ? [...byId(word.to).querySelectorAll(".label")].map((part) => part.textContent) : [`${word.own.name}:`];
-    return names.includes(word.own.name) && labels.includes(`${word.own.name}:`) && Boolean(row.querySelector(".was"));
-};
 const places = {};
 for (const row of document.querySelectorAll("#image .word, #image .fold, #image .owner, #image h3, #names .name, button")) {
     if (!row.checkVisibility() || row.closest("#guide")) continue;
@@ -71,8 +54,7 @@ const isHidden = {
     sentence: !(note.textContent.length > 20 && within(note, document.body) && note.scrollHeight <= note.clientHeight + 1),
     status: !(status.textContent.length > 5 && within(status, document.body)),
     row: changedRows.length > 0 && !within(changedRows[0], byId("stage")), name: changedNames.length > 0
-    && !within(changedNames[0], byId("known")),
-    instruction: !changedRows.every(showsInstruction), "name of a word": !changedRows.every(isNamed) };
+    && !within(changedNames[0], byId("known")) };
 const changed = [...changesOf(view)].filter(([key, how]) => isWordKey(key) && how !== "new").map(([key]) => key);
 const lead = changed.filter((key) => wordOf(stateNow(), key)?.to);
 return { hidden: Object.keys(isHidden).filter((name) => isHidden[name]), rows: changedRows.length, names: changedNames.length,
@@ -203,11 +185,10 @@ element.dispatchEvent(element.matches("select") ? new Event("change") : new Mous
 """
 
 
-def response(page, objects, count):
-    """Prints how long a click takes, with the two frames after it: the middle of five, in milliseconds of the processor
-    in Chromium, and by the clock in Firefox, which does not say more. The aim is 100; docs/internals/COSTS.md says what misses it."""
-    page.size(1366, 768)
-    times = {}
+def response(_, page, files):
+    """Prints how long a click takes with a hundred objects, with the two frames after it: the middle of five, in milliseconds of the
+    processor in Chromium, and by the clock in Firefox, which does not say more. The aim is 100; docs/internals/COSTS.md has the figures."""
+    times, count = {}, len(files)
     for what, selector in CLICKED.items():
         taken = []
         for _ in range(5):
@@ -219,26 +200,29 @@ def response(page, objects, count):
             taken.append(page.busy() - before)
         times[what] = sorted(taken)[2]
     said = ", ".join(f"{what} {time:.0f}" for what, time in times.items())
-    print(f"{page.name}: milliseconds for a click with {objects}: {said}", flush=True)
+    print(f"{page.name}: milliseconds for a click with {count} objects: {said}", flush=True)
 
 
-def stage(page, path, files, what, sizes=SIZES):
-    """All of this, with some objects. Returns how many steps are whole in view at 1366 x 768, and how many large ones are not."""
-    began = time.monotonic()
-    page.load(path)
-    page.size(1366, 768)
-    counts = {"arrows of choices": 0}
+def stage(_, page, files):
+    """All of this, with some objects. At 1366 x 768 each step is whole in view, with objects that are joined nine of ten."""
+    counts, sizes, what = {"arrows of choices": 0}, page.sizes(SIZES), f"{len(files)} objects"
     counts["rows that changed"], whole, large = steps(page, len(files), sizes, what)
+    is_right = 10 * whole >= 9 * (2 * len(files) - large) if "joined" in files[0] else whole == 2 * len(files)
+    same(f"steps whole in view, {what}: {whole}", is_right or (1366, 768, 1) not in sizes, True)
     for width, height, scale in sizes:
         page.size(width, height, scale)
         for number in {5, len(files)} if width == 1366 else {len(files)}:
             page.open("#" + first(number))
             counts["arrows of choices"] += choices(page, f"{what}, {number} objects, {width} wide", page.run(CHOOSE_FROM, 20))
         whole_and_back(page)
-    page.size(1366, 768)
     page.open("#" + first(len(files)))
     counts["found calls"] = search(page, files)
     same("nothing was measured of", [name for name, count in counts.items() if count == 0], [])
-    print(f"on the stage, {what}, {page.name}: {whole} of {2 * len(files)} steps whole, "
-          + ", ".join(f"{count} {name}" for name, count in counts.items()) + f", in {time.monotonic() - began:.0f} s", flush=True)
-    return whole, large
+    return sum(counts.values())
+
+
+def steps_of_five(_, page, __):
+    same("steps whole in view, pointers and bss", steps(page, 5, [(1366, 768, 1)], "pointers and bss")[1], 10)
+
+
+CHECKS = ((stage, (0, 1, 3, 6)), (steps_of_five, (2,)), (response, (7,)))

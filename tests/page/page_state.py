@@ -39,8 +39,8 @@ class Given:
         return {"text": 0, "data": self.text, "bss": self.text + self.data}[segment]
 
     @functools.cached_property
-    def instructions(self):
-        """The instructions by the index of their first words; words that are none are left out."""
+    def lines(self):
+        """The lines of a listing by the index of their first words; a word that begins no instruction is its number."""
         found, index = {}, 0
         for line in v7.disassemble(read_bytes(self.path)).splitlines():
             again = re.match(r"/ .*: the row before, (\d+) times", line)
@@ -50,7 +50,11 @@ class Given:
             elif row:
                 index = int(row[1], 8) // 2
                 found[index] = re.sub(r" */ .*", "", row[2])
-        return {index: text for index, text in found.items() if not re.fullmatch("[0-7]{6}", text)}
+        return found
+
+    @functools.cached_property
+    def instructions(self):
+        return {index: text for index, text in self.lines.items() if not re.fullmatch("[0-7]{6}", text)}
 
     def branch(self, index):
         """Where the branch of an instruction to a number leads."""
@@ -214,6 +218,18 @@ class Session:
         return found
 
 
+def place_in_link(bounds, is_split, own, meant):
+    """The id of the place at an address of a link, of which the word names the segment `own`, or none: its end goes before what follows
+    it."""
+    start, end = {"": (0, 0), **bounds, "bss": (bounds["commons"][0], bounds["bss"][1])}[own]
+    if start < meant == end:
+        return f"{own}-end"
+    for part, (start, end) in bounds.items():
+        if (not is_split or (own in ("", "text")) == (part == "text")) and start <= meant < end:
+            return {"commons": f"common-{meant}", "bss": f"bss-{meant - start}"}.get(part, f"{part}-{(meant - start) // 2 * 2}")
+    return f"outside-{meant}"
+
+
 class Step:
     """What the last step did: an object was added to a session, or withdrawn."""
 
@@ -245,7 +261,7 @@ class Step:
         sign = lambda number: str(number if number < WORD // 2 else number - WORD).replace("-", "\u2212")
         decimal = f", in decimal {sign(old.value)} + {sign(at)} = {sign(new.value)}" if new.pc and old.value >= WORD // 2 else ""
         distance = f", the distance from {offset + 2:06o} to {new.meant:06o}" if new.pc and new.kind == part else ""
-        return (f"{where} waited for {old.name}. This is at {at:06o} now, so the linker added it: "
+        return (f"{where} waited for {old.name}, which is {known_as(*self.after.names[old.name])} now, so the linker added that: "
                 f"{old.value:06o} + {at:06o} = {new.value:06o}{decimal}{distance}.")
 
     def sentence(self):
@@ -301,13 +317,17 @@ class Step:
         return rows + [[name, "multiply defined", "", tag(name)] for name in self.after.multiples]
 
     def results(self):
-        """What the scene says of each word that the step changed."""
-        found = {}
-        for part, offset in self.changed:
+        """What the scene says of each word that the step changed, and the labels of the places that these mean."""
+        found, labels = {}, self.after.labels()
+        for key, (part, offset) in ((f"{part}-{offset}", (part, offset)) for part, offset in self.changed):
             old, new = self.before.words[part, offset], self.after.words[part, offset]
             added = f"{old.value:06o} + {self.after.names[old.name][1]:06o} = {new.value:06o}"
             said = f"{new.value:06o} \u2192 {old.value:06o}" if self.is_gone else added
-            found[f"{part}-{offset}"] = [f"{part}-{offset}", said, new.of.name]
+            start = max((index for index in new.of.lines if index <= new.index), default=0) if part == "text" else -1
+            found[key] = [new.of.name, key, said, new.of.instructions.get(start) or f"{new.name}{addend_said(new.added)}"]
+            place = self.after.place_id(new)
+            if place in self.after.rows():
+                found[f"place {place}"] = [self.after.rows()[place].of.name, f"place {place}", *(name for name, _ in labels.get(place, []))]
         return found
 
     def struck(self):

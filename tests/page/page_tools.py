@@ -120,16 +120,25 @@ class Tools:
     def __init__(self, folder, seed=0):
         self.v7, self.folder, self.seed = program("v7"), folder, seed
         self.module = os.path.join(TOP, BUILD, "v7.wasm")
-        if not os.path.exists(self.module) and not shutil.which("wasm-opt"):
-            print("not run, as wasm-opt is missing: Debian's package is binaryen")
-            sys.exit(0)
         if not os.path.exists(self.module):
+            if not shutil.which("wasm-opt"):
+                print("not run, as wasm-opt is missing: Debian's package is binaryen")
+                sys.exit(0)
             sys.exit(f"{self.module} is missing: make page makes it; or, after make quick: make build/quick/v7.html, V7_BUILD=build/quick")
 
     def page_of(self, files, name="page.html", lessons=""):
         """A page of these objects alone."""
         title = next((title for title, folder, names in pages.SETS if paths(folder, names) == files), "These objects")
         return write(f"{self.folder}/{name}", pages.page_of(self.module, [pages.set_of(title, lessons, files)]))
+
+    def page(self, number):
+        """A page and its objects: the class example, a program in C, pointers and bss, sixteen objects, five, five and eight that are joined
+        of the sixteen, and a hundred that are copies of these."""
+        if number == 7:
+            files = [write(f"{self.folder}/{one}.o", read_bytes(SIXTEEN[one % 16])) for one in range(100)]
+        else:
+            files = [CLASS, IN_C, TABLES, SIXTEEN, FIVE][number] if number < 5 else self.joined({5: 5, 6: 8}[number])
+        return self.page_of(files, f"{number}.html", lessons_of(files) if number < 3 else ""), files
 
     def scripts(self, files, lessons=""):
         """Its scripts, with these objects; and why its lessons are none, or nothing."""

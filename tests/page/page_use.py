@@ -6,9 +6,9 @@ import re
 from tests.lib.files import read_bytes, write
 from tests.lib.objects import unpack
 from tests.page.page_browser import Keys
-from tests.page.page_model import asked, compare_step, lines_on, read
+from tests.page.page_model import asked, lines_on, read
 from tests.page.page_stage import first, steps
-from tests.page.page_state import Given, Session
+from tests.page.page_state import Given, Session, counted
 from tests.page.page_tools import LAYOUTS, addend_said, same, size_said
 
 # how far texts differ from their background: the smallest contrast, and where
@@ -56,6 +56,29 @@ def first_view(_, page, __):
     same("the legend after the first step", page.run("return byId('legend').checkVisibility()"), False)
 
 
+# the headings, buttons and labels that are seen, but for those of cards and of lessons; and what three states have
+SAID = """
+return [...document.querySelectorAll("h1, h2, button, label, summary")].filter((one) => isLaidOut(one) && !one.closest(".card, #menu"))
+    .map((one) => one.textContent.trim());
+"""
+BAR = ["What a linker does", "Withdraw w", "Before f", "Addresses a", "Maps m", "Dec d", "Large l", "Keys on", "Lessons"]
+OWN, IMAGE = ["Objects", "Open", "New", "Save page"], ["Find /", "Whole image o"]
+STATES_SAID = {
+    "": [*BAR, *OWN, "Start here", "Add main.o", "Legend", "Names", "Marks"],
+    "#objects=1,2&addresses=-r": [*BAR, *OWN, "Addresses, ld -r", *IMAGE, "Names", "Symbol table", "Report", "Save this link",
+                                  "Add it to the objects", "-e", "-u"],
+    "#objects=1&lesson=1&done=1": [
+        *BAR, "Lesson 1: A word that waits, step 1 of 3", "1 the linker has not looked at it yet",
+        "2 the pc is 4 when the word is used, and zero less 4 is 177774", "3 it is the address of _count", "Show the answer",
+        "Leave the lesson", *OWN, "Merged image", *IMAGE, "Legend", "Names", "Marks"]}
+
+
+def said(_, page, __):
+    for state, wanted in STATES_SAID.items():
+        page.open(state)
+        same(f"headings, buttons and labels of {state}", page.run(SAID), wanted)
+
+
 def clicks(_, page, files):
     """Two objects, one taken back and put back, by clicks. The tabulator reaches each button, and Enter presses it."""
     page.open("")
@@ -63,7 +86,7 @@ def clicks(_, page, files):
         page.click(button)
         same(f"click {button}", lines_on(read(page)), Session([Given(file) for file in files[:count]]).lines())
         same(f"the button after {button}", page.run("return byId('flick').textContent === (view.gone >= 0 ? 'After f' : 'Before f')"), True)
-    page.pick("addresses", "-n (n)")
+    page.run("byId('addresses').value = '1'; byId('addresses').dispatchEvent(new Event('change'))")
     same("the address", page.run("return location.hash"), "#objects=1&addresses=-n&whole=1")
     page.open("")
     page.press("add2")
@@ -187,6 +210,10 @@ return [[...GUIDES[view.guide].steps[view.done].says.map(prose),
 """
 
 
+HOW = {"changes": ["Choose a word in the image, or press a digit.", None], "choice": ["Choose an answer.", None]}
+TYPE = ["Type a number.", "octal, decimal with a point, or 0x"]
+
+
 def by_keys(page, number):
     """A lesson by keys, with the right answers: the place that is announced has each sentence in order, with choices, answers and
     verdicts. Returns how many questions and sentences it has."""
@@ -199,6 +226,9 @@ def by_keys(page, number):
         sentences, is_asked, done = page.run(SENTENCES)
         wanted += sentences
         if is_asked:
+            kind, *hints = page.run("return [nextStep().kind, ...['.ask .hint', '#typed'].map((one) => "
+                                    "document.querySelector(`#guide ${one}`)?.textContent)]")
+            same(f"lesson {number}, step {done}: how to answer", hints, HOW.get(kind, TYPE))
             page.type(*page.run(RIGHT))
             if page.run("return document.activeElement.id") == "number":
                 page.type(Keys.ENTER)
@@ -243,14 +273,15 @@ def wrong_answer(_, page, __):
     page.type("q")
     same("q, back to the question", page.run("return document.getElementById('guide').contains(document.activeElement)"), True)
     page.click("next")
-    same("a wrong answer", page.run("return document.querySelector('#guide .is-wrong').textContent").startswith("You chose"), True)
+    same("a wrong answer", page.run("return document.querySelector('#guide .is-wrong').textContent"),
+         "You chose the linker has not looked at it yet; the answer is the pc is 4 when the word is used, and zero less 4 is 177774.")
     page.back()
     page.wait("return view.done === 1")
     same("Back in a lesson", page.run("return [view.list, document.querySelector('#guide .ask').textContent.slice(0, 10)]"),
          [[0], "Why does t"])
 
 
-# the wrong answers of the open question, each with the reason that the page gives, and the list that is there
+# the wrong answers of the open question, each with the reason that the page gives, and the list that is there; what the step adds
 WRONG_ANSWERS = """
 const wait = nextStep();
 const wrong = choicesOf(wait).filter((one) => !one.isRight);
@@ -265,50 +296,64 @@ return wrong.map((given) => [wait.kind, wait.act?.[0] ?? "", givenText(given), r
 """
 
 
-def word_wanted(word, session):
-    """What a reason says of a word, by the model."""
-    if word.kind is None:
-        return f"It waits for {word.name}"
-    return f"refers to {session.place(word)}" if word.kind or word.pc else "It is a number"
+BEGINS = {"text": "Text begins at 0.", "data": "Data begins where text ends.", "bss": "Bss follows data and the commons.",
+          "common": "The commons follow the data of all objects, each on an even address.",
+          "number": "It is a number, which no link changes.", "undefined": "The linker defines it, as the end of a segment."}
 
 
 def reason_wanted(kind, act, text, known, wait, adds, session, addresses):
-    """How the reason of a wrong answer begins, or what it has, by what the model says of the state."""
-    words, key = session.rows(), wait["word"] if kind == "value" else ""
-    if kind == "changes" and text != "no word":
-        part, offset = text.split()
-        wanted = word_wanted(words[f"{part}-{int(offset, 8)}"], session)
-        return "The addition of " if act == "withdraw" and "waits" not in wanted else wanted
+    """The reason of a wrong answer, by what the model says of the state; `adds` has the object that the step adds, and the name of the word
+    that it defines."""
+    if kind == "where":
+        return where_wanted(text, known, wait, act, addresses)
+    if text == "no word":
+        look = "the last object bound" if act == "withdraw" else f"waits for a name of {adds[0]}"
+        return f"{counted(len(wait['answers']), 'word')} will change: look for a word that {look}."
+    part, offset = (wait["word"].split("-") if kind == "value" else [text.split()[0], int(text.split()[1], 8)])
+    word, at = session.words[part, int(offset)], f"{part} {int(offset):06o}"
+    said = "It is a number, which refers to nothing" if word.kind == "" and not word.pc else \
+        f"It {'refers to ' * (word.kind is not None)}{session.place(word)}"
+    if kind == "changes" and act == "withdraw":
+        return f"{said} already." if word.kind is None else f"The addition of {session.objects[-1].name} did not overwrite it."
     if kind == "changes":
-        return "will change"
-    if kind == "value":
-        if int(text, 8) == wait["before"]:
-            return "That is what the word is now"
-        if adds[1]:
-            return f"{adds[0]} defines {adds[1]}: add the place of {adds[1]} to the word, modulo 200000."
-        if act == "link" and words[key].pc:
-            meant = words[key].name + addend_said(words[key].added) if words[key].name else session.place(words[key])
-            return f"Take the address of {meant} in this link, and subtract that of the place after the word."
-        return word_wanted(words[key], session) if act == "link" else "subtract" if act == "withdraw" else "the word"
-    if kind == "where" and text == "no address":
-        return {"common": "lays the common out", "undefined": "but the linker does"}.get(known[0], "An object defines it")
-    return where_wanted(int(text, 8), known, wait, addresses) if kind == "where" and act == "link" else ""
+        return f"{said}, which {adds[0]} does not define." if word.kind is None and act == "add" else \
+            f"It is bound already. {said}." if word.kind else f"{said}, and that stays so."
+    if int(text, 8) == wait["before"]:
+        return "That is what the word is now, and the step changes it."
+    if adds[1]:
+        return f"{adds[0]} defines {adds[1]}: add the place of {adds[1]} to the word, modulo 200000."
+    if act != "link":
+        return "Its mark has what it was before." if act == "withdraw" else f"The step leaves the word at {at} as it is."
+    if not word.reloc & 0o17:
+        return "It refers to nothing, so each link has the same word."
+    if word.pc:
+        meant = word.name + addend_said(word.added) if word.name else session.place(word)
+        return f"Take the address of {meant} in this link, and subtract that of the place after the word."
+    if word.kind is None and addresses[wait["act"][1]] is None:
+        return f"{word.name} has no address in this link, so the word stays as it is."
+    return f"{said}: add the address {f'that {word.name} has' if word.kind is None else f'where {word.kind} begins'} in this link."
 
 
-def where_wanted(number, known, wait, addresses):
-    """Why a number is not the address of a name in the link of a question."""
-    layout, segments = wait["act"][1], ("text", "data", "bss")
+def where_wanted(text, known, wait, act, addresses):
+    """Why an answer is not the place of a name after the step of a question."""
+    if text == "no address":
+        return {"common": "No object defines it, but the linker lays the common out.", "undefined": "No object defines it, but the linker "
+                "does."}.get(known[0], "An object defines it, so it has an address there.")
     if wait["number"] is None:
-        return "It stays a common" if known[0] == "common" else "No object defines it"
-    if known[0] in segments and number == known[1]:
+        return "It stays a common, without an address, which the next link may lay out." if known[0] == "common" else \
+            "No object defines it, so it has no address there."
+    if act != "link":
+        return "Its place is counted from the beginning of the merged segment."
+    layout, is_placed = wait["act"][1], known[0] in ("text", "data", "bss")
+    if is_placed and int(text, 8) == known[1]:
         return f"That is its offset in {known[0]}: add where {known[0]} begins in this link."
-    other = [name for i, (name, address) in enumerate(zip(LAYOUTS, addresses)) if i != layout and address == number]
+    other = [name for i, (name, address) in enumerate(zip(LAYOUTS, addresses)) if i != layout and address == int(text, 8)]
     if other:
         return f"That is its address {'in a plain link' if other[0] == 'plain' else f'with {other[0]}'}."
     if known[0] == "data" and layout in (1, 2):
         return ("With -n data begins at the next multiple of 20000 after text.",
                 "With -i data has addresses of its own, which begin at 0.")[layout - 1]
-    return f"Its offset is {known[1]:06o}. " if known[0] in segments else ""
+    return f"Its offset is {known[1]:06o}. " * is_placed + BEGINS[known[0]]
 
 
 def addresses_of(tools, name, files):
@@ -324,12 +369,14 @@ def reasons(tools, page, files):
     for question in asked(page):
         wrong = page.run(WRONG_ANSWERS)
         same(f"{question}: a wrong answer", len(wrong) > 0, True)
-        for kind, act, text, reason, here, known, wait, adds in wrong:
-            given = [files[number] for number in here]
-            addresses = addresses_of(tools, wait["name"], given) if kind == "where" and given else []
-            wanted = reason_wanted(kind, act, text, known, wait, adds, Session([Given(file) for file in given]), addresses)
-            same(f"{question}, {text}: {reason}", (len(reason) > 15, wanted in reason, "undefined" in reason and kind != "choice"),
-                 (True, True, False))
+        kind, act, _, _, here, known, wait, adds = wrong[0]
+        given = [files[number] for number in here]
+        session = Session([Given(file) for file in given])
+        name = wait["name"] if kind == "where" else session.rows()[wait["word"]].name if kind == "value" else ""
+        addresses = addresses_of(tools, name, given) if name and given else []
+        for _, _, text, reason, *_ in wrong:
+            same(f"{question}, {text}", reason if kind != "choice" else len(reason) > 15, True if kind == "choice" else
+                 reason_wanted(kind, act, text, known, wait, adds, session, addresses))
         count += len(wrong)
     return count
 
@@ -407,32 +454,6 @@ def texts(_, page, __):
     page.media("", "light")
 
 
-# takes away what Firefox ESR 102 or Chromium 100 lack, of all that a script could call; roles and labels are not properties then
-OLD = r"""
-for (const name of ["toSorted", "toReversed", "toSpliced", "with", "group", "groupToMap", "fromAsync"]) { delete Array.prototype[name];
-    delete Array[name]; }
-for (const name of ["findLast", "findLastIndex"]) delete Array.prototype[name];
-delete Element.prototype.checkVisibility;
-for (const name of Object.getOwnPropertyNames(Element.prototype)) if (/^(aria[A-Z]|role$)/.test(name)) delete Element.prototype[name];
-for (const name of ["union", "intersection", "difference", "symmetricDifference", "isSubsetOf"]) delete Set.prototype[name];
-delete Object.groupBy; delete Map.groupBy; delete Promise.withResolvers; delete URL.canParse; delete String.prototype.isWellFormed;
-delete Element.prototype.setHTMLUnsafe; delete HTMLElement.prototype.showPopover; delete Document.prototype.startViewTransition;
-"""
-
-
-def old_browser(_, page, files):
-    """The oldest browsers, by taking away what they lack: steps are shown, and words have roles and labels."""
-    kept, path = page.before_loading(OLD), page.url.removeprefix("file://")
-    page.load(path)
-    for count in (1, 2, 3):
-        page.open("#" + first(count))
-        compare_step(page, [Given(file) for file in files[:count]], False, f"{count} objects in an old browser")
-        same("rows with roles and labels", page.run("return [...document.querySelectorAll('#image .word')].every((row) => "
-                                                    "row.getAttribute('role') === 'option' && row.getAttribute('aria-label'))"), True)
-    page.as_before(kept)
-    page.load(path)
-
-
 def presenter(_, page, files):
     """Large words for a projector. At each step the sentence and what changed are seen."""
     return steps(page, len(files), [(1024, 768, 1), (1366, 768, 1)], "for a projector", "switchPresenter()")[0]
@@ -451,41 +472,74 @@ def projector(_, page, __):
     same("words for a projector", (seen[0] >= 28, seen[1] >= 24, seen[2:]), (True, True, [False, True]))
 
 
-# of each lesson the objects that it adds and the questions that it asks; of its sheet without answers the headings and the lines of
-# objects, what is marked, and what follows `Answer: `; then the answers, as text, and the steps of both sheets
+# of each lesson its steps; of its two sheets the lines of each step and the cells of each row; and the headings of objects
 HANDOUTS = """
 window.print = () => { window.printed = document.body.classList.contains("handout"); };
+const texts = (of, name) => [...of.querySelectorAll(name)].map((one) => one.textContent);
 return GUIDES.slice(1).map(({ steps }, i) => {
     view = guideView(i + 1, 0);
     printHandout();
     const sheets = [...document.querySelectorAll("#paper > div")];
-    const all = (selector) => [...sheets[0].querySelectorAll(selector)].map((one) => one.textContent);
-    const added = [...new Set(steps.filter(({ act }) => act?.[0] === "add").map(({ act }) => act[1]))];
-    const questions = steps.filter(({ ask }) => ask);
-    const asked = questions.filter(({ kind }) => ["value", "where"].includes(kind)).map(rightText);
-    const right = questions.flatMap(({ choices }) => choices.filter(({ isRight }) => isRight)).map(givenText);
-    return [added, all("h2"), all(".paper-object tr").length, all("table").length - all(".paper-object").length,
-        all(".line"), asked, all(".paper-step").join(" "), sheets.map((sheet) => sheet.textContent), questions.map(({ ask }) => prose(ask)),
-        questions.map(rightText), right.map((text) => `\u2612 ${text}`), sheets.map((one) => one.textContent.split("\u2612").length - 1)];
+    return [steps.map((step) => ({ ...step, ask: prose(step.ask), says: step.says.map(prose),
+            choices: step.choices.map(({ text }) => prose(text)), isRight: step.choices.map(({ isRight }) => isRight) })),
+        sheets.map((sheet) => [...sheet.querySelectorAll(".paper-step")].map((step) => texts(step, "p"))),
+        sheets.map((sheet) => [...sheet.querySelectorAll("tr")].map((row) => texts(row, "td"))), texts(sheets[0], "h2")];
 });
 """
 
 
+def answer_on_paper(step):
+    if step["kind"] in ("value", "where"):
+        return "no address" if step["number"] is None else f"{step['number']:06o}"
+    if step["kind"] == "changes":
+        named = [key.split("-") for key in step["answers"]]
+        return " or ".join(f"{part} {int(offset):06o}" for part, offset in named) or "no word"
+    return " or ".join(text for text, is_right in zip(step["choices"], step["isRight"]) if is_right)
+
+
+def step_on_paper(step, number, names, is_answered):
+    """The lines of a step, with its answer or with room for it."""
+    lines, (act, *rest) = [], step["act"] or [""]
+    if step["ask"]:
+        marks = ["\u2612" if is_right and is_answered else "\u2610" for is_right in step["isRight"]]
+        lines += [f"{number}. {step['ask']}", *map(" ".join, zip(marks, step["choices"])),
+                  f"Answer: {answer_on_paper(step) if is_answered else 22 * '_'}"]
+    link = [f"with {name}" if name != "plain" else "with no option" for name in LAYOUTS]
+    lines += [{"add": f"Add {names[rest[0]]}", "link": f"Link {link[rest[0] % 4]}"}[act] + "."] if rest else []
+    lines += [{"withdraw": "Withdraw the last object.", "image": "Show the merged image."}[act]] if act and not rest else []
+    return lines + [" ".join(step["says"])] * bool(step["says"] and (is_answered or not step["ask"]))
+
+
+def words_on_paper(objects):
+    """The rows of words after a step, but for instructions and texts."""
+    session = Session(objects)
+    rows = [[part, f"{offset:06o}", f"{word.value:06o}", "pc" * bool(word.pc), "\u2192 " * (word.kind is not None) + session.place(word)]
+            for (part, offset), word in session.in_order()]
+    return [row if row[4] != "\u2192 a number" else row[:4] for row in rows] if len(rows) <= 64 else []
+
+
 def handouts(_, page, files):
-    """The sheet of each lesson has its objects, from which all follows, its questions, and no answer; the next sheet has the answers."""
+    """The sheet of each lesson has its objects, from which all follows, and its questions without answers; the next sheet has the answers,
+    and the words after each step."""
     page.open("")
     objects, count = [Given(file) for file in files], 0
-    for number, found in enumerate(page.run(HANDOUTS), 1):
-        added, heads, rows, tables, lines, answers, steps, sheets, asked, right, marked, marks = found
-        same(f"the objects of handout {number}", (heads, rows),
-             ([objects[one].name for one in added], sum((objects[one].text + objects[one].data) // 2 for one in added)))
-        same(f"the answers of handout {number}",
-             (tables, {*lines} - {"Answer: ______________________"}, [one for one in answers if re.search(rf"\b{one}\b", steps)], marks),
-             (0, set(), [], [0, len(marked)]))
-        same(f"the questions of handout {number}", [ask for ask in asked for sheet in sheets if ask not in sheet], [])
-        same(f"the answers on the last sheet of {number}",
-             [text for text in [*(f"Answer: {one}" for one in right), *marked] if text not in sheets[1]], [])
-        count += len(lines)
+    for guide, (steps, sheets, rows, heads) in enumerate(page.run(HANDOUTS), 1):
+        number, here, added, words, wanted = 0, [], [], [], ([], [])
+        for step in steps:
+            number += bool(step["ask"])
+            act, *rest = step["act"] or [""]
+            here = {"add": [*here, *(objects[one] for one in rest)], "withdraw": here[:-1]}.get(act, here)
+            added += [one for one in here if one not in added]
+            words += words_on_paper(here) if act not in ("", "link") else []
+            for sheet, is_answered in zip(wanted, (False, True)):
+                sheet.append(step_on_paper(step, number, [one.name for one in objects], is_answered))
+        same(f"the steps of handout {guide}", sheets, [*wanted])
+        same(f"the objects of handout {guide}", (heads, len(rows[0])),
+             ([one.name for one in added], sum((one.text + one.data) // 2 for one in added)))
+        same(f"the words of handout {guide}", (len(rows[1]), [row[:len(other)] for row, other in zip(rows[1], words)]), (len(words), words))
+        answers = [answer_on_paper(step) for step in steps if step["kind"] in ("value", "where")]
+        same(f"the answers on handout {guide}", [one for one in answers if re.search(rf"\b{one}\b", str(sheets[0]))], [])
+        count += number
     page.open("#lesson=1&done=0&numbers=decimal")
     page.run("window.print = () => { window.printed = document.body.classList.contains('handout'); }")
     page.click("handout")
@@ -504,7 +558,7 @@ showMaps(stateNow());
 return [...document.querySelectorAll("#mapped .map")].map((map) => [map.querySelector("h3").textContent,
     [...map.querySelectorAll(".piece")].map((piece) => [piece.title, piece.querySelector("span").textContent]),
     [...map.querySelectorAll(".piece:is(.text, .data, .bss)")].map((piece) => [...piece.querySelectorAll("i")]
-        .map((share) => [Number(share.textContent), Number(share.style.flexGrow)]))]);
+        .map((share) => [Number(share.textContent), Number(share.style.flexGrow)])), map.querySelector("p")?.textContent ?? ""]);
 """
 
 
@@ -525,14 +579,15 @@ def maps(tools, page, files):
     sizes, wanted = [unpack(read_bytes(file)).header[1:4] for file in files], []
     for file, (text, data, bss) in zip(files, sizes):
         parts = [("text", 0, text), ("data", text, text + data), ("bss", text + data, text + data + bss)]
-        wanted.append([os.path.basename(file), pieces(parts), [[] for _, start, end in parts if end > start]])
+        wanted.append([os.path.basename(file), pieces(parts), [[] for _, start, end in parts if end > start], ""])
     shares = [[[number, size[which]] for number, size in enumerate(sizes, 1) if size[which]] for which in range(3)]
     for name, options in LAYOUTS.items():
         linked = tools.link(options, files)
         (_, text, data, rest), base = linked["header"][:4], linked["base"]
         end, bss = base + data + rest, sum(size[2] for size in sizes)
         parts = [("text", 0, text), ("data", base, base + data), ("commons", base + data, end - bss), ("bss", end - bss, end)]
-        wanted.append([f"ld {name}" if options else "ld", pieces(parts), [one for one in shares if one]])
+        wanted.append([f"ld {name}" if options else "ld", pieces(parts), [one for one in shares if one],
+                       "text and data have addresses of their own" if name == "-i" else ""])
     same("memory maps", page.run(MAPS), wanted)
 
 
@@ -558,38 +613,24 @@ def result(_, page, __):
 
 
 # ---- the object beside the image
-# the lines of cards that are marked, and what is chosen
-MARKED = "return [chosen, [...document.querySelectorAll('#cards [aria-selected=true]')].map((row) => row.textContent)];"
-SEEN_LINE = """
-const row = document.querySelector("#cards [aria-selected=true]")?.getBoundingClientRect();
-return Boolean(row) && row.height > 0 && row.top >= 0 && row.bottom <= innerHeight;
-"""
+MARKED = "return [chosen, [...document.querySelectorAll('#cards [aria-selected=true]')].map((row) => row.textContent.slice(0, 12))]"
 
 
 def beside(_, page, files):
-    """A word that is chosen has its line marked in the card of its object, which can be seen; a line leads to the word that it has
-    become."""
+    """A line of a card leads to the word that it has become, also by keys; one of an object that is not there leads nowhere."""
     page.open("#" + first(len(files) - 1))
+    page.run("document.querySelectorAll('.given').forEach((words) => { words.open = true; })")
+    page.wait("return document.querySelectorAll('#cards [role=listbox]').length === arguments[0]", len(files))
     objects = [Given(file) for file in files[:-1]]
     wanted = {key: (f"line-{objects.index(word.of)}-{word.part}-{word.index}",
                     f"{word.of.start(word.part) + 2 * word.index:06o}{word.own:06o}") for key, word in Session(objects).rows().items()}
     keys = list(wanted)[::max(1, len(wanted) // 20)]
     for key in keys:
-        line, start = wanted[key]
-        page.run("choose(arguments[0], true)", key)
-        page.settle()
-        chosen, marked = page.run(MARKED)
-        same(f"the line of {key}", (chosen, [text[:12] for text in marked], page.run(SEEN_LINE)), (key, [start], True))
-        page.run("choose('', false); document.querySelectorAll('.given')[Number(arguments[0].split('-')[1])].open = true;", line)
-        page.wait("return document.getElementById(arguments[0]) !== null", line)
-        page.run("document.getElementById(arguments[0]).click()", line)
-        same(f"the word of {line}", page.run(MARKED)[0], key)
-        page.run("choose('', false)")
-    page.run("document.querySelectorAll('.given').forEach((words) => { words.open = true; })")
-    page.wait("return document.querySelectorAll('#cards [role=listbox]').length === arguments[0]", len(files))
+        page.run("byId(arguments[0]).click()", wanted[key][0])
+        same(f"the word of {wanted[key][0]}", page.run(MARKED), [key, [wanted[key][1]]])
     page.run("document.querySelector('#given-0').focus()")
     page.type(Keys.END)
-    same("the last line of an object, by keys", [text[:12] for text in page.run(MARKED)[1]],
+    same("the last line of an object, by keys", page.run(MARKED)[1],
          [[start for line, start in wanted.values() if line.startswith("line-0-")][-1]])
     page.run("document.querySelector('#cards .card:last-child [role=option]').click()")
     same("a line of an object that is not there",
@@ -599,8 +640,8 @@ def beside(_, page, files):
 
 # the checks of this file, and the pages that each is for: the class example, a program in C, pointers and bss, sixteen objects
 CHECKS = (
-    (first_view, (0,)), (roles, (0,)), (stops, (3,)), (keys, (0,)), (history, (0,)), (tour, (0,)), (lessons, (0, 1, 2)),
+    (first_view, (0,)), (said, (0,)), (roles, (0,)), (stops, (3,)), (keys, (0,)), (history, (0,)), (tour, (0,)), (lessons, (0, 1, 2)),
     (wrong_answer, (0,)), (numbers, (0,)), (leads, (0,)),
     (clicks, (0,)), (texts, (0,)), (presenter, (3,)), (projector, (0,)), (handouts, (0, 1, 2)), (maps, (0, 1, 2)),
-    (result, (0,)), (beside, (0, 3)), (old_browser, (0,)),
+    (result, (0,)), (beside, (0, 3)),
     (reasons, (0, 1, 2)), (hints, (0,)))
