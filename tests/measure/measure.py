@@ -14,7 +14,6 @@ import bisect
 import collections
 import fnmatch
 import glob
-import hashlib
 import json
 import os
 import random
@@ -29,12 +28,13 @@ from tests.lib.files import TOP, read, read_bytes, write
 from tests.lib.programs import PROGRAMS, asked, ran
 from tests.lib.rattle import crates_in
 from tests.lib.tally import Failed
-from tests.measure import mutants
+from tests.measure import mutants, replaying
+from tests.measure.mutants import REACHED, compiled, link
+from tests.measure.recording import RECORDED, digest
 from tools import sketch
 from tools.compiling import kit, once
 
 FOLDER = f"{TOP}/build/measure"
-RECORDED, REACHED = f"{FOLDER}/recorded", f"{FOLDER}/reached"
 PROCESSORS = len(os.sched_getaffinity(0))
 NEGATED_WANTED = 98
 FUZZ_SECONDS = int(os.environ.get("FUZZ_SECONDS") or 600)
@@ -43,59 +43,43 @@ TESTS = ["cases.cases", "programs.terminal", "programs.folders", "oracles.idioms
          "oracles.disassembly", "oracles.mistakes", "oracles.agree", "oracles.agree -l 500 1000", "libv7.library"]
 
 
-def clang(*words):
-    sketch.run(f"{kit()}/toolchain/bin/clang", "--target=x86_64-unknown-linux-gnu", "-x", "ir", "-fPIC", "-mllvm", "-trap-unreachable",
-               "-c", *words)
-
-
-def compile_edges(name, lines, made):
-    with tempfile.TemporaryDirectory(dir=FOLDER) as work:
-        with open(f"{work}/edges.ll", "w", encoding="utf-8") as file:
-            file.writelines(sketch.without_tests(lines))
-        clang("-O0", "-fsanitize-coverage=trace-pc-guard,pc-table", "-o", f"{work}/program.o", f"{work}/edges.ll")
-        sketch.link(made, name, f"{work}/program.o", mutants.runtime(work, name, REACHED))
-
-
-def compile_fuzzer(lines):
-    with tempfile.TemporaryDirectory(dir=FOLDER) as work:
-        with open(f"{work}/checked.ll", "w", encoding="utf-8") as file:
-            file.writelines(lines)
-        clang("-O1", "-fsanitize=address", "-fsanitize-coverage=inline-8bit-counters,pc-table,trace-cmp", "-o", f"{work}/v7.o",
-              f"{work}/checked.ll")
-        sketch.run("clang", "-O1", "-g", "-std=gnu11", "-Wall", "-Wextra", "-Werror", "-fsanitize=fuzzer,address", f"-I{TOP}/include",
-                   "-o", f"{FOLDER}/fuzz", f"{TOP}/tests/measure/fuzz.c", f"{work}/v7.o", f"{kit()}/c/liblibc_c.a")
-
-
 def compile_one(name):
     """Compiles a program with edges and with mutants, or libv7 with edges and for libFuzzer."""
-    crate = PROGRAMS.get(name, name)
     with tempfile.TemporaryDirectory(dir=FOLDER) as work:
-        lines = list(sketch.module(TOP, crate, work))
-    if name == "libv7":
-        compile_edges(name, lines, f"{FOLDER}/libv7.so")
-        compile_fuzzer(lines)
-    else:
-        compile_edges(name, lines, f"{FOLDER}/{name}")
-        found = mutants.compile_with(lines, f"{FOLDER}/mutants/{name}", name, FOLDER)
-        write(f"{FOLDER}/mutants/{name}.numbers", json.dumps(found))
+        lines = list(sketch.module(TOP, PROGRAMS.get(name, name), work))
+        edges = compiled(work, sketch.without_tests(lines), "-O0", "-fsanitize-coverage=trace-pc-guard,pc-table", "-c")
+        link(work, path_of(name), name, edges)
+        if name == "libv7":
+            checked = compiled(work, lines, "-O1", "-fsanitize=address", "-c",
+                               "-fsanitize-coverage=inline-8bit-counters,pc-table,trace-cmp")
+            sketch.run("clang", "-O1", "-g", "-std=gnu11", "-Wall", "-Wextra", "-Werror", "-fsanitize=fuzzer,address", f"-I{TOP}/include",
+                       "-o", f"{FOLDER}/fuzz", f"{TOP}/tests/measure/fuzz.c", checked, f"{kit()}/c/liblibc_c.a")
+        else:
+            found = mutants.compile_with(work, lines, f"{FOLDER}/mutants/{name}", name)
+            write(f"{FOLDER}/mutants/{name}.numbers", json.dumps(found))
     write(f"{FOLDER}/{name}.made", "")
 
 
 def compile_all():
     os.makedirs(f"{FOLDER}/mutants", exist_ok=True)
-    how = hashlib.sha256(b"".join(read_bytes(f"{TOP}/tests/measure/{name}") for name in ("mutants.py", "runtime.c", "fuzz.c"))).hexdigest()
+    how = digest(b"".join(read_bytes(f"{TOP}/tests/measure/{name}") for name in ("mutants.py", "runtime.c", "fuzz.c")))
     with ThreadPoolExecutor(PROCESSORS) as pool:
         jobs = {name: pool.submit(once, TOP, crate, f"{FOLDER}/{name}.made", lambda name=name: compile_one(name), how)
                 for name, crate in {"libv7": "libv7", **PROGRAMS}.items()}
         print("compiled with edges and mutants, without proof:", *(f"{name} ({job.result()})" for name, job in jobs.items()), flush=True)
 
 
+def path_of(name):
+    return f"{FOLDER}/libv7.so" if name == "libv7" else f"{FOLDER}/{name}"
+
+
 # --- edges
 
 def run_test(words):
-    """Runs a test with edges that are noted, and records its commands."""
-    done = ran(sys.executable, "-m", "tests.measure.recording", RECORDED, *f"tests.{words}".split(), cwd=TOP,
-               env={**os.environ, "V7_BUILD": FOLDER, "LIBV7": f"{FOLDER}/libv7.so", "V7_SECONDS": "300"})
+    """Runs a test with edges that are noted. The commands of those that SCRIPTS does not have are recorded."""
+    by = [] if words.startswith("programs.") else ["tests.measure.recording"]
+    done = ran(sys.executable, "-m", *by, *f"tests.{words}".split(), cwd=TOP,
+               env={**os.environ, "V7_BUILD": FOLDER, "LIBV7": path_of("libv7"), "V7_SECONDS": "300"})
     if done.status:
         raise Failed(f"{words}: {done.said()[-2000:]}")
 
@@ -110,15 +94,13 @@ def run_tests():
 
 def edges_of(name):
     """The functions of a program, as names of the source: for each how many edges it has, and how many were reached."""
-    path = f"{FOLDER}/libv7.so" if name == "libv7" else f"{FOLDER}/{name}"
-    reached, places = read_bytes(f"{REACHED}/{name}.edges"), struct.iter_unpack("<Q", read_bytes(f"{REACHED}/{name}.places"))
-    starts = sorted((int(at, 16), function) for at, function in re.findall(r"^(\w+) [tTwW] (.*)$", asked("nm", path), re.M))
+    begin, *places = (word for word, in struct.iter_unpack("<Q", read_bytes(f"{REACHED}/{name}.places")))
+    starts = sorted((int(at, 16), function) for at, function in re.findall(r"^(\w+) [tTwW] (.*)$", asked("nm", path_of(name)), re.M))
     found = collections.defaultdict(lambda: [0, 0])
-    for number, (place,) in enumerate(places, 1):
-        function = starts[bisect.bisect_right(starts, (place, "\x7f")) - 1][1]
-        count = found[mutants.source_name(function)]
+    for place, reached in zip(places[::2], read_bytes(f"{REACHED}/{name}.edges")[1:]):
+        count = found[mutants.source_name(starts[bisect.bisect_right(starts, (place - begin, "\x7f")) - 1][1])]
         count[0] += 1
-        count[1] += reached[number]
+        count[1] += reached
     return found
 
 
@@ -156,7 +138,7 @@ def print_mutants():
         numbers = json.loads(read(f"{FOLDER}/mutants/{name}.numbers"))
         alive[name] = {mutant: number for mutant, number in numbers.items() if mutant.startswith(prefix)}
     with tempfile.TemporaryDirectory() as top, ProcessPoolExecutor(PROCESSORS) as pool:
-        dead, reached = mutants.killed(pool, mutants.Commands(RECORDED, f"{FOLDER}/mutants", top), alive)
+        dead, reached = replaying.killed(pool, replaying.Commands(f"{FOLDER}/mutants", top), alive)
     every, known = set().union(*alive.values()), judged()
     matched = {pattern: set(fnmatch.filter(every, pattern)) for pattern in known}
     equal, noticed = (set().union(*(matched[it] for it in known if known[it] == kind)) - dead for kind in ("equal", "noticed"))

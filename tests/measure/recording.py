@@ -1,9 +1,9 @@
 """Runs a test, and keeps the commands that it runs: with each its input, and the files of its folder.
 
-usage: python3 -m tests.measure.recording FOLDER MODULE [ARGUMENT ..]
+usage: python3 -m tests.measure.recording MODULE [ARGUMENT ..]
 
-FOLDER/MODULE.commands has a line of JSON for each command, and FOLDER/files the contents of files, by their digests. A command at a
-terminal, or of a shell, is not kept, and neither is one with large files; of many files only those that the command names."""
+The folder RECORDED then has MODULE.commands, with a line of JSON for each command, and `files`, with the contents of files by their
+digests. A command of a shell is not kept, and neither is one with large files; of many files only those that the command names."""
 import glob
 import hashlib
 import json
@@ -12,52 +12,45 @@ import runpy
 import subprocess
 import sys
 
-from tests.lib.files import read_bytes, write
+from tests.lib.files import TOP, read_bytes, write
 from tests.lib.programs import BUILD, PROGRAMS
 
+RECORDED = f"{TOP}/build/measure/recorded"
 MOST_FILES, MOST_BYTES = 60, 1_000_000
-run = subprocess.run
 
 
-def kept(folder, path):
-    """Keeps the contents of a file, and returns their digest."""
-    data = read_bytes(path)
-    name = hashlib.sha256(data).hexdigest()[:24]
-    if not os.path.exists(f"{folder}/files/{name}"):
-        write(f"{folder}/files/{name}", data)
-    return name
+def digest(data):
+    return hashlib.sha256(data).hexdigest()[:24]
 
 
-def keep(folder, module, words, at, given):
-    paths = {os.fsdecode(it) for it in words[1:]}
+def keep(module, words, at, given):
+    """Keeps a command of a test that works in the folder `at`."""
+    named = {os.fsdecode(it) for it in words[1:]}
     found = glob.glob("**", root_dir=at, recursive=True, include_hidden=True)
-    paths = [it for it in found if os.path.isfile(f"{at}/{it}") and (len(found) <= MOST_FILES or it in paths)]
+    paths = [it for it in found if os.path.isfile(f"{at}/{it}") and (len(found) <= MOST_FILES or it in named)]
     if sum(os.path.getsize(f"{at}/{it}") for it in paths) > MOST_BYTES:
         return
-    files = {it: kept(folder, f"{at}/{it}") for it in paths if not os.path.islink(f"{at}/{it}")}
+    contents = {it: read_bytes(f"{at}/{it}") for it in paths if not os.path.islink(f"{at}/{it}")}
+    for data in contents.values():
+        if not os.path.exists(path := f"{RECORDED}/files/{digest(data)}"):
+            write(path, data)
     words = [os.fsencode(it).decode("latin-1") for it in words]
-    line = json.dumps({"words": words, "given": given.decode("latin-1"), "files": files}, sort_keys=True)
-    with open(f"{folder}/{module}.commands", "a", encoding="ascii") as file:
-        file.write(f"{line}\n")
+    line = {"words": words, "given": given.decode("latin-1"), "files": {it: digest(data) for it, data in contents.items()}}
+    with open(f"{RECORDED}/{module}.commands", "a", encoding="ascii") as file:
+        file.write(json.dumps(line, sort_keys=True) + "\n")
 
 
-def main(folder, module, *arguments):
-    folder = os.path.abspath(folder)
-
+def main(module):
     def recorded(words, **how):
-        path = os.fsdecode(how.get("executable") or words[0])
-        if os.path.dirname(path) == os.path.realpath(BUILD) and os.path.basename(path) in PROGRAMS:
-            given = how.get("input") or b""
-            keep(folder, module, [os.path.basename(path), *words[1:]], os.fsdecode(how.get("cwd") or "."),
-                 given if isinstance(given, bytes) else given.encode("latin-1"))
+        folder, name = os.path.split(os.fsdecode(how.get("executable") or words[0]))
+        if folder == os.path.realpath(BUILD) and name in PROGRAMS:
+            keep(module, [name, *words[1:]], os.fsdecode(how.get("cwd") or "."), how.get("input") or b"")
         return run(words, **how)
 
-    subprocess.run = recorded
-    sys.argv = [module, *arguments]
+    run, subprocess.run = subprocess.run, recorded
     runpy.run_module(module, run_name="__main__", alter_sys=True)
 
 
 if __name__ == "__main__":
-    if len(sys.argv) < 3:
-        sys.exit(__doc__)
-    main(*sys.argv[1:])
+    del sys.argv[0]
+    main(sys.argv[0])
