@@ -28,11 +28,12 @@ def write(path, data):
 
 @contextlib.contextmanager
 def new_folder(copied=""):
-    """A new folder, in which the script works, and which is gone at the end; or a copy of this folder of the repository in it."""
+    """A new folder, in which the script works, and which is gone at the end; or a copy of this folder of the repository in it, without
+    what Python keeps of programs there."""
     before = os.getcwd()
     with tempfile.TemporaryDirectory() as folder:
         if copied:
-            shutil.copytree(f"{TOP}/{copied}", f"{folder}/{copied}")
+            shutil.copytree(f"{TOP}/{copied}", f"{folder}/{copied}", ignore=shutil.ignore_patterns("__pycache__"))
         os.chdir(f"{folder}/{copied}")
         try:
             yield folder

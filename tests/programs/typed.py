@@ -71,7 +71,7 @@ def main():
         os.makedirs("build")
         os.makedirs("home")
         os.symlink(os.path.join(TOP, BUILD), "build/quick")
-        shutil.copytree(f"{TOP}/examples", "examples")
+        shutil.copytree(f"{TOP}/examples", "examples", ignore=shutil.ignore_patterns("__pycache__"))
         terminal = started(folder)
         shown(terminal)
         for page in PAGES:
