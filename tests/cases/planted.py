@@ -3,7 +3,6 @@ processors.
 
 usage: python3 -m tests.cases.planted [BUG ..]    tries the bugs of all rows, or these; an error if a case that the row names does not fail,
                                     or if one of them fails without a bug
-       python3 -m tests.cases.planted -a BUG ..   plays all cases with each bug, and prints those that fail
        python3 -m tests.cases.planted -c          looks only whether each edit fits the code, and the table the edits and the cases
 
 A row has the text that changes. The rows of tests/programs/largest.py count as cases. The bug is made in a copy of the sources, and programs are compiled there
@@ -84,17 +83,12 @@ def changed(row):
 
 
 def cases():
-    """The text of each case."""
-    texts = {}
+    """The text of each case, and the programs of what counts as one."""
+    texts = {name: runs for name, (_, runs) in SCRIPTS.items()}
     for path in glob.glob(f"{TOP}/tests/cases/data/*.case"):
         for text, name in re.findall(r"^((?:#.*\n)+case (\w+)\n(?:[^#\n].*\n|\n)*)", read(path), re.M):
             texts[name] = text
     return texts
-
-
-def there_are():
-    """The text of each case, and the programs of what counts as one."""
-    return {**cases(), **{name: runs for name, (_, runs) in SCRIPTS.items()}}
 
 
 def programs_of(text):
@@ -138,9 +132,8 @@ def sources(top, path, text):
     write(os.path.join(top, path), text)
 
 
-def failing(row, texts, is_whole=False):
-    """Those of these cases that fail with a bug. With `is_whole` all programs that the bug reaches are compiled before the cases are
-    played."""
+def failing(row, texts):
+    """Those of these cases that fail with a bug."""
     (path, text), uses = changed(row), crates_in(TOP)
     crate = path.split("/")[1]
     using = [name for name in COMPILED if crate in below(COMPILED[name], uses)]
@@ -151,10 +144,9 @@ def failing(row, texts, is_whole=False):
         folder = os.path.join(top, "build")
         shutil.copytree(GOOD, folder, ignore=shutil.ignore_patterns("*.compiled"))
         found = []
-        for place, program in enumerate(reached, 1):
+        for program in reached:
             compile_one(top, program, folder)
-            if not is_whole or place == len(reached):
-                found = failed(folder, texts)
+            found = failed(folder, texts)
             if len(found) == len(texts):
                 break
         return found
@@ -177,7 +169,7 @@ def programs(names):
 
 def check_table():
     """Whether each edit fits the code, and each case of a row is there."""
-    table, there = rows(), there_are()
+    table, there = rows(), cases()
     planted = Row("planted", "v7/src/main.rt", "planted", "", ["planted"])
     same("how many faults a row has that is planted", len([*faults_of(planted, there)]), 2)
     faults = [fault for row in table for fault in faults_of(row, there)]
@@ -196,14 +188,6 @@ def faults_of(row, there):
         yield f"{row.bug}: {fault}"
 
 
-def list_failing(bugs):
-    """Prints all cases that fail with each bug."""
-    there = cases()
-    programs(COMPILED)
-    for row in (it for it in rows() if it.bug in bugs):
-        print(f"{row.bug}: {' '.join(failing(row, there, True))}", flush=True)
-
-
 def try_row(row, there):
     """Plants a bug: what is wrong, if not all cases fail that its row names."""
     try:
@@ -216,7 +200,7 @@ def try_row(row, there):
 
 def try_rows(table):
     """Plants the bugs, after the cases are played without one: whether all wanted cases fail, and without a bug none."""
-    there = there_are()
+    there = cases()
     wanted = {name: there[name] for row in table for name in row.cases}
     faults = 0
     programs(set().union(*map(programs_of, wanted.values())))
@@ -234,8 +218,6 @@ def try_rows(table):
 
 
 def main(words):
-    if words[:1] == ["-a"]:
-        return list_failing(words[1:])
     if words == ["-c"]:
         return check_table()
     table = [row for row in rows() if not words or row.bug in words]

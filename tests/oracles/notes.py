@@ -271,8 +271,8 @@ def named(file, segment, to):
 
 def is_misplaced(file, at, segment, to, starts):
     """Whether something shows that a word which refers far outside of its segment is a mistake: its address counts from the start of the
-    segment, its line begins with it, or the next word of data has the address and no relocation word."""
-    if named(file, segment, to + file.ranges()[segment][0]) or at in starts:
+    segment, and is 0 or that of a symbol, its line begins with it, or the next word of data has the address and no relocation word."""
+    if to == 0 or named(file, segment, to + file.ranges()[segment][0]) or at in starts:
         return True
     after = [(word, reloc) for place, word, reloc in file.words() if place == at + 2 and at >= file.text]
     return any(reloc & 0o17 == 0 and named(file, segment, word) for word, reloc in after)

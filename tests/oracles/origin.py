@@ -175,7 +175,7 @@ def find_large(dice):
     texts = [[*((dice.randrange(65536), 0) for _ in range(199)), (0, 0o10)] for _ in range(1000)]
     paths = store_each("large", texts, 150)
     same("a large link", ran(V7, "ld", "-i", "-s", "-o", "first", *paths[:163]).texts(), (0, "", ""))
-    same("a large program", measured("a large program", ["first", *dice.sample(paths, len(paths))], 2, 50), 0)
+    same("a large program", measured("a large program", ["-R", "large", "first"], 2, 50), 0)
 
 
 def search_long(dice):

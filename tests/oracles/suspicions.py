@@ -341,12 +341,19 @@ def wrong_addresses(file, reached):
             yield value, "absolute"
 
 
+def exchanged(file):
+    """The remarks on words after `jsr r5` with its bytes exchanged that refer to csv: they are sure whatever else the text has."""
+    return {(2 * at, "relocated") for at, low in enumerate(file.relocation)
+            if at and file.words[at - 1] == 0o073411 and low & 0o17 == EXTERNAL + 1 and low >> 4 < len(file.symbols)
+            and file.symbols[low >> 4][0].rstrip(b"\0") == b"csv"}
+
+
 def surely_wrong(file, promise=False):
     """The remarks that have to be said as sure, and those that may be."""
     certain, possible = sure(file, promise)
     excluded = () if promise else PROMISED
     wanted = {remark for place in certain for remark in wrong_at(file, place) if remark[1] not in ("within", *excluded)}
-    allowed = {remark for place in possible for remark in wrong_at(file, place) if remark[1] not in excluded}
+    allowed = {remark for place in possible for remark in wrong_at(file, place) if remark[1] not in excluded} | exchanged(file)
     if promise:
         wanted |= set(wrong_addresses(file, certain))
         allowed |= set(wrong_addresses(file, possible))

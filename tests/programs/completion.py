@@ -39,6 +39,8 @@ WANTED = [
     ("v7-explain REA", ["README.md"]),
     ("v7-object main", ["main.lst"]),
     ("v7-from-gnu -o t", ["total"]),
+    ("v7-origin -R ", ["c", "menu", "python", "total"]),
+    ("v7-origin ma", ["main.o"]),
 ]
 ASK = r"""
 . "$1"; shift
@@ -68,7 +70,7 @@ def check_bash(file):
     count = 0
     for typed, wanted in WANTED:
         same(f"bash: {typed}", sorted(bash(file, typed)), sorted(wanted))
-    for command in ("v7 ld", "v7 nm", "v7-explain", "v7-from-gnu"):
+    for command in ("v7 ld", "v7 nm", "v7-explain", "v7-from-gnu", "v7-origin"):
         offered = bash(file, f"?{command} -")
         shown = {line.split(" ")[0] for line in offered if not line.startswith("--")}
         same(f"bash: {command}", shown, options_of(command.replace(" ", "-")))

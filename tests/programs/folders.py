@@ -1,7 +1,8 @@
-"""Runs `v7-explain -l -R` over what no case can have: links, FIFOs, sockets, devices, names that are not UTF-8, folders that can't be
+"""Runs `v7-explain -l -R`, and `v7-origin -R`, over what no case can have: links, FIFOs, sockets, devices, names that are not UTF-8, folders that can't be
 read, and folders that are nested deeper than a path may be long. `v7-explain` may open none of the first four by their own paths.
 
-tier: check, 3 seconds; programs: v7-explain; for: crates/v7_explain/src/folders.rt crates/surroundings
+tier: check, 3 seconds; programs: v7-explain v7-origin; for: crates/host crates/v7_explain/src/explaining.rt
+ crates/v7_origin/src/reading.rt
 """
 import os
 import socket
@@ -11,6 +12,7 @@ import sys
 
 from tests.lib.compare import notices, same
 from tests.lib.files import new_folder, write
+from tests.lib.objects import pack
 from tests.lib.programs import FAULTS, program, ran
 
 DEEP = 2100
@@ -58,6 +60,11 @@ def every_kind():
     found += [("not UTF-8", "\\377"), ("not UTF-8", "r\\351.o")]
     errors = [f"v7-explain: kinds/{path}: {FAULTS['open']}" for kind, path in found if kind == "not UTF-8"]
     same("every kind", rows("-l", "-R", "kinds"), (2, [(kind, "kinds/" + path) for kind, path in found], errors))
+    write("program", pack([(0o207, 0)], flag=1))
+    said = [*(f"kinds/{path}: not tried: its name is not UTF-8" for kind, path in found if kind == "not UTF-8"),
+            "program: text 02, data 0, plain", "000000-000002  2 bytes of no object here"]
+    same("no object", ran(program("v7-origin"), "-R", "kinds", "program", seconds=60).texts(), (1, "\n".join([*said, ""]), ""))
+    os.remove("program")
     os.chdir("kinds")
     same("every kind, here", rows("-l", "-R", ".")[:2], (2, [(kind, "./" + path) for kind, path in found]))
     os.chdir("..")

@@ -2,7 +2,7 @@
 each run. What is lost may be no more than v7(1) says: the file that is written. Of that a beginning of the new file is there; files before it
 are new, and those after it old. Of the recipes nothing is lost.
 
-tier: check, 60 seconds; programs: v7; for: man/v7.1 crates/surroundings
+tier: check, 60 seconds; programs: v7; for: man/v7.1 crates/host
 """
 import os
 import random

@@ -2,7 +2,7 @@
 tests/libv7/c/calls.c does the same with the calls of libv7.
 
 usage: python3 -m tests.programs.memory [CALL ..]      all calls of the table, or these: 'v7 nm'
-tier: check, 90 seconds; programs: v7 v7-explain v7-object v7-from-gnu v7-origin; for: crates/surroundings tests/lib/watch.c
+tier: check, 90 seconds; programs: v7 v7-explain v7-object v7-from-gnu v7-origin; for: crates/host tests/lib/watch.c
 
 A call is run as it is, and then with its first request refused, with its second, and so on, until a run makes fewer requests; and with
 each of them and all after it. For each call a line has their number, and how many of the runs came out as if nothing had been refused. In
@@ -94,7 +94,8 @@ def calls():
     yield Call("v7-explain -l -R", ["v7-explain", "-l", "-R", "in"], {b"in/a.o": example("main.o"), b"in/b/c.o": example("total/say.o")})
     yield Call("v7-explain -m", ["v7-explain", "-m", "-y", "_count", "main.o", "twice.o", "k.o"], {**OBJECTS, **COMMONS})
     yield Call("v7-object", ["v7-object", "main.lst", "out"], examples("main.lst"))
-    yield Call("v7-origin", ["v7-origin", "-o", "out", "program", *objects], {**OBJECTS, b"program": LINKED})
+    yield Call("v7-origin", ["v7-origin", "-o", "out", "-R", "in", "program", *objects],
+               {**OBJECTS, b"program": LINKED, b"in/a.o": example("total/say.o"), b"in/b": LINKED})
     yield Call("v7-from-gnu", ["v7-from-gnu", "squares.gnu", "out"], GNU)
     yield Call("v7-from-gnu -o", ["v7-from-gnu", "-o", "made", *map(os.fsdecode, GNU)], {**GNU, b"made/old": b""})
 

@@ -3,7 +3,7 @@
 # error, what is read from one is a read error, and no file that a command opens takes the place of one. It also tries more files than may
 # be open, a device that is full, an output that is the input, and files that are larger than the memory.
 #
-# tier: check, 10 seconds; programs: v7 v7-explain v7-object v7-from-gnu v7-origin; for: crates/surroundings
+# tier: check, 10 seconds; programs: v7 v7-explain v7-object v7-from-gnu v7-origin; for: crates/host
 set -u
 cd "$(dirname "$0")/../.."
 build=$(realpath "${V7_BUILD:-build}")

@@ -6,7 +6,7 @@ v7-session(1). Options are those of the manual pages. Random command lines, alwa
 that v7 refuses, and for no others.
 
 tier: check, 25 seconds; programs: v7 v7-explain v7-from-gnu v7-object v7-origin;
- for: crates/v7 crates/command_words crates/surroundings man
+ for: crates/v7 crates/command_words crates/host man
 """
 import os
 import pty
@@ -78,6 +78,7 @@ BESIDE = {
         ("--- a b", "an option has one letter, but for --help and --version")],
     "v7-origin": [
         ("", "it needs a file"), ("-a a b", "-a needs -o"), ("-z a", "there is no option -z"), ("a -o", "-o needs the next argument as its value"),
+        ("-R", "-R needs the next argument as its value"), ("-R a", "it needs a file"), ("-R a -R b c", "-R takes one value"),
         ("-o a -o b c", "-o takes one value"), ("a --x", "an option has one letter, but for --help and --version")],
     "v7-from-gnu": [
         ("", "it takes two files"), ("a", "it takes two files"), ("-S a b c", "it takes two files"), ("-o a", "it needs a file"),

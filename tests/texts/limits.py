@@ -54,7 +54,7 @@ LIMITS = [
     ("aout_core/src/block.rt", "BLOCK_SIZE", {
         "docs/LINK.md": "| what is read or listed at once; what is written to a file | {} bytes;",
     }),
-    ("surroundings/src/pieces.rt", "PIECE_SIZE", {
+    ("host/src/pieces.rt", "PIECE_SIZE", {
         "docs/LINK.md": "what is written to a file | 512 bytes; {} |",
     }),
     ("v7_explain/src/explaining.rt", "MOST_BYTES", {
@@ -76,7 +76,7 @@ LIMITS = [
 ]
 
 # where the version is
-VERSIONS = {"crates/surroundings/src/shown.rt": 'VERSION: &str = "{}";', "packaging/python/v7.py": '__version__ = "{}"',
+VERSIONS = {"crates/host/src/shown.rt": 'VERSION: &str = "{}";', "packaging/python/v7.py": '__version__ = "{}"',
             "README.md": "version {}, ", "packaging/rust/Cargo.toml": '\nversion = "{}"',
             "packaging/rust/v7-sys/Cargo.toml": '\nversion = "{}"'}
 

@@ -18,7 +18,7 @@ known='alloc allocator alsc antt aout aspell backend bhis binaryen binutils call
     debootstrap destructor disassembler disassemblies dpkg edata encoding enum etext fadd faketime fdiv fixup glibc groff hasher indir libc
     liblibc liblibv libiberty libv linksem lintian makefile malloc mandoc manylinux mdoc mfps mfpt mtps mypy prover realloc reimplements
     relinker rustc simh soname stderr stdin stdint stdout strace struct subcommand tstset usize valgrind venv wrtlck xffffffff zlib
-    frob nofile rlwrap typeof unfailed coq dafny kell kumar myreen norrish sewell shao wilke toolchain wasm'
+    frob nofile rlwrap typeof coq dafny kell kumar myreen norrish sewell shao wilke toolchain wasm'
 # documents and manuals without code, lines of comments, and texts with a blank between two words, of programs and of the page
 prose() {
     find $texts -name '*.md' -exec sed -E 's/`[^`]*`//g; /^    /d; s/\]\([^)]*\)//g' {} +

@@ -1,4 +1,4 @@
--- What is said of a file that is refused. (own choice)
+-- What is said of a file that is refused.
 use Rattle.std.specs.Prelude.{ℕ, List, [], ◌++◌, codes, decimal, Option, Some, None}
 use Rattle.aout_core.specs.declared.object.ObjectFault.TheVariants.{NotAnObject, NoRelocation, BadRelocation, BadSymbolNumber}
 use Rattle.aout_core.specs.{declared.file.ReadFault.ReadFault, declared.object.ObjectFault.ObjectFault}

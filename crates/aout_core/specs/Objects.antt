@@ -1,4 +1,4 @@
--- What `read_object` returns for the bytes that it was given, and what it leaves of them. (own choice)
+-- What `read_object` returns for the bytes that it was given, and what it leaves of them.
 --
 -- The file that the bytes begin with is read as `read_file` reads it, and then checked.
 use Rattle.std.specs.Prelude.{◌≡◌, ℕ, List, Option, Some, Result, Ok, Err}

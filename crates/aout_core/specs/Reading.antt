@@ -1,4 +1,4 @@
--- What `read_file` returns for the bytes that it was given, and what it leaves of them. (own choice)
+-- What `read_file` returns for the bytes that it was given, and what it leaves of them.
 --
 -- It returns the file that the bytes begin with, or the first refusal, and takes no byte after the file. Two things do not follow
 -- from the bytes: whether memory runs out for the lists, and whether the device fails.

@@ -1,4 +1,4 @@
--- What contracts see of a wire, its device and its latch, and what a write to it does. (own choice)
+-- What contracts see of a wire, its device and its latch, and what a write to it does.
 --
 -- A wire is a reader or a writer with a latch that goes on when the device fails, and stays on. What a writer holds is a list of
 -- bytes if it is known (`Some`), and writing appends to it: all of the bytes, or on a fault a prefix of them.

@@ -6,11 +6,11 @@ use crate::wire::{DeviceFault, Wire};
 use std::io::{Read, Write};
 use std::marker::Model;
 
-/// How many bytes a block has room for. (own choice)
+/// How many bytes a block has room for.
 pub const BLOCK_SIZE: usize = 512;
 
 /// At most `BLOCK_SIZE` bytes that wait: for the device to which they are sent, or for those who use what was read. It
-/// takes no memory. Contracts see the list of them. (own choice)
+/// takes no memory. Contracts see the list of them.
 #[derive(Drop)]
 pub struct Block {
     bytes: [u8; BLOCK_SIZE],
@@ -49,7 +49,7 @@ impl Block {
     ghost use Rattle.std.specs.Io.KnownBytes.{Consumes, IsAtEnd, Keeps};
     ghost use Rattle.aout_core.specs.{Wires.Writes, declared.block.TheConstants.BLOCK_SIZE};
 
-    /// A block in which nothing waits. (own choice)
+    /// A block in which nothing waits.
     pub fn new() -> Block
         ensures { result ≡ [] }
     {
@@ -60,7 +60,7 @@ impl Block {
         }
     }
 
-    /// The bytes that wait, the first one first. (own choice)
+    /// The bytes that wait, the first one first.
     pub fn waiting(&self) -> &[u8]
         ensures value { result.now ≡ self.now }
         ensures bound { length self.now ≤ BLOCK_SIZE }
@@ -68,7 +68,7 @@ impl Block {
         &self.bytes[self.start..self.end]
     }
 
-    /// Whether nothing waits. (own choice)
+    /// Whether nothing waits.
     pub fn is_empty(&self) -> bool
         ensures { IsTrue result ↔ (self.now ≡ []) }
     {
@@ -76,7 +76,7 @@ impl Block {
     }
 
     /// Appends as many of the bytes as there is room for to those that wait, and returns how many. An empty block has
-    /// room for `BLOCK_SIZE`. (own choice)
+    /// room for `BLOCK_SIZE`.
     pub fn take_in(&mut self, bytes: &[u8]) -> usize
         ensures count { result ≡ min (length bytes.now) (BLOCK_SIZE - length self.old) }
         ensures value { self.new ≡ self.old ++ take result bytes.now }
@@ -90,7 +90,7 @@ impl Block {
         n
     }
 
-    /// Drops the first `n` bytes that wait. (own choice)
+    /// Drops the first `n` bytes that wait.
     pub fn pass(&mut self, n: usize)
         requires { n ≤ length self.old }
         ensures { self.new ≡ drop n self.old }
@@ -112,7 +112,7 @@ impl Block {
     }
 
     /// Fills an empty block with what one read of the wire gives, at most `BLOCK_SIZE` bytes; none come only at the end
-    /// of the device. (own choice)
+    /// of the device.
     pub fn read_some<R: Read>(&mut self, wire: &mut Wire<R>) -> Result<(), DeviceFault>
         requires { self.old ≡ [] }
         ensures fault { IsErr result ↔ IsTrue wire.new.has_failed }

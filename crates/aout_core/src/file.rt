@@ -174,7 +174,7 @@ impl File {
     }
 }
 
-/// Why no file was read. (own choice)
+/// Why no file was read.
 #[derive(Clone, Copy, Debug, PartialEq, Eq, Error)]
 #[error("{}", self.text())]
 pub enum ReadFault {
@@ -196,7 +196,7 @@ impl ReadFault {
     ghost use Rattle.std.specs.Prelude.{◌≡◌};
     ghost use Rattle.aout_core.specs.FaultTexts.{read_text};
 
-    /// What is said of the file. (own choice)
+    /// What is said of the file.
     pub fn text(self) -> &'static str
         ensures { result.now ≡ read_text self }
     {

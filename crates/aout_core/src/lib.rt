@@ -1,4 +1,5 @@
 //! Reads, checks, strips and writes files of the a.out format of PDP-11 Unix.
+//! What names no manual page is our own choice.
 //!
 //! ```rust
 //! use aout_core::{ReadFault, Wire, read_file, strip_file, write_file};
@@ -34,14 +35,13 @@
 //! - `object_fault`: why a file is not an object
 //! - `data_start`, `next_boundary`: where data begins, and the next multiple of 020000
 //! - `pc_target`: what a word refers to that is relative to the pc
-//! - `read_all`, `read_bytes`: all bytes at a path, and all that a reader gives
 //!
 //! Modules:
 //!
 //! - `laws`: theorems about reading and writing
 //! - `samples`: small objects, and devices over memory, for tests
 //!
-//! Words have 16 bits, low byte first; docs/FORMAT.md has the format. "(own choice)" marks what a.out(5) leaves open.
+//! Words have 16 bits, low byte first; docs/FORMAT.md has the format.
 #![tactic(auto)]
 
 mod address;
@@ -82,6 +82,6 @@ pub use refused::Refused;
 pub use reloc::{Kind, Reloc};
 pub use strip::strip_file;
 pub use symbol::{Segment, Symbol};
-pub use whole::{FileFault, read_all, read_bytes};
+pub use whole::FileFault;
 pub use wire::{BufferedWrite, DeviceFault, Wire};
 pub use writer::write_file;

@@ -28,7 +28,7 @@ impl Model for Object {
     ghost invariant = { λ a. IsWellFormed a.checked };
 }
 
-/// Why a file is not an object. An index counts the words of text and then of data, from 0. (own choice)
+/// Why a file is not an object. An index counts the words of text and then of data, from 0.
 #[derive(Clone, Copy, Debug, PartialEq, Eq, Error)]
 #[error("{}", self.words())]
 pub enum ObjectFault {
@@ -48,7 +48,7 @@ impl ObjectFault {
     ghost use Rattle.std.specs.Prelude.{◌≡◌};
     ghost use Rattle.aout_core.specs.FaultTexts.{bad_word, object_words};
 
-    /// What is said of the file, before the number of the bad word if there is one. (own choice)
+    /// What is said of the file, before the number of the bad word if there is one.
     pub fn words(self) -> &'static str
         ensures { result.now ≡ object_words self }
     {
@@ -60,7 +60,7 @@ impl ObjectFault {
         }
     }
 
-    /// The bad word, if it is one. (own choice)
+    /// The bad word, if it is one.
     pub fn bad_word(self) -> Option<u16>
         ensures { result ≡ bad_word self }
     {

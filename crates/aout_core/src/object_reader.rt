@@ -10,7 +10,7 @@ use std::alloc::Global;
 use std::io::Read;
 use thiserror::Error;
 
-/// Why no object was read. (own choice)
+/// Why no object was read.
 #[derive(Clone, Copy, Debug, PartialEq, Eq, Error)]
 pub enum NoObject {
     /// 1: no file was read.

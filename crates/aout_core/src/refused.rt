@@ -5,7 +5,7 @@ use std::io;
 use thiserror::Error;
 
 /// A request for memory was refused: it is made only of the error of such a request. So a fault that carries one says `no
-/// memory` only after a refusal. (own choice)
+/// memory` only after a refusal.
 #[derive(Clone, Copy, Debug, PartialEq, Eq, Error)]
 #[error("no memory")]
 pub struct Refused {
@@ -13,7 +13,7 @@ pub struct Refused {
 }
 
 impl Refused {
-    /// The refusal that an error of the kind `OutOfMemory` reports. (own choice)
+    /// The refusal that an error of the kind `OutOfMemory` reports.
     pub fn reported_by(error: &io::Error) -> Option<Refused> {
         match error.kind() {
             io::ErrorKind::OutOfMemory => Some(Refused { error: AllocError }),

@@ -8,18 +8,18 @@ use std::io::{Read, Write};
 use std::marker::Model;
 use thiserror::Error;
 
-/// The device of a wire failed, in this call or before it. Only a wire makes it. (own choice)
+/// The device of a wire failed, in this call or before it. Only a wire makes it.
 #[derive(Clone, Copy, Debug, PartialEq, Eq, Error)]
 #[error("device fault")]
 pub struct DeviceFault(());
 
-/// A writer that may hold bytes back, and tells contracts which. (own choice)
+/// A writer that may hold bytes back, and tells contracts which.
 pub trait BufferedWrite: Write {
     ghost use Rattle.std.specs.{Prelude.{◌≡◌, ℕ, List, [], OnOk}, Io.KnownBytes.Keeps};
 
     ghost waiting: { Self → List ℕ };
 
-    /// Passes on all that waits; on an error some of it may wait still. (own choice)
+    /// Passes on all that waits; on an error some of it may wait still.
     fn pass_on(&mut self) -> io::Result<()>
         ensures bytes { Keeps (Self.contents self.old) (Self.contents self.new) }
         ensures empty { OnOk result (waiting self.new ≡ []) };
@@ -45,7 +45,7 @@ impl<D> Model for Wire<D> {
 }
 
 impl<D> Wire<D> {
-    /// The device on a wire whose latch is off. (own choice)
+    /// The device on a wire whose latch is off.
     pub fn new(device: D) -> Wire<D>
         ensures device { result.device ≡ device }
         ensures latch { result.has_failed ≡ false }
@@ -56,14 +56,14 @@ impl<D> Wire<D> {
         }
     }
 
-    /// Whether the latch is on. This does not touch the device. (own choice)
+    /// Whether the latch is on. This does not touch the device.
     pub fn failed(&self) -> bool
         ensures { result ≡ self.now.has_failed }
     {
         self.has_failed
     }
 
-    /// The fault, if the latch is on. This does not touch the device. (own choice)
+    /// The fault, if the latch is on. This does not touch the device.
     pub fn working(&self) -> Result<(), DeviceFault>
         ensures { IsErr result ↔ IsTrue self.now.has_failed }
     {
@@ -73,7 +73,7 @@ impl<D> Wire<D> {
         Ok(())
     }
 
-    /// The device back, whether the latch is on or not. (own choice)
+    /// The device back, whether the latch is on or not.
     pub fn into_inner(self) -> D
         ensures { result ≡ self.device }
     {
@@ -138,7 +138,7 @@ impl<R: Read> Wire<R> {
 
 impl<W: Write> Wire<W> {
     /// Writes all the bytes, or on a fault a prefix of them. To write no bytes leaves the wire as it was; if the
-    /// latch is on, it is a fault too. (own choice)
+    /// latch is on, it is a fault too.
     pub fn put(&mut self, bytes: &[u8]) -> Result<(), DeviceFault>
         ensures writes { Writes W.contents result self.old self.new bytes.now }
         ensures nothing { bytes.now ≡ [] → self.new ≡ self.old }
@@ -159,7 +159,7 @@ impl<W: Write> Wire<W> {
         Ok(())
     }
 
-    /// Writes some bytes and then others, or on a fault a prefix of both together. (own choice)
+    /// Writes some bytes and then others, or on a fault a prefix of both together.
     pub fn put_both(&mut self, first: &[u8], second: &[u8]) -> Result<(), DeviceFault>
         ensures { Writes W.contents result self.old self.new (first.now ++ second.now) }
     {
@@ -167,7 +167,7 @@ impl<W: Write> Wire<W> {
         self.put(second)
     }
 
-    /// Has the device pass on what it may hold back. (own choice)
+    /// Has the device pass on what it may hold back.
     pub fn flush(&mut self) -> Result<(), DeviceFault>
         ensures fault { IsErr result ↔ IsTrue self.new.has_failed }
         ensures latched { IsTrue self.old.has_failed → (self.new ≡ self.old) }
@@ -187,7 +187,7 @@ impl<W: Write> Wire<W> {
 }
 
 impl<W: BufferedWrite> Wire<W> {
-    /// Has the device pass on all that it holds back, so that nothing waits. (own choice)
+    /// Has the device pass on all that it holds back, so that nothing waits.
     pub fn pass_on(&mut self) -> Result<(), DeviceFault>
         ensures fault { IsErr result ↔ IsTrue self.new.has_failed }
         ensures latched { IsTrue self.old.has_failed → (self.new ≡ self.old) }

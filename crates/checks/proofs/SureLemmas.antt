@@ -16,7 +16,7 @@ use Rattle.checks.specs.Found.{Found}
 use Rattle.checks.specs.declared.finding.FindingKind.TheVariants.{RelocatedFirstWord, UnsuitablePcBit, BranchOutside}
 use Rattle.checks.specs.Trust.{has_word_at, enters, entered_by, entered, overlaps, is_sure, trust}
 use Rattle.checks.specs.Branches.{of_lines, word_place, suspicious_entry, suspicious_branch}
-use Rattle.checks.specs.Suspicions.{reloc_place, may_begin, differ, is_immediate}
+use Rattle.checks.specs.Suspicions.{reloc_place, may_begin, is_exchanged, differ, is_immediate}
 use Rattle.checks.specs.Suspicions.{suspicious_lack, suspicious_operand, suspicious_line, suspicious_at, suspicious_place}
 use Rattle.checks.specs.Uses.{suspicious_uses}
 use Rattle.checks.specs.SureLaw.{NoneIsSure, targets, is_whole, IsInside, AreInside, SureLaw, SuitsMode, SuitsModes, SureWordsLaw}
@@ -121,7 +121,7 @@ outside t place =
 -- and of a relocated word at a place
 abbrev first_word : Contents → Trust → ℕ → Found
 first_word c t place =
-    record { place = reloc_place c place; kind = RelocatedFirstWord; is_sure = t.is_sure }
+    record { place = reloc_place c place; kind = RelocatedFirstWord; is_sure = t.is_sure || is_exchanged c place }
 
 -- nothing sure is reported of a branch that is looked at
 quiet : (out reached : Bool) (x : Found) (xs : List Found) → reached ≡ true → x.is_sure ≡ true →
@@ -148,7 +148,7 @@ line_inside : (e : Evidence) (c : Contents) (t : Trust) (place : ℕ) (line : Un
     NoneIsSure (suspicious_line (of_lines e) c t place line) → (is_whole line ≡ true) × AreInside e c (targets place line)
 line_inside e c t place (Machine (Plain w)) s r q =
     absurd (plain_is_reported (is_relocated (slice_get c.text_reloc place)) t.is_reached (may_begin c place)
-    (first_word c t place) (suspicious_lack t.is_sure place (instruction_of w)) r s
+    (first_word c t place) (suspicious_lack t.is_sure place (instruction_of w)) r (ap (λ (b : Bool). b || is_exchanged c place) s)
     (lack_is_reported t.is_sure place (instruction_of w) s) q)
 line_inside e c t place (Machine (Decoded i a b)) s r q =
     let operands : List Found =
@@ -209,7 +209,7 @@ not_moved v c t place true is s r q =
     let w : ℕ = slice_index c.text_words place in
     let lack : List Found = if t.is_reached then suspicious_lack t.is_sure place (instruction_of w) else [] in
     absurd (moved_is_reported (is_relocated (slice_get c.text_reloc place)) t.is_reached (may_begin c place) (first_word c t place) lack
-    is r s q)
+    is r (ap (λ (b : Bool). b || is_exchanged c place) s) q)
 
 agree : (moves p q : Bool) (f : Found) → moves ≡ true → f.is_sure ≡ true → NoneIsSure (if moves && differ p q then f ∷ [] else []) → p ≡ q
 agree moves p q f m s n = search (rules, loud)

@@ -1,4 +1,4 @@
--- What is found in a file: at which byte, and what it is. What a finding says in words is in no definition. (own choice)
+-- What is found in a file: at which byte, and what it is. What a finding says in words is in no definition.
 use Rattle.std.specs.Prelude.{◌≡◌, ℕ, Bool, true, false, if◌then◌else◌, List, [], ◌∷◌, ◌++◌, map, Option, Some, None}
 use Rattle.checks.specs.{declared.finding.Finding.Finding, declared.finding.FindingKind.FindingKind}
 use Rattle.checks.specs.declared.finding.FindingKind.TheVariants as kinds

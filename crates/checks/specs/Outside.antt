@@ -4,8 +4,8 @@
 -- symbol `base = start-12`, or text that is moved by `.. = 137000`. An array of a compiler begins far before its first element, as
 -- `V1-1450(r1)`. So a word is a fault for sure if it is relative to the pc. If no symbol of text lies outside, it is one if it is the word
 -- of an operand of mode 37, 67 or 77, by the lines of the sweep: for then memory is there. With the same exception it is one if the address
--- lies more than 0400 bytes outside and something shows the mistake: counted from the start of the segment it is that of a symbol; or the
--- word begins a line of text; or it is a word of data, and the next one is not relocated and has the address of a symbol of the segment.
+-- lies more than 0400 bytes outside and something shows the mistake: it is 0; counted from the start of the segment it is that of a symbol;
+-- the word begins a line of text; or it is a word of data, and the next one is not relocated and has the address of a symbol of the segment.
 -- With the same exception a symbol of data or bss is one if it is an external or lies so far outside, unless it is a base: a word refers to
 -- it by its address, and another symbol of the segment lies inside. A symbol of text is none for sure.
 use Rattle.std.specs.Prelude.{ℕ, ◌+◌, ◌-◌, ◌*◌, ◌%◌, Bool, true, false, not, ◌&&◌, ◌||◌, eqb, nat_lt, if◌then◌else◌, Option, Some}
@@ -94,7 +94,8 @@ abbrev pub is_sure_word : Contents → Part → ℕ → Segment → Reloc → �
 is_sure_word c part place g r n =
     is_pc_relative r
     || (not (is_moved c) && (is_direct c part place
-    || (is_far c.header g n && (list_any (is_at g (n + first_of c.header g)) c.symbols || is_shown c part place g))))
+    || (is_far c.header g n
+    && (eqb n 0 || (list_any (is_at g (n + first_of c.header g)) c.symbols || is_shown c part place g)))))
 
 -- a word refers to the address of a segment, not from the pc
 abbrev pub refers_at : Segment → ℕ → ℕ × Reloc → Bool

@@ -1,4 +1,4 @@
--- What it means that a place is reached, without how it is found. (own choice)
+-- What it means that a place is reached, without how it is found.
 use Rattle.std.specs.{Prelude.{◌≡◌, ℕ, ◌/◌, ◌%◌, ◌<◌, Bool, true, false, ◌&&◌, ◌↔◌, eqb, length, Option, Some, None}, List.list_any}
 use Rattle.aout_core.specs.Contents.{Contents}
 use Rattle.checks.specs.{declared.evidence.Evidence.Evidence, Reached.leads_to, Reached.evident, Reached.is_reached}

@@ -8,8 +8,8 @@
 -- text or to its end, and not within an instruction.
 --
 -- What is found at a sure place is sure, except for the pc bit of `$N`, which code that runs at any address may have, as in
--- `add $_x-.,r0`.
-use Rattle.std.specs.Prelude.{ℕ, ◌+◌, ◌-◌, ◌*◌, ◌/◌, Bool, true, false, not, ◌&&◌, ◌||◌, nat_lt, if◌then◌else◌, List, [], ◌∷◌, ◌++◌, slice_get}
+-- `add $_x-.,r0`. A relocated word is sure too after `jsr r5` with its high byte first, if it refers to csv.
+use Rattle.std.specs.Prelude.{ℕ, ◌+◌, ◌-◌, ◌*◌, ◌/◌, Bool, true, false, not, ◌&&◌, ◌||◌, eqb, nat_lt, if◌then◌else◌, List, [], ◌∷◌, ◌++◌, slice_get}
 use Rattle.std.specs.Prelude.{Option, Some, None}
 use Rattle.aout_core.specs.{Contents.Contents, Encoding.relocation_at, WellFormed.is_pc_relative}
 use Rattle.instructions.specs.{declared.mode.Addressing.Addressing, declared.mode.Addressing.TheVariants.Immediate}
@@ -22,7 +22,7 @@ use Rattle.disassemblies.specs.{Lines.unix_line_in, Starts.starts, Starts.is_sta
 use Rattle.checks.specs.declared.finding.FindingKind.TheVariants.{RelocatedFirstWord, UnsuitablePcBit, CutInstruction, NoInstruction}
 use Rattle.checks.specs.{Found.{Found, found_as, found_by}, Odd.odd, Branches.{of_lines, word_place, suspicious_branch}}
 use Rattle.checks.specs.{Addresses.suspicious_addresses, Referents.suspicious_references, Uses.suspicious_uses}
-use Rattle.checks.specs.{declared.evidence.Evidence.Evidence, declared.trust.Trust.Trust, Reached.branch_of, Trust.trust}
+use Rattle.checks.specs.{declared.evidence.Evidence.Evidence, declared.trust.Trust.Trust, Reached.{branch_of, is_external_csv}, Trust.trust}
 
 -- the byte of the file at which the relocation word of a word of text is
 abbrev pub reloc_place : Contents → ℕ → ℕ
@@ -59,11 +59,20 @@ abbrev pub suspicious_lack : Bool → ℕ → Option Instruction → List Found
 suspicious_lack is_sure place None = found_as is_sure true (word_place place) NoInstruction
 suspicious_lack is_sure place (Some i) = found_as is_sure true (word_place place) CutInstruction
 
+abbrev pub is_exchanged_call : Option ℕ → Bool
+is_exchanged_call None = false
+is_exchanged_call (Some w) = eqb w 0o73411
+
+-- a word refers to csv, and the word before it is that of `jsr r5` with its high byte first
+abbrev pub is_exchanged : Contents → ℕ → Bool
+is_exchanged c place =
+    nat_lt 0 place && (is_exchanged_call (slice_get c.text_words (place - 1)) && is_external_csv c (slice_get c.text_reloc place))
+
 -- a plain word at a place
 abbrev pub suspicious_plain : Contents → Trust → ℕ → ℕ → List Found
 suspicious_plain c t place w =
     if is_relocated (slice_get c.text_reloc place)
-    then found_as t.is_sure (t.is_reached || may_begin c place) (reloc_place c place) RelocatedFirstWord
+    then found_as (t.is_sure || is_exchanged c place) (t.is_reached || may_begin c place) (reloc_place c place) RelocatedFirstWord
     else (if t.is_reached then suspicious_lack t.is_sure place (instruction_of w) else [])
 
 -- the line at a place, by the evidence of the lines that a branch may enter

@@ -1,4 +1,4 @@
--- How far it is sure that a line is an instruction. (own choice)
+-- How far it is sure that a line is an instruction.
 --
 -- It is sure if the evidence shows its place. Without the promise that all of the text is instructions it must not overlap another line
 -- at such a place: of two such lines one may be data.

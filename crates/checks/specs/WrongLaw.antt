@@ -1,4 +1,4 @@
--- What holds of a file of which no relocation word is found wrong. (own choice)
+-- What holds of a file of which no relocation word is found wrong.
 use Rattle.std.specs.Prelude.{◌≡◌, ◌↔◌, true, eqb, [], ◌++◌, None}
 use Rattle.aout_core.specs.{Contents.Contents, WellFormed.first_bad_word, WellFormed.IsWellFormed}
 use Rattle.checks.specs.Wrong.{wrong_words}

@@ -3,7 +3,7 @@ ghost use Rattle.checks.specs.internal.Marks.{ShowReached};
 
 use disassemblies::Sweep;
 
-/// What shows that a place of a text is reached. docs/OBJECTS.md has the rules. (own choice)
+/// What shows that a place of a text is reached. docs/OBJECTS.md has the rules.
 #[derive(Clone, Copy, Debug, PartialEq, Eq)]
 pub enum Evidence {
     /// The symbols of text, and operand words that count from the pc and are relocated so, which no data has. It may be data.

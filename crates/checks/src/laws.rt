@@ -2,18 +2,18 @@
 ghost use Rattle.checks.specs.{ReachedLaw.ReachedLaw, SureLaw.{SureLaw, SureWordsLaw}, WrongLaw.{WrongWordsLaw, WrongObjectsLaw}};
 
 /// No relocation word is shown as wrong if and only if the check of objects accepts them all. So with the magic number of an object,
-/// and with its relocation, a file is an object. (own choice)
+/// and with its relocation, a file is an object.
 pub fn wrong_words_law()
     ensures words { WrongWordsLaw }
     ensures objects { WrongObjectsLaw }
 {}
 
-/// Exactly the places are found of which there is evidence, or to which the line at such a place leads, and so on. (own choice)
+/// Exactly the places are found of which there is evidence, or to which the line at such a place leads, and so on.
 pub fn reached_law()
     ensures { ReachedLaw }
 {}
 
-/// What a text shows by it that nothing is suspicious in it for sure. (own choice)
+/// What a text shows by it that nothing is suspicious in it for sure.
 ///
 /// - `lines`: a whole instruction or a call begins at each sure place. A branch there leads into the text or to its end. If all
 ///   of the text is instructions, it does not lead within one.

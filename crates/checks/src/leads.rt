@@ -106,7 +106,7 @@ fn is_csv(symbol: &Symbol) -> bool
 }
 
 /// Whether a relocation word refers to the external `csv`, from the pc.
-fn is_external_csv(file: &File, reloc: Option<Reloc>) -> bool
+pub(crate) fn is_external_csv(file: &File, reloc: Option<Reloc>) -> bool
     ensures { result ≡ is_external_csv file.now reloc }
 {
     let Some(reloc) = reloc else {

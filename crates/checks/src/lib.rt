@@ -1,4 +1,5 @@
 //! What kind of file some bytes are, and what is wrong, odd or suspicious in it, for `v7-explain` and libv7.
+//! What names no manual page is our own choice.
 //!
 //! A finding has the byte of the file where it is, counted from 0. `wrong_bytes` and `wrong_words` find what is damaged, and why. `odd_of`
 //! finds what is not refused, but unusual. `suspicions_of` finds words of a text that are unlikely as instructions: no instruction begins

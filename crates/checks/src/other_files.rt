@@ -160,7 +160,7 @@ fn is_of_gnu_refused(refusal: Refusal, is_unread: bool) -> bool {
 
 /// Whether a file is in the form of GNU's assembler and of 2.11BSD, with symbols of 8 bytes and their names after them.
 /// A file without symbols has both forms, and is not recognized, and neither is one of another magic than 0407. `is_unread` says that the
-/// bytes are not a file of the Seventh Edition. (own choice)
+/// bytes are not a file of the Seventh Edition.
 ///
 /// An error: out of memory.
 pub fn is_of_gnu(alloc: Global, bytes: &[u8], is_unread: bool) -> Result<bool, AllocError> {

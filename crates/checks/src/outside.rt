@@ -145,7 +145,8 @@ pub(crate) fn is_sure_word(
         || (!is_moved(file)
             && (is_direct(sweep, part, number)
                 || (is_far(file.header(), segment, address)
-                    && (has_symbol_at(file, segment, u64::from(address) + start)
+                    && (address == 0
+                        || has_symbol_at(file, segment, u64::from(address) + start)
                         || is_shown(sweep, part, number, segment)))))
 }
 

@@ -125,7 +125,7 @@ impl Display for Outside {
     }
 }
 
-/// An address of text, with the nearest label at it or before it: `000022 (_stat+22)`. (own choice)
+/// An address of text, with the nearest label at it or before it: `000022 (_stat+22)`.
 #[derive(Clone, Copy)]
 pub struct TextAddress<'a> {
     pub names: &'a Names<'a>,
@@ -161,7 +161,7 @@ impl Display for SymbolName<'_> {
     }
 }
 
-/// What a finding calls a symbol: `symbol 3 _f`. (own choice)
+/// What a finding calls a symbol: `symbol 3 _f`.
 #[derive(Clone, Copy)]
 pub struct Title<'a> {
     pub number: usize,

@@ -250,7 +250,7 @@ fn spread(
     Ok(())
 }
 
-/// For each word of a file's text, whether an evidence shows that it is reached. An error: out of memory. (own choice)
+/// For each word of a file's text, whether an evidence shows that it is reached. An error: out of memory.
 pub fn reached_places(
     alloc: Global,
     evidence: Evidence,

@@ -43,7 +43,7 @@ fn bytes_under(alloc: Global, header: &Header, bytes: &[u8]) -> Result<Vec<u8>, 
     Ok(there)
 }
 
-/// The file of what is there of a file that ends early. Relocation words that are missing are 0. (own choice)
+/// The file of what is there of a file that ends early. Relocation words that are missing are 0.
 ///
 /// Errors: `AllocError` if memory runs out. No file is there of fewer than 16 bytes, with another magic number, or of odd sizes.
 pub fn decode_there(alloc: Global, bytes: &[u8]) -> Result<Result<File, ReadFault>, AllocError> {

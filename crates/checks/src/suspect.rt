@@ -49,14 +49,15 @@ impl Suspect<'_> {
     pub(crate) fn find_here(
         &self,
         findings: &mut Findings,
+        is_sure: bool,
         place: usize,
         kind: FindingKind,
         before: &str,
         after: &str,
     )
-        ensures { Finds findings.old findings.new (found_as self.now.trust.is_sure true place kind) }
+        ensures { Finds findings.old findings.new (found_as is_sure true place kind) }
     {
-        let (names, is_sure) = (self.lines.sweep.named().names(), self.trust.is_sure);
+        let names = self.lines.sweep.named().names();
         let (address, doubt) = (self.address(), doubt_text(is_sure));
         let at = TextAddress { names, address };
         let mut text = findings.text();

@@ -3,14 +3,14 @@ ghost use Rattle.std.specs.Prelude.{◌≡◌, ◌^◌, ◌<◌, length, IfOk};
 ghost use Rattle.instructions.specs.Instructions.{instruction_of};
 ghost use Rattle.checks.specs.{Found.{each_found, Finds}, Trust.trust, Branches.of_lines, internal.Marks.ShowReached};
 ghost use Rattle.checks.specs.declared.evidence.Evidence.TheVariants.{Names};
-ghost use Rattle.checks.specs.Suspicions.{reloc_place, may_begin, suspicious_operand, suspicious_lack, suspicious_plain};
+ghost use Rattle.checks.specs.Suspicions.{reloc_place, may_begin, is_exchanged, suspicious_operand, suspicious_lack, suspicious_plain};
 ghost use Rattle.checks.specs.Suspicions.{suspicious_line, suspicious_at, suspicious_place, suspicious_words, suspicions, all_odd};
 
 use crate::addresses::find_addresses;
 use crate::branches::find_branch;
 use crate::evidence::{Evidence, Reached};
 use crate::finding::{Finding, FindingKind, Findings};
-use crate::leads::{branch_of, reloc_at};
+use crate::leads::{branch_of, is_external_csv, reloc_at};
 use crate::odd::odd_of;
 use crate::places::FilePlaces;
 use crate::reached::{is_marked, reached_places};
@@ -75,18 +75,42 @@ fn find_operand(findings: &mut Findings, at: &Suspect<'_>, place: usize, operand
     }
 }
 
+/// Whether the word at a place refers to `csv`, and the word before it is that of `jsr r5` with its high byte first.
+fn is_exchanged(file: &File, place: usize) -> bool
+    ensures { result ≡ is_exchanged file.now place }
+{
+    let words = file.text_words();
+    0 < place
+        && matches!(words.get(place - 1).copied(), Some(0o73411))
+        && is_external_csv(file, reloc_at(file, place))
+}
+
 /// Adds a plain word at a place that is reached.
 fn find_lack(findings: &mut Findings, at: &Suspect<'_>, word: u16)
     ensures { Finds findings.old findings.new
         (suspicious_lack at.now.trust.is_sure at.now.start (instruction_of word)) }
 {
-    let place = word_place(at.start);
+    let (place, is_sure) = (word_place(at.start), at.trust.is_sure);
     if Instruction::from_first_word(word).is_some() {
         let (before, after) = ("the instruction at", " is cut by the end of the text");
-        at.find_here(findings, place, FindingKind::CutInstruction, before, after);
+        at.find_here(
+            findings,
+            is_sure,
+            place,
+            FindingKind::CutInstruction,
+            before,
+            after,
+        );
     } else {
         let (before, after) = ("an instruction leads to", ", where none begins");
-        at.find_here(findings, place, FindingKind::NoInstruction, before, after);
+        at.find_here(
+            findings,
+            is_sure,
+            place,
+            FindingKind::NoInstruction,
+            before,
+            after,
+        );
     }
 }
 
@@ -98,12 +122,16 @@ fn find_plain(findings: &mut Findings, at: &Suspect<'_>, word: u16)
     let file = at.lines.sweep.file();
     if is_relocated(reloc_at(file, at.start)) {
         if at.trust.is_reached || may_begin(file, at.start) {
+            let place = reloc_place(file, at.start);
+            let (before, after) = ("the first word of the instruction at", " is relocated");
+            let is_sure = at.trust.is_sure || is_exchanged(file, at.start);
             at.find_here(
                 findings,
-                reloc_place(file, at.start),
+                is_sure,
+                place,
                 FindingKind::RelocatedFirstWord,
-                "the first word of the instruction at",
-                " is relocated",
+                before,
+                after,
             );
         }
     } else if at.trust.is_reached {

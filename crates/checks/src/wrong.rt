@@ -202,7 +202,7 @@ fn put_bad_word(text: &mut Text, symbols: &[Symbol], bad: BadWord) {
     }
 }
 
-/// Appends the instruction that begins at a word, if it is one of text, as `; the instruction at 000002 (_f+2) is mov 0,r0`. (own choice)
+/// Appends the instruction that begins at a word, if it is one of text, as `; the instruction at 000002 (_f+2) is mov 0,r0`.
 pub fn put_instruction(text: &mut Text, named: &NamedFile<'_>, place: usize) {
     if place < named.file().text_words().len() {
         let labelled = TextAddress {
@@ -261,7 +261,7 @@ pub fn wrong_words(alloc: Global, file: &File) -> Result<Vec<Finding>, AllocErro
     findings.finish()
 }
 
-/// Whether it is a word of a file that makes `ld` refuse it. (own choice)
+/// Whether it is a word of a file that makes `ld` refuse it.
 pub fn is_damaged(refused: Option<ObjectFault>) -> bool
     ensures { result ≡ is_damaged refused }
 {

@@ -1,4 +1,4 @@
--- A writer that passes its bytes on in blocks. (own choice)
+-- A writer that passes its bytes on in blocks.
 --
 -- To write each line to a device would cost a call for each. So bytes wait until a block is full, or until they are flushed.
 use Rattle.std.specs.Prelude.{ℕ, List}

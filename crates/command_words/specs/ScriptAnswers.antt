@@ -1,4 +1,4 @@
--- What a reader of the lines of a script returns, call by call. (own choice)
+-- What a reader of the lines of a script returns, call by call.
 --
 -- Each call returns the next line that the bytes give, or why there is none, and that is returned for good. What was read and not
 -- used waits, less than a block of it, and the device is asked only if that does not determine the next line.

@@ -8,7 +8,7 @@ use std::marker::Model;
 
 /// A device, and at most `BLOCK_SIZE` bytes that wait for it. The device is written to once a block is full and more
 /// bytes come, and by a flush; bytes that wait when nobody flushes are lost. If a call of the device fails, what it
-/// did not take still waits. It takes no memory. (own choice)
+/// did not take still waits. It takes no memory.
 #[derive(Drop)]
 pub struct BlockWriter<W> {
     device: W,
@@ -26,7 +26,7 @@ impl<W> Model for BlockWriter<W> {
 impl<W: Write> BlockWriter<W> {
     ghost use Rattle.std.specs.{Prelude.{◌≡◌, ◌≤◌, [], length, take, drop, IfOk, IfErr}, Io.KnownBytes.{Keeps, append_known}};
 
-    /// A writer to the device in which nothing waits. (own choice)
+    /// A writer to the device in which nothing waits.
     pub fn new(device: W) -> BlockWriter<W>
         ensures device { result.device ≡ device }
         ensures waiting { result.waiting ≡ [] }

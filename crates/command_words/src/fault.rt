@@ -9,7 +9,7 @@ use clap::error::ErrorKind;
 use std::alloc::{AllocError, AllocFailed};
 use thiserror::Error;
 
-/// Why there is no call. (own choice)
+/// Why there is no call.
 #[derive(Clone, Copy, Debug, PartialEq, Eq, Error)]
 pub enum WordsFault {
     /// 1: the words ask for nothing that there is.

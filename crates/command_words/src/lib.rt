@@ -1,5 +1,6 @@
 //! The words of commands: the arguments of one, which name a tool, with options and files; and the lines of a session, which are
 //! read in blocks, with a writer that passes their answers on in blocks.
+//! What names no manual page is our own choice.
 #![tactic(auto)]
 
 mod block_reader;

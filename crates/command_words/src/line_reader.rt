@@ -24,7 +24,7 @@ enum Ending {
     Failed,
 }
 
-/// Why a script gives no further line. (own choice)
+/// Why a script gives no further line.
 #[derive(Clone, Copy, Debug, PartialEq, Eq)]
 pub enum Stop {
     /// It is at its end.
@@ -118,7 +118,7 @@ fn take_line<R: Read>(
     }
 }
 
-/// A script, read in blocks and given line by line. (own choice)
+/// A script, read in blocks and given line by line.
 #[derive(Drop)]
 pub struct LineReader<R> {
     alloc: Global,
@@ -142,7 +142,7 @@ impl<R> Model for LineReader<R> {
 }
 
 impl<R: Read + Drop> LineReader<R> {
-    /// A script of which no line was read. It requests memory for a line. (own choice)
+    /// A script of which no line was read. It requests memory for a line.
     ///
     /// Errors: `AllocError` if memory runs out for a line.
     pub fn new(alloc: Global, wire: Wire<R>) -> Result<LineReader<R>, AllocError>
@@ -161,7 +161,7 @@ impl<R: Read + Drop> LineReader<R> {
     /// The next line. A line ends at a newline; a last one without it counts if it is not empty, and the device is not
     /// asked again after it. The device is asked for a block, one read at a time, only while what is held does not
     /// settle the result: no whole line, at most 4,096 bytes of one, and no byte after the last line that may be given.
-    /// What a read gives is used at once. (own choice)
+    /// What a read gives is used at once.
     ///
     /// Errors: `End` at the end; `LongLine` for more than 4,096 bytes before a newline; `ManyLines` if there is
     /// anything after 1,000,000 lines; `ReadFailed` if the device failed; `Memory` if memory runs out for a path.

@@ -7,7 +7,7 @@ use std::alloc::{AllocError, Global};
 /// The most bytes of a line, its newline not counted.
 pub(crate) const LINE_LIMIT: usize = 4096;
 
-/// What a line of a script asks for. (own choice)
+/// What a line of a script asks for.
 #[derive(Debug, Drop)]
 pub enum Line {
     /// `add PATH`: the object at this path is added.

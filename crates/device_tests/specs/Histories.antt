@@ -1,6 +1,6 @@
 -- What a file system over memory was asked, as the events of a history.
 use Rattle.std.specs.Prelude.{List, map, Some, option_map, string_bytes}
-use Rattle.surroundings.specs.{Events.{Event, History, closed, looked, opened, stored, written}, declared.nodes.Found.TheVariants.NoFile}
+use Rattle.host.specs.{Events.{Event, History, closed, looked, opened, stored, written}, declared.nodes.Found.TheVariants.NoFile}
 use Rattle.device_tests.specs.declared.fixtures.asked.Asked.{Asked}
 use Rattle.device_tests.specs.declared.fixtures.asked.Asked.TheVariants.{Closed, Looked, Opened, Stored, Written}
 

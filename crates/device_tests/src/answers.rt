@@ -1,34 +1,32 @@
 //! When what a command prints goes out: how often it is flushed, that a session's answer is flushed before the next line is read,
 //! and that a flush that fails ends a command.
-use crate::fixtures::{failed_store, words};
+use crate::fixtures::{path_fault, words};
 use aout_core::samples::{C_O, Failing, TestReader, TestWriter};
 use aout_core::{File, Wire};
+use host::{Found, PathFault};
 use std::alloc::{AllocError, Global};
 use std::cell::Cell;
 use std::io;
 use std::io::{ErrorKind, Read, Write};
 use std::test::Fail;
-use surroundings::Found;
-use v7tools::{BlockWriter, Office, Outputs, Stored, perform};
+use v7tools::{BlockWriter, FileSystem, Outputs, Stored, perform};
 
 /// A file system of `c.o` alone, which counts the files that it is given.
 #[derive(Drop)]
 struct OneObject {
     stored: u32,
-    /// What becomes of each.
-    what: Stored,
 }
 
-impl Office for OneObject {
+impl FileSystem for OneObject {
     ghost use Rattle.std.specs.Prelude.{None, [], ◌∷◌};
-    ghost use Rattle.surroundings.specs.Events.{Extends, closed};
+    ghost use Rattle.host.specs.Events.{Extends, closed};
 
     type Source = TestReader<'static>;
 
-    fn open(&mut self, path: &str) -> Option<TestReader<'static>> {
+    fn open(&mut self, path: &str) -> Result<TestReader<'static>, PathFault> {
         match path {
-            "c.o" => Some(TestReader::whole(&C_O)),
-            _ => None,
+            "c.o" => Ok(TestReader::whole(&C_O)),
+            _ => Err(path_fault()),
         }
     }
 
@@ -44,32 +42,42 @@ impl Office for OneObject {
 
     fn store(&mut self, _: &str, _: &File) -> Stored {
         self.stored = self.stored.saturating_add(1);
-        self.what
+        Stored::Kept
     }
 
     fn store_text(&mut self, _: &str, _: &[u8]) -> Stored {
         self.stored = self.stored.saturating_add(1);
-        self.what
+        Stored::Kept
     }
 }
 
-/// The status of a command over a device for what it prints.
+/// What came of a command: its status, how many files it stored, and its line of a fault.
+#[derive(PartialEq, Eq, Drop)]
+struct Came {
+    status: u8,
+    stored: u32,
+    error: Vec<u8>,
+}
+
+/// Runs a command over a device for what it prints.
 fn run<R: Read + Drop, W: Write>(
     alloc: Global,
     arguments: &[&str],
     script: R,
     device: &mut W,
-) -> Result<u8, AllocError> {
+) -> Result<Came, AllocError> {
     let mut outputs = Outputs {
         output: Wire::new(BlockWriter::new(device)),
         error: Wire::new(TestWriter::whole(Vec::new(alloc))),
     };
     let arguments = words(alloc, arguments)?;
-    let mut office = OneObject {
-        stored: 0,
-        what: Stored::Kept,
-    };
-    Ok(perform(alloc, &mut office, script, &mut outputs, arguments))
+    let mut file_system = OneObject { stored: 0 };
+    let status = perform(alloc, &mut file_system, script, &mut outputs, arguments);
+    Ok(Came {
+        status,
+        stored: file_system.stored,
+        error: outputs.error.into_inner().into_taken(),
+    })
 }
 
 /// How often the device for what a command prints is flushed.
@@ -159,40 +167,9 @@ fn answers_before_the_next_line(rt: HostRuntime) -> Result<(), Fail> {
         waiting: 0,
         flushed: &flushed,
     };
-    let status = run(rt.alloc(), &["session"], typist, &mut device)?;
-    assert!(rt; status == 1 && flushed.get() == 60 && was_in_time.get());
+    let came = run(rt.alloc(), &["session"], typist, &mut device)?;
+    assert!(rt; came.status == 1 && flushed.get() == 60 && was_in_time.get());
     Ok(())
-}
-
-/// What came of a command: its status, how many files it stored, and its line of a fault.
-#[derive(PartialEq, Eq, Drop)]
-struct Came {
-    status: u8,
-    stored: u32,
-    error: Vec<u8>,
-}
-
-/// Runs a command over files of which this becomes, and a device for what it prints.
-fn run_failing(
-    alloc: Global,
-    arguments: &[&str],
-    script: &str,
-    what: Stored,
-    device: &mut TestWriter,
-) -> Result<Came, AllocError> {
-    let mut outputs = Outputs {
-        output: Wire::new(BlockWriter::new(device)),
-        error: Wire::new(TestWriter::whole(Vec::new(alloc))),
-    };
-    let arguments = words(alloc, arguments)?;
-    let mut office = OneObject { stored: 0, what };
-    let script = TestReader::whole(script.as_bytes());
-    let status = perform(alloc, &mut office, script, &mut outputs, arguments);
-    Ok(Came {
-        status,
-        stored: office.stored,
-        error: outputs.error.into_inner().into_taken(),
-    })
 }
 
 /// Whether a command writes just this, fails to flush it, and then ends with status 2, after so many files were stored.
@@ -205,7 +182,8 @@ fn ends_unflushed(
 ) -> Result<bool, AllocError> {
     let failure = Failing::Fails(ErrorKind::Other);
     let mut device = TestWriter::new(Vec::new(alloc), usize::MAX, output.len(), failure);
-    let came = run_failing(alloc, arguments, script, Stored::Kept, &mut device)?;
+    let script = TestReader::whole(script.as_bytes());
+    let came = run(alloc, arguments, script, &mut device)?;
     let wanted = Came {
         status: 2,
         stored,
@@ -236,26 +214,6 @@ fn outputs_that_fail_to_be_flushed(rt: HostRuntime) -> Result<(), Fail> {
             ends_unflushed(rt.alloc(), arguments, script, output, stored)?,
             "{stored} files"
         );
-    }
-    Ok(())
-}
-
-/// What became of a linked file that is not stored, and the line of its fault.
-fn unstored() -> [(Stored, &'static [u8]); 2] {
-    [
-        (Stored::NotCreated, b"v7: out: cannot create\n"),
-        (failed_store(), b"v7: write error\n"),
-    ]
-}
-
-#[test]
-fn failing_devices_storing(rt: HostRuntime) -> Result<(), Fail> {
-    let arguments = ["ld", "-o", "out", "c.o"].as_slice();
-    for (what, line) in unstored() {
-        let mut device = TestWriter::whole(Vec::new(rt.alloc()));
-        let came = run_failing(rt.alloc(), arguments, "", what, &mut device)?;
-        assert!(rt; came.status == 2 && came.error.as_slice() == line);
-        assert!(rt; device.calls() == 0);
     }
     Ok(())
 }

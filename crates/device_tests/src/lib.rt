@@ -7,6 +7,8 @@ mod answers;
 #[cfg(test)]
 mod block_writes;
 #[cfg(test)]
+mod disk;
+#[cfg(test)]
 mod emitting;
 #[cfg(test)]
 mod fault_texts;
@@ -16,11 +18,9 @@ pub mod fixtures;
 #[cfg(test)]
 mod links;
 #[cfg(test)]
-mod listing_texts;
-#[cfg(test)]
 mod lists;
 #[cfg(test)]
-mod memory_office;
+mod memory_file_system;
 #[cfg(test)]
 mod pieces;
 #[cfg(test)]

@@ -2,12 +2,12 @@
 use crate::fixtures::{TWO_OBJECTS, plain, wires};
 use aout_core::samples::{A_O, B_O, C_O, Failing, TestReader, TestWriter};
 use aout_core::{File, ReadFault, Wire, read_file};
+use host::{Stored, store_on, store_text_on};
 use link_out::{Keep, Linked};
 use link_session::Forced;
 use std::alloc::{AllocError, Global};
 use std::io::ErrorKind;
 use std::test::Fail;
-use surroundings::{Stored, store_on, store_text_on};
 use v7tools::{CliFault, ld};
 
 /// The link of bytes in memory, each with its path, without options but those that say which symbols are kept.

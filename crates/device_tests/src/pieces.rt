@@ -2,7 +2,6 @@
 ghost use Rattle.std.specs.Prelude.{◌<◌};
 
 use crate::fixtures::{v_o, written};
-use crate::links::FAILURES;
 use aout_core::samples::{A_O, Failing, TestReader, TestWriter};
 use aout_core::{File, ReadFault, Wire, read_file, write_file};
 use std::alloc::Global;
@@ -68,24 +67,6 @@ fn pieces_out(rt: HostRuntime) -> Result<(), Fail> {
         );
     }
     assert!(rt; calls(rt.alloc(), &v_o, usize::MAX) == Some(97));
-    Ok(())
-}
-
-/// Whether a file is refused twice by a device that fails after ten bytes, with no call the second time.
-fn is_not_repeated(alloc: Global, file: &File, failing: Failing) -> bool {
-    let mut wire = Wire::new(TestWriter::new(Vec::new(alloc), usize::MAX, 10, failing));
-    let is_refused = write_file(file, &mut wire).is_err() && write_file(file, &mut wire).is_err();
-    let writer = wire.into_inner();
-    is_refused && writer.calls() == 2 && writer.taken() == &A_O[..10]
-}
-
-#[test]
-fn failed_writes_are_not_repeated(rt: HostRuntime) -> Result<(), Fail> {
-    let alloc = rt.alloc();
-    let file = read_file(alloc, &mut Wire::new(TestReader::whole(&A_O)))?;
-    for failing in FAILURES {
-        assert!(rt; is_not_repeated(alloc, &file, failing));
-    }
     Ok(())
 }
 

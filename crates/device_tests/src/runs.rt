@@ -1,6 +1,5 @@
 //! Edits in one run: the replies to them, and the link of what they leave.
-use crate::fixtures::{file_of, plain, sized, written};
-use crate::links::link;
+use crate::fixtures::{file_of, plain, sized};
 use aout_core::samples::{C_O, D_O, TestReader};
 use aout_core::{Object, Wire, read_file};
 use link_out::{Edit, Keep, Layout, LinkFault, Options, Reply, RunFault, run};
@@ -82,33 +81,6 @@ fn runs_of_edits_that_do_not_fit(rt: HostRuntime) -> Result<(), Fail> {
     let edits = too_large(alloc).ok_or("no edits")?;
     let (replies, linked) = run(alloc, &Forced::none(), edits, &split)?;
     assert!(rt; are_but_the_last(&replies) && linked.report.status() == 0);
-    Ok(())
-}
-
-#[test]
-fn run_there_and_back(rt: HostRuntime) -> Result<(), Fail> {
-    let alloc = rt.alloc();
-    let first = adding(alloc, "c.o", &C_O).ok_or("no object")?;
-    let second = adding(alloc, "d.o", &D_O).ok_or("no object")?;
-    let edits = Vec::from_array(alloc, [first, second, Edit::Withdraw])?;
-    let (replies, linked) = run(alloc, &Forced::none(), edits, &plain(Keep::All))?;
-    assert!(rt;
-        matches!(
-            replies.as_slice(),
-            [Reply::Added, Reply::Added, Reply::Withdrew(_)]
-        )
-    );
-    let alone = link(alloc, &[("c.o", &C_O)], Keep::All)?;
-    assert!(rt; written(alloc, &linked.file)? == written(alloc, &alone.file)?);
-    assert!(rt; linked.report.undefined.as_slice() == alone.report.undefined.as_slice());
-    Ok(())
-}
-
-#[test]
-fn run_always_memory(rt: HostRuntime) -> Result<(), Fail> {
-    let alloc = rt.alloc();
-    let (replies, linked) = run(alloc, &Forced::none(), Vec::new(alloc), &plain(Keep::All))?;
-    assert!(rt; replies.is_empty() && linked.file.symbols().is_empty());
     Ok(())
 }
 

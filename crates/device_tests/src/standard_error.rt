@@ -1,9 +1,9 @@
 //! What standard error takes of a writer, and the errors that it returns.
+use host::StandardError;
 use std::cell::Cell;
 use std::fmt::{Display, Write as _};
 use std::io::{ErrorKind, Write};
 use std::{fmt, io};
-use surroundings::StandardError;
 
 /// A standard error that takes nothing.
 #[derive(Drop)]

@@ -3,7 +3,6 @@ use aout_core::Wire;
 use aout_core::samples::{Failing, TestReader, TestWriter};
 use std::alloc::Global;
 use std::io::ErrorKind;
-use std::test::Fail;
 
 /// Failures that another program might take for no failure at all.
 static PASSING: [ErrorKind; 3] = [
@@ -75,42 +74,4 @@ fn reads_after_no_bytes() -> bool {
 #[test]
 fn read_of_no_bytes(rt: HostRuntime) {
     assert!(rt; reads_after_no_bytes());
-}
-
-/// How often a writer that takes at most `most` bytes a call is written to for these bytes, where it then has them all.
-fn calls_for(alloc: Global, bytes: &[u8], most: usize) -> Option<u32> {
-    let writer = TestWriter::new(Vec::new(alloc), most, usize::MAX, Failing::TakesNothing);
-    let mut wire = Wire::new(writer);
-    let is_put = wire.put(bytes).is_ok() && !wire.failed();
-    let writer = wire.into_inner();
-    if is_put && writer.taken() == bytes {
-        Some(writer.calls())
-    } else {
-        None
-    }
-}
-
-#[test]
-fn long_puts(rt: HostRuntime) -> Result<(), Fail> {
-    let alloc = rt.alloc();
-    let bytes = vec![in alloc; b'x'; 70_000]?;
-    assert!(rt; calls_for(alloc, &bytes, usize::MAX) == Some(1));
-    assert!(rt; calls_for(alloc, &bytes[..5_001], usize::MAX) == Some(1));
-    assert!(rt; calls_for(alloc, &bytes[..5_001], 512) == Some(10));
-    Ok(())
-}
-
-#[test]
-fn flush_reaches_the_device(rt: HostRuntime) {
-    let mut wire = Wire::new(TestWriter::whole(Vec::new(rt.alloc())));
-    let is_flushed = wire.flush().is_ok() && !wire.failed();
-    assert!(rt; is_flushed && wire.into_inner().flushes() == 1);
-}
-
-#[test]
-fn failed_flush_is_latched(rt: HostRuntime) {
-    let broken = Failing::Fails(ErrorKind::BrokenPipe);
-    let mut wire = Wire::new(TestWriter::new(Vec::new(rt.alloc()), 1, 0, broken));
-    let is_latched = wire.flush().is_err() && wire.failed() && wire.flush().is_err();
-    assert!(rt; is_latched && wire.into_inner().flushes() == 1);
 }

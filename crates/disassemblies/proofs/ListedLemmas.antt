@@ -4,7 +4,7 @@ use Rattle.std.specs.Prelude.{get_or, slice_index}
 use Rattle.aout_core.specs.{declared.symbol.Symbol.Symbol, Contents.Contents}
 use Rattle.instructions.specs.{declared.unix.Decoder.Decoder, declared.unix.UnixLine.UnixLine, declared.line.Line.TheVariants.Plain}
 use Rattle.instructions.specs.{declared.unix.UnixLine.TheVariants.Machine, UnixLines.unix_length}
-use Rattle.disassemblies.specs.{Lines.unix_line_in, Listed.{has_label, have_label, listed_line, is_plain_line}}
+use Rattle.disassemblies.specs.{Lines.unix_line_in, Listed.{has_label, have_label, listed_line}}
 use Rattle.disassemblies.specs.internal.Labelled.{AreLabelled, any_marked}
 use Rattle.disassemblies.proofs.LineLemmas.{length_in, line_fits}
 
@@ -40,18 +40,6 @@ pub listed_fits : (d : Decoder) (c : Contents) (place : ℕ) → place < length 
 listed_fits d c place h =
     cut_fits (slice_index c.text_words place) (length c.text_words) place (unix_line_in d c place)
     (have_label c.symbols (place + 1) (unix_length (unix_line_in d c place) - 1)) h (line_fits d c place h)
-
-cut_plain : (w : ℕ) (line : UnixLine) (t : Bool) → is_plain_line (if t then Machine (Plain w) else line) ≡ false →
-    (if t then Machine (Plain w) else line) ≡ line
-cut_plain w line true h = absurd cc
-cut_plain w line false h = refl
-
--- and it is the whole one, if it is an instruction or a call
-pub listed_whole : (d : Decoder) (c : Contents) (place : ℕ) → is_plain_line (listed_line d c place) ≡ false →
-    listed_line d c place ≡ unix_line_in d c place
-listed_whole d c place h =
-    cut_plain (slice_index c.text_words place) (unix_line_in d c place)
-    (have_label c.symbols (place + 1) (unix_length (unix_line_in d c place) - 1)) h
 
 -- a word that is not marked is left out
 pub unmarked : (marks : List Bool) (place n rest : ℕ) → get_or marks place false ≡ false → n ≡ suc rest →

@@ -1,5 +1,4 @@
 -- The lines that a listing shows: each ends before the next label, so that instructions begin anew at each symbol of text.
--- (own choice)
 --
 -- If a symbol names a later word of the line that the words at a place begin, that line is cut: its first word is a line of its own.
 use Rattle.std.specs.{Prelude.{ℕ, zero, suc, ◌+◌, ◌-◌, ◌*◌, Bool, true, false, ◌||◌, if◌then◌else◌, List, slice_index}, List.list_any}

@@ -1,4 +1,4 @@
--- Which symbol names an address of a segment. (own choice)
+-- Which symbol names an address of a segment.
 --
 -- A symbol names its exact value only. Among the symbols with one segment and value an external names it, if there is one, and then
 -- the first of the table.

@@ -1,4 +1,4 @@
--- The nearest label of a segment at an address or before it. (own choice)
+-- The nearest label of a segment at an address or before it.
 --
 -- Of several with one value an external comes first, and then the first of the table.
 use Rattle.std.specs.Prelude.{ℕ, zero, suc, ◌-◌, nat_le, if◌then◌else◌, List, Option, Some, None}

@@ -41,7 +41,7 @@ fn put_rest_row(text: &mut Text, address: u16, words: &[u16]) {
     text.put_byte(b'\n');
 }
 
-/// Appends how often there is the row before, after the addresses of these rows: `: the row before, 8 times`. (own choice)
+/// Appends how often there is the row before, after the addresses of these rows: `: the row before, 8 times`.
 pub fn put_again(text: &mut Text, times: u32) {
     match times {
         1 => text.put(": the row before, once\n"),
@@ -117,14 +117,14 @@ fn put_lines(
 
 /// Appends the lines of a file's text in columns: the address, two blanks, one to three words in 20 columns, two blanks, and
 /// the text of the line with its remarks. A system call may have more words, which are in a row below it. Labels precede their lines, and
-/// those of the end of the text are last. (own choice)
+/// those of the end of the text are last.
 pub fn put_disassembly(text: &mut Text, decoder: Decoder, file: &File) {
     if let Err(error) = put_lines(text, decoder, file, 0, usize::MAX) {
         text.cut(error);
     }
 }
 
-/// Appends those of these lines that begin at an address or after it, and before another one. (own choice)
+/// Appends those of these lines that begin at an address or after it, and before another one.
 pub fn put_disassembly_between(text: &mut Text, file: &File, first: u16, last: u16) {
     if let Err(error) = put_lines(
         text,
@@ -138,7 +138,7 @@ pub fn put_disassembly_between(text: &mut Text, file: &File, first: u16, last: u
 }
 
 /// Appends the lines of words in the columns of `put_disassembly`, without names and labels. The first word is at the address,
-/// and the address after 177776 is 0. (own choice)
+/// and the address after 177776 is 0.
 ///
 /// Memory may run out only if there are words.
 pub fn put_plain_disassembly(text: &mut Text, address: u16, words: &[u16])

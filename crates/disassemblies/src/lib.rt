@@ -1,4 +1,5 @@
 //! Shows the text of a file as instructions with names, as `objdump -d` does for other systems.
+//! What names no manual page is our own choice.
 //!
 //! ```rust
 //! use disassemblies::put_disassembly;

@@ -97,7 +97,7 @@ impl<'a> ListedLines<'a> {
     }
 
     /// The line at a place of the text, which counts words: the one that the words there begin, or the first word alone, if a
-    /// symbol of text names a later word of that line. (own choice)
+    /// symbol of text names a later word of that line.
     #[tactic(auto, using(crate::proofs::ListedLemmas::listed_by))]
     pub fn at(&self, decoder: Decoder, place: usize) -> UnixLine
         requires { place < length self.now.text_words }

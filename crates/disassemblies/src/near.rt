@@ -35,7 +35,7 @@ fn nearest_within(
     }
 }
 
-/// The nearest label of a segment at an address or fewer than 0400 bytes before it, and the bytes between them. (own choice)
+/// The nearest label of a segment at an address or fewer than 0400 bytes before it, and the bytes between them.
 pub(crate) fn near_reference(
     names: &Names<'_>,
     segment: Segment,
@@ -46,7 +46,7 @@ pub(crate) fn near_reference(
 
 impl Names<'_> {
     /// The nearest label of a segment at an address or before it, and the bytes between them: of several at one address an external
-    /// one, or else the first of the table. (own choice)
+    /// one, or else the first of the table.
     #[tactic(auto, unfolding(crate::specs::Near::nearest_label))]
     pub fn nearest_label(&self, segment: Segment, address: u16) -> Option<Reference>
         ensures { result ≡ nearest_label self.now.symbols.now segment address }

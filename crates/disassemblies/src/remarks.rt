@@ -26,7 +26,7 @@ fn put_pointed(text: &mut Text, file: &File, reloc: Reloc, number: u16) {
 }
 
 /// Appends what a number refers to by its relocation word: a symbol with this address, or the label near it, or its segment and the
-/// address; and the string there. (own choice)
+/// address; and the string there.
 pub fn put_pointed_text(text: &mut Text, file: &NamedFile<'_>, reloc: Reloc, number: u16) {
     let names = file.names();
     let reference = match reloc.kind() {

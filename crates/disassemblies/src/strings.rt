@@ -65,7 +65,7 @@ pub(crate) fn put_string(text: &mut Text, before: &str, words: &[u16], place: us
 }
 
 /// Appends the string that begins in a word of data, in quotation marks: two or more bytes of text and a NUL, after a byte that is not
-/// of text. At most 40 bytes are shown. If none begins there, nothing is appended. (own choice)
+/// of text. At most 40 bytes are shown. If none begins there, nothing is appended.
 pub fn put_string_in(text: &mut Text, words: &[u16], place: usize) {
     let first = place.wrapping_mul(2);
     for place in [first, first.wrapping_add(1)] {

@@ -98,7 +98,7 @@ impl<'a> Sweep<'a> {
         self.named.file()
     }
 
-    /// The line that a listing shows at a place of the text, which counts words, if one begins there. (own choice)
+    /// The line that a listing shows at a place of the text, which counts words, if one begins there.
     pub fn line_from(&self, place: usize) -> Option<UnixLine>
         ensures { result ≡ swept_line self.now place }
     {

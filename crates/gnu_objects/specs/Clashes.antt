@@ -1,4 +1,4 @@
--- Externals whose names differ, and are equal in eight bytes. (own choice)
+-- Externals whose names differ, and are equal in eight bytes.
 use Rattle.std.specs.Prelude.{ℕ, Bool, true, not, ◌==◌, if◌then◌else◌, List, [], ◌∷◌, ◌++◌, length, map, take, Option, Some, None}
 use Rattle.std.specs.List.{flat_map, list_any}
 use Rattle.aout_core.specs.{declared.header.Header.Header, Decoding.header_in}

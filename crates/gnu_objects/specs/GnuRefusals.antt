@@ -1,4 +1,4 @@
--- Why an object in GNU's form is refused, the first reason that applies. (own choice)
+-- Why an object in GNU's form is refused, the first reason that applies.
 --
 -- First the header and the sizes are checked, then the strings, each symbol, the entry point, the number of symbols that stay, the
 -- externals, of which no two may be equal in eight bytes only, and last the relocation words.

@@ -1,4 +1,4 @@
--- The law of conversion: what an object in GNU's form and the object that it becomes have in common. (own choice)
+-- The law of conversion: what an object in GNU's form and the object that it becomes have in common.
 use Rattle.std.specs.{Prelude.{◌≡◌, ◌≢◌, ℕ, ◌+◌, ◌/◌, true, List, map, take, drop, slice_get, Some, Ok}, List.AllZip}
 use Rattle.aout_core.specs.{declared.header.Header.Header, declared.reloc.Reloc.Reloc, declared.reloc.Kind.TheVariants.External}
 use Rattle.aout_core.specs.{Contents.Contents, Decoding.header_in, WellFormed.kind_of, WellFormed.is_pc_relative, WellFormed.symbol_number}

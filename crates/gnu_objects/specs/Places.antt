@@ -1,4 +1,4 @@
--- The byte of a file that a refusal is about. (own choice)
+-- The byte of a file that a refusal is about.
 use Rattle.std.specs.Prelude.{ℕ, ◌+◌, ◌*◌, nat_lt, if◌then◌else◌, List, take, length}
 use Rattle.aout_core.specs.declared.object.ObjectFault.TheVariants.{NotAnObject, NoRelocation, BadRelocation, BadSymbolNumber}
 use Rattle.aout_core.specs.Encoding.{relocation_at, symbols_at, file_length}

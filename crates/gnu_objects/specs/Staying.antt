@@ -1,4 +1,4 @@
--- Which symbols stay in the table, and names that are equal in eight bytes. (own choice)
+-- Which symbols stay in the table, and names that are equal in eight bytes.
 --
 -- Externals stay. Symbols for a debugger go. A local goes if the options drop it, and also if its name, cut at eight bytes, is
 -- that of another symbol whose whole name differs.

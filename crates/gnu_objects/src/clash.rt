@@ -12,7 +12,7 @@ use crate::whole::{strings_of, symbols_of, whole_header};
 use indexmap::IndexMap;
 use std::alloc::{AllocError, Global};
 
-/// Two externals whose names differ, and are equal in their first eight bytes: one, and an earlier one. (own choice)
+/// Two externals whose names differ, and are equal in their first eight bytes: one, and an earlier one.
 #[derive(Clone, Copy)]
 pub struct Clash<'a> {
     /// The number of the file that has the first, counted from 0.
@@ -126,7 +126,7 @@ fn clashes_in<'a>(alloc: Global, all: &[External<'a>]) -> Result<Vec<Clash<'a>>,
 
 /// The externals of these files whose names differ from that of an earlier one, and are equal to it in their first eight bytes, since
 /// a link would take these for one name. A file that `convert` refuses for its header, its sizes or its strings has no externals here.
-/// The time grows with the files, and for each clash with the externals before it. (own choice)
+/// The time grows with the files, and for each clash with the externals before it.
 ///
 /// Errors: `AllocError` if memory runs out.
 pub fn clashes_among<'a>(alloc: Global, files: &[&'a [u8]]) -> Result<Vec<Clash<'a>>, AllocError>

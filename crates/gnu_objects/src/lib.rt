@@ -1,4 +1,5 @@
 //! Converts objects of GNU's assembler for the PDP-11 (`pdp11-aout`) to objects of the Seventh Edition.
+//! What names no manual page is our own choice.
 //!
 //! ```rust
 //! use gnu_objects::{Options, Refusal, convert, place_of};

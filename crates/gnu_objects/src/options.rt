@@ -1,6 +1,6 @@
 //! What a conversion leaves out.
 
-/// Which local symbols stay in a converted object. (own choice)
+/// Which local symbols stay in a converted object.
 #[derive(Clone, Copy, Debug, PartialEq, Eq)]
 pub enum Locals {
     KeepAll,
@@ -9,7 +9,7 @@ pub enum Locals {
     KeepNone,
 }
 
-/// The options of a conversion. (own choice)
+/// The options of a conversion.
 #[derive(Clone, Copy, Debug, PartialEq, Eq)]
 pub struct Options {
     /// Symbols for a debugger are dropped. If not, an object that has one is refused.

@@ -16,7 +16,7 @@ fn symbol_place(header: &Header, n: u16) -> usize
 }
 
 /// The byte of the file, counted from 0, at which `convert` found what it refuses: a word of the header, the length of the
-/// strings, a symbol, the second of two, or a relocation word; or the end of a file that is too short. (own choice)
+/// strings, a symbol, the second of two, or a relocation word; or the end of a file that is too short.
 pub fn place_of(bytes: &[u8], refusal: Refusal) -> usize
     ensures { result ≡ place_of bytes.now refusal }
 {
@@ -48,7 +48,7 @@ pub fn place_of(bytes: &[u8], refusal: Refusal) -> usize
 }
 
 /// The whole name of symbol `n`, counted from 0. It has no bytes if `convert` refuses the file for its header or its
-/// strings, or if there is no such symbol. (own choice)
+/// strings, or if there is no such symbol.
 pub fn whole_name(bytes: &[u8], n: u16) -> &[u8] {
     match whole_header(bytes) {
         Ok(header) if n < header.symbol_size / 8 => {

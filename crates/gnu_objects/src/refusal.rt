@@ -7,7 +7,7 @@ use aout_core::{ObjectFault, Refused};
 use std::alloc::{AllocError, AllocFailed};
 use thiserror::Error;
 
-/// A size in the header. (own choice)
+/// A size in the header.
 #[derive(Clone, Copy, Debug, PartialEq, Eq, Error)]
 pub enum Size {
     #[error("text")]
@@ -21,7 +21,7 @@ pub enum Size {
 }
 
 /// Why an object in GNU's form is refused. Symbols are counted from 0, and so are words, first those of text and then
-/// those of data. (own choice)
+/// those of data.
 #[derive(Clone, Copy, Debug, PartialEq, Eq, Error)]
 pub enum Refusal {
     /// 1: fewer than 16 bytes.

@@ -7,7 +7,7 @@ use crate::staying::{is_chosen, is_external};
 use crate::whole::{relocation_of, strings_of, symbols_of, whole_header};
 use std::alloc::Global;
 
-/// What there is to say of a symbol that is converted. (own choice)
+/// What there is to say of a symbol that is converted.
 #[derive(Clone, Copy)]
 pub enum Remark<'a> {
     /// An external has this name of more than eight bytes.
@@ -17,7 +17,7 @@ pub enum Remark<'a> {
 }
 
 /// What there is to say of the symbols of an object in GNU's form that is converted with these locals, in their order:
-/// each external whose name is cut, and each local that goes only because of its name. (own choice)
+/// each external whose name is cut, and each local that goes only because of its name.
 ///
 /// Errors: `ShortHeader`, 1, `BadMagic`, 2, `OddSize`, 3, `Truncated`, 4, and `BadStrings`, 5, as `convert` says; and
 /// `Memory`, 16, if memory runs out.

@@ -1,4 +1,4 @@
--- When two texts decode alike: line by line the same operations, modes, registers and numbers, with other operand words. (own choice)
+-- When two texts decode alike: line by line the same operations, modes, registers and numbers, with other operand words.
 use Rattle.std.specs.Prelude.{◌≡◌, ℕ, zero, suc, ◌+◌, Bool, false, nat_lt, Option, Some, None, List, [], ◌∷◌, length, drop}
 use Rattle.instructions.specs.{Instructions.{instruction_of, word_count_of, following_words}, declared.instruction.Instruction.Instruction}
 use Rattle.instructions.specs.{declared.line.Line.Line, declared.line.Line.TheVariants.{Plain, Decoded}, Lines.{line_of, line_length}}

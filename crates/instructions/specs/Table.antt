@@ -2,7 +2,7 @@
 --
 -- Read each line aloud: the operands in the order of the text, and then, for each instruction, the word whose fields are all 0 and the
 -- operation. Fields has the bits of each operand. The lines are in the order of the assembler's manual, and at their end are those of
--- other machines of the family. What is left out (own choice) are those for the maintenance of the floating-point processor, 170003 to
+-- other machines of the family. What is left out are those for the maintenance of the floating-point processor, 170003 to
 -- 170007.
 use Rattle.std.specs.Prelude.{ℕ, Option, Some, None, List, [], ◌∷◌, ◌++◌, map}
 use Rattle.instructions.specs.declared.operation.Operation.TheVariants.{Clc, Clv, Clz, Cln, Sec, Sev, Sez, Sen, Halt, ClcClv, ClcClz}

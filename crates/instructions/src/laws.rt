@@ -7,7 +7,7 @@ ghost use Rattle.instructions.specs.Calls.{system_calls};
 
 use crate::line::{Words, decode, encode};
 
-/// The words of the line that is decoded at a place, which are those of the list. (own choice)
+/// The words of the line that is decoded at a place, which are those of the list.
 #[tactic(auto, using(crate::proofs::LineLemmas::start_again, crate::proofs::LineLemmas::identity))]
 pub fn words_again(words: &[u16], place: usize) -> Words
     requires { place < length words.now }
@@ -16,7 +16,7 @@ pub fn words_again(words: &[u16], place: usize) -> Words
     encode(&decode(words, place))
 }
 
-/// At each place of every list of words, the words of the line that is decoded there are those of the list. (own choice)
+/// At each place of every list of words, the words of the line that is decoded there are those of the list.
 pub fn identity_law()
     ensures { IdentityLaw }
 {}
@@ -27,7 +27,7 @@ pub fn first_word_law()
     ensures { FirstWordLaw }
 {}
 
-/// Every list of words is decoded whole, in lines of one to three words without a gap. (own choice)
+/// Every list of words is decoded whole, in lines of one to three words without a gap.
 pub fn total_law()
     ensures { TotalLaw }
 {}
@@ -43,7 +43,7 @@ pub fn table_law()
     ensures found { RowsAreFound }
 {}
 
-/// With either decoder the words of each line are those of the list, the arguments of a system call too. (own choice)
+/// With either decoder the words of each line are those of the list, the arguments of a system call too.
 pub fn unix_identity_law()
     ensures { UnixIdentityLaw }
 {}
@@ -54,7 +54,7 @@ pub fn unix_first_word_law()
     ensures { UnixFirstWordLaw }
 {}
 
-/// With either decoder every list of words is decoded whole, in lines of one to five words without a gap. (own choice)
+/// With either decoder every list of words is decoded whole, in lines of one to five words without a gap.
 pub fn unix_total_law()
     ensures { UnixTotalLaw }
 {}

@@ -1,4 +1,5 @@
 //! Decodes words of text into instructions and the text of the Seventh Edition's assembler, and encodes them again.
+//! What names no manual page is our own choice.
 //!
 //! ```rust
 //! use instructions::decode;

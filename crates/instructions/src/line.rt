@@ -15,7 +15,7 @@ pub enum Line {
     Decoded(Instruction, Option<u16>, Option<u16>),
 }
 
-/// The words of a line, one to three. (own choice)
+/// The words of a line, one to three.
 #[derive(Clone, Copy, Debug, PartialEq, Eq)]
 pub enum Words {
     One([u16; 1]),
@@ -24,7 +24,7 @@ pub enum Words {
 }
 
 impl Words {
-    /// The words in order. (own choice)
+    /// The words in order.
     pub fn as_slice(&self) -> &[u16]
         ensures { result.now ≡ listed self.now }
     {

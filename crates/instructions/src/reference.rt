@@ -31,7 +31,7 @@ fn is_taken(name: &[u8]) -> bool {
 }
 
 /// Appends a name as the assembler has it. A byte that is not a letter, a digit, `_`, `.` or `~` is a backslash and three octal
-/// digits; so is the first one of a name that begins with a digit or is a register's, and an empty name is `\000`. (own choice)
+/// digits; so is the first one of a name that begins with a digit or is a register's, and an empty name is `\000`.
 pub fn put_assembly_name(text: &mut Text, name: &Name) {
     let bytes = name.as_bytes();
     if bytes.is_empty() {

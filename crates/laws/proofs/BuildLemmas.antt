@@ -16,7 +16,7 @@ use Rattle.link_out.specs.{Inputs.{Refusal, linked, not_linked, object_in, with_
 use Rattle.link_out.specs.{function.Link.{Outcome, link}, function.Reports.{ReportNames, report_text, status_of}}
 use Rattle.link_out.proofs.partial_links.PartialTheorem.{relocatable_is_object}
 use Rattle.tool_options.specs.{declared.options.Keep.Keep, Choices.Choices}
-use Rattle.surroundings.specs.{Events.{Opened, opens, stored}, declared.office.Stored.TheVariants.Kept}
+use Rattle.host.specs.{Events.{Opened, opens, stored}, declared.file_system.Stored.TheVariants.Kept}
 use Rattle.laws.specs.Builds.{AreLdRuns, BuildsLaw, Command, EndAlike, IsBuild, NoneIsMultiple, OnceLaw, ElsewhereLaw, Holds, IsLdRun}
 use Rattle.laws.specs.Builds.{Leaves, MayReplace, SayAlike, StoreAlike, at_once, disk_left, itself, leaves_after, leaves_of}
 use Rattle.laws.specs.{PartialLinksAmongOthers.grouped, Disks.{Disk, Run, IsOn, Writes, disk_after, with_file}, SessionsByCommands.Says}

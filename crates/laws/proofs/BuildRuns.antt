@@ -8,8 +8,8 @@ use Rattle.link_out.specs.{declared.linked.Linked.Linked, FaultTexts.link_text, 
 use Rattle.link_out.specs.{Results.Outcome, function.Reports.report_text, function.Reports.status_of}
 use Rattle.link_out.specs.Inputs.{Refusal, linked, of_input, not_linked, bad_file, bad_object, not_added}
 use Rattle.link_out.specs.declared.linked.LinkFault.TheVariants as links
-use Rattle.surroundings.specs.declared.office.Stored.TheVariants.{Kept, NotCreated, Failed}
-use Rattle.surroundings.specs.{Events.{Event, Extends, Opened, opened, opens, paths_of, stored}, declared.office.Stored.Stored}
+use Rattle.host.specs.declared.file_system.Stored.TheVariants.{Kept, NotCreated, Failed}
+use Rattle.host.specs.{Events.{Event, Extends, Opened, opened, opens, path_fault, paths_of, stored}, declared.file_system.Stored.Stored}
 use Rattle.v7tools.specs.LinkRuns.{IsLinkOfFiles, Refuses, Reports, ReportsIf, closings}
 use Rattle.v7tools.specs.{CommandRuns.Ends, FaultTexts.cause_text, FaultTexts.cli_text, FaultTexts.fault_line}
 use Rattle.v7tools.specs.{LinkAnswers.{IsDeviceFault, IsLinkOfBytes, IsTrueOf, said_by}, declared.fault.CliFault.CliFault}
@@ -128,7 +128,7 @@ module _ {W E : Type 0} (out_contents : W → Option (List ℕ)) (error_contents
         events = append_cancel_left r.earlier r.events (opens found ++ stored (string_bytes d.output) made.file Kept ∷ []) asked
             ∙ ap (λ (path : List ℕ). opens found ++ stored path made.file Kept ∷ []) d.out_path;
       }
-      by_what made found NotCreated answer asked reports = absurd (no_fault c r d small (faults.CannotCreate d.output) reports.0)
+      by_what made found (NotCreated _) answer asked reports = absurd (no_fault c r d small (faults.CannotCreate d.output) reports.0)
       by_what made found (Failed _) answer asked reports = absurd (no_fault c r d small (faults.WriteFailed device_fault) reports.0)
 
       by_ran : Rattle.v7tools.specs.LinkRuns.IsLinkRun out_contents c.forced c.options d.output c.inputs (Some r.earlier)
@@ -213,8 +213,8 @@ module _ {W E : Type 0} (out_contents : W → Option (List ℕ)) (error_contents
       by_what made found Kept answer events reports =
           reported made found answer.all
           (answer_by_bytes found (Ok made) (stored c.out made.file Kept ∷ []) events answer) events d.did.0 refl reports
-      by_what made found NotCreated answer events reports =
-          let at = ap (λ (path : List ℕ). opens found ++ stored path made.file NotCreated ∷ []) (sym d.out_path) in
+      by_what made found (NotCreated _) answer events reports =
+          let at = ap (λ (path : List ℕ). opens found ++ stored path made.file (NotCreated path_fault) ∷ []) (sym d.out_path) in
           cannot_write (faults.CannotCreate d.output) reports.0 (made.file, (opens found, events ∙ at))
       by_what made found (Failed fault) answer events reports =
           cannot_write (faults.WriteFailed device_fault) reports.0 (inr (c.out, made.file, fault, (opens found, events)))

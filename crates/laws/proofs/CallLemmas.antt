@@ -6,7 +6,7 @@ use Rattle.tool_options.specs.Choices.{Choices}
 use Rattle.command_words.specs.declared.words.Call.TheVariants.{Ld, Nm, Size, Strip, Session}
 use Rattle.command_words.specs.{LinkWords.{forced_asked, options_asked, values_of}, declared.words.Call.Call, Calls.{name_of, program}}
 use Rattle.aout_core.specs.{Refusals.refused, Wires.Latched}
-use Rattle.surroundings.specs.Events.{History, Extends}
+use Rattle.host.specs.Events.{History, Extends}
 use Rattle.v7tools.specs.CommandRuns.{AsksFor, IsCallRun, RefusesWords, RunsCall}
 use Rattle.v7tools.specs.{Calls.fault_of_words, LinkRuns.IsLinkRun, LinkRuns.Refuses, SessionRuns.IsSessionRun, declared.fault.CliFault.CliFault}
 use Rattle.v7tools.specs.declared.fault.CliFault.TheVariants as faults

@@ -9,7 +9,7 @@ use Rattle.link_out.specs.Inputs.{Cause, Refusal, not_added, at_path, kept_with,
 use Rattle.link_out.specs.{declared.linked.LinkFault.LinkFault, function.Link.{Outcome, link}, Steps.{and_then, unless}}
 use Rattle.link_session.proofs.EditLemmas.{without_last-put_last}
 use Rattle.tool_options.specs.Choices.{Choices}
-use Rattle.surroundings.specs.Events.{Event, Opened}
+use Rattle.host.specs.Events.{Event, Opened}
 use Rattle.command_words.specs.Scripts.{Asked, to_add, to_withdraw, for_externals, for_undefined, to_link, for_nothing}
 use Rattle.v7tools.specs.Answers.{refused, Stepped, add_step, withdraw_step}
 use Rattle.v7tools.specs.LineRuns.{DoesStep, IsAddOf, IsAddWorking, IsLineOf, LineRun, OpensOne, status_after}

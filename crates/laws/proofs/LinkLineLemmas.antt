@@ -13,8 +13,8 @@ use Rattle.link_out.specs.{Outcomes.report_names, Results.Outcome, Steps.and_the
 use Rattle.link_out.specs.{function.Reports.line, function.Reports.status_of, Inputs.Refusal, Inputs.linked, Inputs.not_linked}
 use Rattle.link_out.specs.declared.linked.LinkFault.TheVariants as links
 use Rattle.tool_options.specs.Choices.{Choices}
-use Rattle.surroundings.specs.declared.office.Stored.TheVariants.{Kept, NotCreated, Failed}
-use Rattle.surroundings.specs.{Events.{Event, Extends, Opened, opened, opens, paths_of, stored}, declared.office.Stored.Stored}
+use Rattle.host.specs.declared.file_system.Stored.TheVariants.{Kept, NotCreated, Failed}
+use Rattle.host.specs.{Events.{Event, Extends, Opened, opened, opens, paths_of, stored}, declared.file_system.Stored.Stored}
 use Rattle.v7tools.specs.{LinkRuns.{IsLinkOfFiles, IsLinkRun, Refuses, Reports, ReportsIf, closings, inputs_opened}, Answers.link_answer_text}
 use Rattle.v7tools.specs.{CommandRuns.Ends, FaultTexts.{cli_text, no_memory}, LineRuns.{IsLineOf, LineRun}}
 use Rattle.v7tools.specs.{LinkAnswers.{IsDeviceFault, IsLinkOfBytes, IsTrueOf, known_inputs, said_by}, declared.fault.CliFault.CliFault}
@@ -177,7 +177,7 @@ module _ {W E : Type 0} (out_contents : W → Option (List ℕ)) (error_contents
         l.events ≡ opens left ++ stored (string_bytes output) made.file what ∷ [] →
         ReportsIf out_contents what output (report_names made.report) result l.output_before l.output_after → Ended
     stored_by output at made same Kept events h = search rules
-    stored_by output at made same NotCreated events h =
+    stored_by output at made same (NotCreated _) events h =
         inr (inr (failed CannotWrite (faults.CannotCreate output) h.0 (made.file, (opens left, events))))
     stored_by output at made same (Failed fault) events h =
         inr (inr (failed CannotWrite (faults.WriteFailed device_fault) h.0 (inr (string_bytes output, made.file, fault, (opens left, events)))))

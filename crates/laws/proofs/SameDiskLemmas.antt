@@ -5,7 +5,7 @@ use Rattle.std.specs.{List.AllByRecursion, Prelude.◌≢◌, Prelude.IfSome, Pr
 use Rattle.command_words.specs.Scripts.{Asked, to_add, to_withdraw}
 use Rattle.link_session.specs.Edits.{without_last}
 use Rattle.link_session.proofs.ListLemmas.{all_append}
-use Rattle.surroundings.specs.Events.{Event, Opened, closed, looked, opened, stored, written}
+use Rattle.host.specs.Events.{Event, Opened, closed, looked, opened, stored, written}
 use Rattle.v7tools.specs.{LineRuns.LineRun, SessionRuns.events_of}
 use Rattle.aout_core.specs.Encoding.{encoding}
 use Rattle.laws.specs.Disks.{Disk, IsOn, disk_after, text_left, with_file}

@@ -8,7 +8,7 @@ use Rattle.link_session.specs.{declared.entry.AddFault.AddFault, Edits.last_of, 
 use Rattle.link_out.specs.{Inputs.{Cause, not_added, kept_with}, Steps.unless, function.Reports.line}
 use Rattle.link_session.proofs.EditLemmas.{last_of-put_last, without_last-put_last}
 use Rattle.tool_options.specs.Choices.{Choices}
-use Rattle.surroundings.specs.{Events.{closed, opened}, Sources.reading}
+use Rattle.host.specs.{Events.{closed, opened}, Sources.reading}
 use Rattle.v7tools.specs.Answers.{refused, Stepped, add_step, withdraw_step}
 use Rattle.v7tools.specs.LineRuns.{DoesStep, IsAddOf, IsLineOf, LineRun, OpensOne, status_after}
 use Rattle.v7tools.specs.SessionRuns.{Chains, answers_of, events_of, lines_asked, worst}

@@ -9,7 +9,7 @@ use Rattle.aout_core.specs.{Contents.Contents, Words.AreBytes}
 use Rattle.link_session.specs.{Labelled.Labelled, Labelled.objects, Mentions.mentions, States.multiple_names}
 use Rattle.link_out.specs.{Inputs.with_inputs, laws.PartialLinks.IsPart, laws.PartialLinks.KeepsNoMore}
 use Rattle.tool_options.specs.Choices.{Choices}
-use Rattle.surroundings.specs.{Events.{stored, Opened, opens, paths_of}, declared.office.Stored.TheVariants.Kept}
+use Rattle.host.specs.{Events.{stored, Opened, opens, paths_of}, declared.file_system.Stored.TheVariants.Kept}
 use Rattle.laws.specs.SessionsByCommands.{CannotRead, CannotWrite, FailsBy, IsOpening, Says}
 use Rattle.laws.specs.{Disks.{Disk, IsOn, Run, Writes, disk_after}, Calls.{AsksToLink, DoesPerform}}
 

@@ -1,4 +1,4 @@
--- What a run of the program is, by its arguments: that of the session or the `ld` that they ask for. (own choice)
+-- What a run of the program is, by its arguments: that of the session or the `ld` that they ask for.
 use Rattle.std.specs.{Prelude.{◌≡◌, ℕ, List, map, Option, String, Vec, string_bytes}, declared.alloc.Global.Global}
 use Rattle.tool_options.specs.Choices.{Choices}
 use Rattle.command_words.specs.declared.words.Call.TheVariants.{Ld, Session}

@@ -1,5 +1,5 @@
 -- Laws of sessions: a line `link P` of a session does what `ld` does with the files that are left, and two lines that add a file and
--- withdraw it leave no trace. (own choice)
+-- withdraw it leave no trace.
 --
 -- A session's run is taken line by line: what each line asked of the system, what it answered, and its status. The files that are
 -- left after some lines are those that were added and not withdrawn, with the bytes that were read there. Nothing is assumed of the
@@ -10,8 +10,8 @@ use Rattle.aout_core.specs.{declared.file.ReadFault.TheVariants.Device, declared
 use Rattle.link_session.specs.{Edits.without_last, Labelled.Labelled}
 use Rattle.link_out.specs.function.Reports.{line}
 use Rattle.tool_options.specs.Choices.{Choices}
-use Rattle.surroundings.specs.Events.{Event, closed, looked, opened, stored, written, Opened, opens, paths_of}
-use Rattle.surroundings.specs.{Emits.PutsUnless, declared.nodes.Found.Found, declared.office.Stored.Stored, declared.office.Stored.TheVariants.{Kept, NotCreated, Failed}}
+use Rattle.host.specs.Events.{Event, closed, looked, opened, path_fault, stored, written, Opened, opens, paths_of}
+use Rattle.host.specs.{Emits.PutsUnless, declared.nodes.Found.Found, declared.file_system.Stored.Stored, declared.file_system.Stored.TheVariants.{Kept, NotCreated, Failed}}
 use Rattle.command_words.specs.Scripts.{Asked, to_add, to_withdraw, to_link}
 use Rattle.v7tools.specs.{LineRuns.LineRun, LinkRuns.IsLinkRun, declared.fault.CliFault.CliFault}
 use Rattle.v7tools.specs.{FaultTexts.{fault_line, no_memory}, SessionRuns.{Chains, RunsLines, events_of, lines_asked}}
@@ -132,7 +132,7 @@ CannotRead r _ = ⊥
 
 -- no file could be made at a path, or its device failed, or standard output did
 abbrev pub CannotWrite : {W E : Type 0} → Run W E → CliFault → Type 0
-CannotWrite r (faults.CannotCreate path) = (file : Contents) × EndsBy r.events (stored (string_bytes path) file NotCreated)
+CannotWrite r (faults.CannotCreate path) = (file : Contents) × EndsBy r.events (stored (string_bytes path) file (NotCreated path_fault))
 CannotWrite r (faults.WriteFailed _) =
     IsTrue r.output_after.has_failed
     ⊎ ((path : List ℕ) × (file : Contents) × (fault : DeviceFault) × EndsBy r.events (stored path file (Failed fault)))

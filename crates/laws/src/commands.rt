@@ -5,7 +5,7 @@ ghost use Rattle.laws.specs.{Builds.{BuildsLaw, OnceLaw, ElsewhereLaw}, Calls.{L
 
 use std::io::Write;
 
-/// A run of `perform` is a run of the session, or of the `ld`, that its arguments ask for. (own choice)
+/// A run of `perform` is a run of the session, or of the `ld`, that its arguments ask for.
 ///
 /// - `session`: it ran the first lines of its script, one after another, and answered them: all of them; or those before one that the
 ///   script does not give, or for which memory ran out; or those before one whose answer could not be written whole. Or memory ran out
@@ -16,7 +16,7 @@ pub fn call_law<W: Write, E: Write>()
     ensures link { LinkCallLaw W.contents E.contents }
 {}
 
-/// A link in a session is a link by `ld` of the files that are left: those that were added before it and not withdrawn. (own choice)
+/// A link in a session is a link by `ld` of the files that are left: those that were added before it and not withdrawn.
 ///
 /// The lines of a session are any that were run one after another, as `call_law` says of each session, whatever ends it.
 ///
@@ -36,7 +36,7 @@ pub fn session_law<W: Write, E: Write>()
     ensures disks { SameDiskLaw }
 {}
 
-/// Two lines that add a file and withdraw it leave no trace. (own choice)
+/// Two lines that add a file and withdraw it leave no trace.
 ///
 /// Take two sessions that end well, with the same options and `-u`, of a script and of the same with two lines put in anywhere: `add P`,
 /// which is accepted, and `withdraw`. If the system gave both the same, the longer one answers what the shorter one does, with `added P` and

@@ -1,5 +1,6 @@
 //! Theorems about links, loaded programs and commands. They are about definitions, and not about code. `link_out::laws` has `strip_law`
 //! and `partial_law`.
+//! What names no manual page is our own choice.
 //!
 //! - `relation`: a link gives a file and a report if and only if the relation of linking holds of them
 //! - `links`: what the instructions of a loaded program are

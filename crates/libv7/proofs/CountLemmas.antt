@@ -1,4 +1,4 @@
--- A name is multiply defined as often as there are objects of further definitions, and each name of a report has a place.
+-- A name is multiply defined as often as there are objects of further definitions.
 use Rattle.std.proofs.Common.{◌≡◌, ℕ, zero, suc, ◌+◌, ◌-◌, ◌≤◌, List, [], ◌∷◌, ◌++◌, length, map, take, replicate, refl, sym, ap, subst}
 use Rattle.std.proofs.{Common.{◌∙◌, arith, append-nil, length-append}, lemmas.List.{length-replicate, take_all}}
 use Rattle.std.specs.{Prelude.filter, List.flat_map}
@@ -6,10 +6,7 @@ use Rattle.aout_core.specs.Contents.{Contents}
 use Rattle.link_session.specs.{Earlier.with_earlier, Mentions.Mention, Mentions.forced_mention, Mentions.mentions, Mentions.mentions_in}
 use Rattle.link_session.specs.{States.differs, States.first_definition, States.multiple_names}
 use Rattle.link_session.proofs.{MentionLemmas.mentions-append, MultipleLemmas.multiple_names-append}
-use Rattle.link_out.specs.Results.{ReportNames}
-use Rattle.libv7.specs.declared.places.FindingPlace.{FindingPlace}
-use Rattle.libv7.specs.FindingPlaces.{differing, finding_places, first_number, further_among, further_objects, place_at}
-use Rattle.libv7.specs.{Items.each_from, LinkAnswers.reported_names}
+use Rattle.libv7.specs.FindingPlaces.{differing, further_among, further_objects}
 
 -- the names of `-u` are wanted, so none of them is defined again
 none_forced : (all : List Mention) (names : List (List ℕ)) →
@@ -62,12 +59,3 @@ counted forced os (suc n) =
 pub as_many : (forced : List (List ℕ)) (os : List Contents) →
     length (further_objects forced os) ≡ length (multiple_names (mentions forced os))
 as_many forced os = counted forced os (length os) ∙ ap (λ (ps : List Contents). differing forced ps) (take_all (length os) os (omega arith))
-
-placed_each : {A : Type 0} (place : ℕ → A → FindingPlace) (i : ℕ) (xs : List A) → length (each_from (λ j x. place j x ∷ []) i xs) ≡ length xs
-placed_each place i [] = refl
-placed_each place i (x ∷ xs) = ap suc (placed_each place (i + 1) xs)
-
--- each name of a report has its place
-pub each_has_a_place : (forced : List (List ℕ)) (os : List Contents) (f : ReportNames) →
-    length (finding_places forced os f) ≡ length (reported_names f)
-each_has_a_place forced os f = placed_each (λ i r. place_at (first_number os) (further_objects forced os) i r.1) 0 (reported_names f)

@@ -1,11 +1,11 @@
 -- Objects taken one by one, each from the bytes of its part.
 use Rattle.std.proofs.Common.{◌≡◌, ℕ, ◌+◌, ◌<◌, List, [], ◌∷◌, ◌++◌, length, take, drop, get_or, Option, Some, None, Result, Ok, Err, refl}
-use Rattle.std.proofs.Common.{sym, ap, ◌∙◌, subst, inl, inr, arith}
+use Rattle.std.proofs.Common.{sym, ap, ◌∙◌, subst, inl, inr, arith, append_assoc, append-nil}
 use Rattle.std.proofs.lemmas.List.{drop_more, length-map, length-take-le, map-append, map_more, take-append-drop, take-map, get_or-map}
 use Rattle.std.specs.Prelude.{◌⊎◌, IsOk}
 use Rattle.aout_core.specs.{Contents.Contents, Decoding.decode}
 use Rattle.link_session.specs.{declared.entry.AddFault.AddFault, Labelled.Labelled, Labelled.objects, Limits.refusal}
-use Rattle.link_out.specs.{Inputs.{at_path, kept_with, with_input, with_inputs}, Steps.{and_then, refused_as, unless}}
+use Rattle.link_out.specs.{Inputs.{at_path, kept_with, with_inputs}, Steps.{and_then, refused_as, unless}}
 use Rattle.link_out.specs.Inputs as inputs
 use Rattle.link_maps.specs.Links.{read_inputs}
 use Rattle.libv7.specs.LinkAnswers.{each_of, numbered, objects_in, refusal_of, taken_each}
@@ -14,71 +14,11 @@ use Rattle.libv7.specs.MemoryWanted.{HasBody, MayRunOutAt}
 use Rattle.libv7.specs.{FileAnswers.object_in, declared.cause.Cause.Cause}
 use Rattle.libv7.specs.{declared.parts.ObjectBytes.ObjectBytes, Causes.{at, cause_of_input}, MapAnswers.objects_each}
 
--- ---- inputs with their numbers
+-- ---- each part after those before it
 
-numbered-append : (n : ℕ) (xs ys : List (List ℕ)) → numbered n (xs ++ ys) ≡ numbered n xs ++ numbered (n + length xs) ys
-numbered-append n [] ys = let e : n ≡ n + 0 = omega arith in ap (λ (m : ℕ). numbered m ys) e
-numbered-append n (x ∷ xs) ys =
-    let e : n + 1 + length xs ≡ n + length (x ∷ xs) = omega arith in
-    ap (λ (l : List (List ℕ × List ℕ)). (n ∷ [], x) ∷ l)
-    (numbered-append (n + 1) xs ys ∙ ap (λ (m : ℕ). numbered (n + 1) xs ++ numbered m ys) e)
-
-numbered-next : (xs ys : List (List ℕ)) → numbered 0 (xs ++ ys) ≡ numbered 0 xs ++ numbered (length xs) ys
-numbered-next xs ys =
-    let e : 0 + length xs ≡ length xs = omega arith in
-    numbered-append 0 xs ys ∙ ap (λ (m : ℕ). numbered 0 xs ++ numbered m ys) e
-
-taken-append : (forced : List (List ℕ)) (kept : List Labelled) (xs ys : List (List ℕ × List ℕ)) →
-    with_inputs forced kept (xs ++ ys) ≡ and_then (with_inputs forced kept xs) (λ more. with_inputs forced more ys)
-taken-append forced kept [] ys = refl
-taken-append forced kept (x ∷ xs) ys = by_first (with_input forced kept x.0 x.1) (λ more. taken-append forced more xs ys)
-  where
-    by_first : (r : Result (List Labelled) inputs.Cause) → ((kept : List Labelled) → with_inputs forced kept (xs ++ ys)
-        ≡ and_then (with_inputs forced kept xs) (λ more. with_inputs forced more ys)) → and_then (at_path x.0 r) (λ more. with_inputs forced more (xs ++ ys))
-        ≡ and_then (and_then (at_path x.0 r) (λ more. with_inputs forced more xs)) (λ more. with_inputs forced more ys)
-    by_first (Ok more) later = later more
-    by_first (Err cause) later = refl
-
-abbrev both : Result (List Contents) inputs.Refusal → Result (List Contents) inputs.Refusal → Result (List Contents) inputs.Refusal
-both r s = and_then r (λ os. and_then s (λ more. Ok (os ++ more)))
-
-read-append : (xs ys : List (List ℕ × List ℕ)) → read_inputs (xs ++ ys) ≡ both (read_inputs xs) (read_inputs ys)
-read-append [] ys = by_rest (read_inputs ys)
-  where
-    by_rest : (s : Result (List Contents) inputs.Refusal) → s ≡ and_then s (λ more. Ok more)
-    by_rest (Ok more) = refl
-    by_rest (Err refusal) = refl
-read-append (x ∷ xs) ys =
-    ap (λ (r : Result (List Contents) inputs.Refusal).
-    and_then (at_path x.0 (inputs.object_in (decode x.1))) (λ o. and_then r (λ os. Ok (o ∷ os)))) (read-append xs ys)
-    ∙ by_first (inputs.object_in (decode x.1)) (read_inputs xs) (read_inputs ys)
-  where
-    by_first : (f : Result Contents inputs.Cause) (r s : Result (List Contents) inputs.Refusal) →
-        and_then (at_path x.0 f) (λ o. and_then (both r s) (λ os. Ok (o ∷ os)))
-        ≡ both (and_then (at_path x.0 f) (λ o. and_then r (λ os. Ok (o ∷ os)))) s
-    by_first (Err cause) r s = refl
-    by_first (Ok o) (Err refusal) s = refl
-    by_first (Ok o) (Ok os) (Err refusal) = refl
-    by_first (Ok o) (Ok os) (Ok more) = refl
-
--- ---- one more part
-
--- what takes the objects of parts, and what takes one more after objects
-abbrev pub Takes : Type 0
-Takes = List (List ℕ) → Result (List Contents) Refusal
-
+-- what takes an object after others
 abbrev pub TakesOne : Type 0
 TakesOne = List Contents → List ℕ → Result Contents Cause
-
--- an object that is taken is appended, and why one is not is the refusal, whatever follows it
-pub record GoesOn (taken : Takes) (one : TakesOne) : Type 0 where
-  pub more : (parts : List (List ℕ)) (bytes : List ℕ) (os : List Contents) (o : Contents) → taken parts ≡ Ok os → one os bytes ≡ Ok o →
-      taken (parts ++ bytes ∷ []) ≡ Ok (os ++ o ∷ [])
-  pub stops : (parts : List (List ℕ)) (bytes : List ℕ) (rest : List (List ℕ)) (os : List Contents) (cause : Cause) → taken parts ≡ Ok os →
-      one os bytes ≡ Err cause → taken (parts ++ bytes ∷ rest) ≡ Err (record { cause = cause; place = length parts })
-
-abbrev appended : List Contents → Result Contents Cause → Result (List Contents) Cause
-appended os r = and_then r (λ o. Ok (os ++ o ∷ []))
 
 -- the object that the bytes begin with, if a session takes it, and whether one takes it or not
 abbrev pub taken_after : List (List ℕ) → List Contents → List ℕ → Result Contents Cause
@@ -87,145 +27,138 @@ taken_after forced os bytes = and_then (object_in bytes) (λ o. unless NotAdded 
 abbrev pub read_after : List Contents → List ℕ → Result Contents Cause
 read_after os bytes = object_in bytes
 
-module _ (forced : List (List ℕ)) where
-  -- an input that is added, by the objects alone
-  one_input : (number : ℕ) (kept : List Labelled) (r : Result Contents inputs.Cause) →
-      objects_in (at_path (number ∷ []) (kept_with forced kept (number ∷ []) r))
-      ≡ at number (appended (objects kept) (and_then (refused_as cause_of_input r) (λ o. unless NotAdded (refusal forced (objects kept) o) o)))
-  one_input number kept (Err cause) = refl
-  one_input number kept (Ok o) = by_limit (refusal forced (objects kept) o)
-    where
-      by_limit : (q : Option AddFault) →
-          objects_in (at_path (number ∷ []) (unless inputs.not_added q (kept ++ record { label = number ∷ []; object = o } ∷ [])))
-          ≡ at number (appended (objects kept) (unless NotAdded q o))
-      by_limit None = ap (λ (os : List Contents). Ok os) (map-append (λ (e : Labelled). e.object) kept (record { label = number ∷ []; object = o } ∷ []))
-      by_limit (Some fault) = refl
+-- objects with those of these parts, of which the first has this number, or the first refusal
+abbrev pub each_from : TakesOne → ℕ → List Contents → List (List ℕ) → Result (List Contents) Refusal
+each_from one n os [] = Ok os
+each_from one n os (bytes ∷ rest) = and_then (at n (one os bytes)) (λ o. each_from one (n + 1) (os ++ o ∷ []) rest)
 
-  abbrev after : List (List ℕ) → ℕ → List ℕ → List (List ℕ) → List Labelled → Result (List Labelled) inputs.Refusal
-  after parts number bytes rest kept =
-      and_then (at_path (number ∷ []) (with_input forced kept (number ∷ []) bytes)) (λ more. with_inputs forced more (numbered (number + 1) rest))
-
-  taken_then : (parts : List (List ℕ)) (bytes : List ℕ) (rest : List (List ℕ)) → taken_each forced (parts ++ bytes ∷ rest)
-      ≡ objects_in (and_then (with_inputs forced [] (numbered 0 parts)) (after parts (length parts) bytes rest))
-  taken_then parts bytes rest =
-      ap (λ (is : List (List ℕ × List ℕ)). objects_in (with_inputs forced [] is)) (numbered-next parts (bytes ∷ rest))
-      ∙ ap objects_in (taken-append forced [] (numbered 0 parts) (numbered (length parts) (bytes ∷ rest)))
-
-  refused_then : (s : Result (List Labelled) inputs.Refusal) (f : List Labelled → Result (List Labelled) inputs.Refusal) (r : Refusal) →
-      objects_in s ≡ Err r → objects_in (and_then s f) ≡ Err r
-  refused_then (Ok kept) f r h = absurd (cc)
-  refused_then (Err refusal) f r h = h
-
-  none_then : (s : Result (List Labelled) inputs.Refusal) → objects_in (and_then s (λ more. with_inputs forced more [])) ≡ objects_in s
-  none_then (Ok kept) = refl
-  none_then (Err refusal) = refl
-
-  pub taken_goes_on : GoesOn (taken_each forced) (taken_after forced)
-  taken_goes_on = record {
-    more = λ parts bytes os o so_far one. taken_then parts bytes []
-        ∙ by_kept_more parts bytes os o (with_inputs forced [] (numbered 0 parts)) so_far one;
-    stops = λ parts bytes rest os cause so_far one. taken_then parts bytes rest
-        ∙ by_kept_stops parts bytes rest os cause (with_inputs forced [] (numbered 0 parts)) so_far one;
-  }
-    where
-      one_is : (number : ℕ) (bytes : List ℕ) (kept : List Labelled) (os : List Contents) → objects kept ≡ os →
-          objects_in (at_path (number ∷ []) (with_input forced kept (number ∷ []) bytes))
-          ≡ at number (appended os (taken_after forced os bytes))
-      one_is number bytes kept os same =
-          one_input number kept (inputs.object_in (decode bytes))
-          ∙ ap (λ (l : List Contents). at number (appended l (taken_after forced l bytes))) same
-
-      by_kept_more : (parts : List (List ℕ)) (bytes : List ℕ) (os : List Contents) (o : Contents)
-          (r : Result (List Labelled) inputs.Refusal) → objects_in r ≡ Ok os → taken_after forced os bytes ≡ Ok o →
-          objects_in (and_then r (after parts (length parts) bytes [])) ≡ Ok (os ++ o ∷ [])
-      by_kept_more parts bytes os o (Err refusal) so_far one = absurd (cc)
-      by_kept_more parts bytes os o (Ok kept) so_far one =
-          let same : objects kept ≡ os = cc in
-          none_then (at_path (length parts ∷ []) (with_input forced kept (length parts ∷ []) bytes))
-          ∙ one_is (length parts) bytes kept os same
-          ∙ ap (λ (r : Result Contents Cause). at (length parts) (appended os r)) one
-
-      by_kept_stops : (parts : List (List ℕ)) (bytes : List ℕ) (rest : List (List ℕ)) (os : List Contents) (cause : Cause)
-          (r : Result (List Labelled) inputs.Refusal) → objects_in r ≡ Ok os → taken_after forced os bytes ≡ Err cause →
-          objects_in (and_then r (after parts (length parts) bytes rest)) ≡ Err (record { cause = cause; place = length parts })
-      by_kept_stops parts bytes rest os cause (Err refusal) so_far one = absurd (cc)
-      by_kept_stops parts bytes rest os cause (Ok kept) so_far one =
-          let same : objects kept ≡ os = cc in
-          refused_then (at_path (length parts ∷ []) (with_input forced kept (length parts ∷ []) bytes))
-          (λ more. with_inputs forced more (numbered (length parts + 1) rest)) (record { cause = cause; place = length parts })
-          (one_is (length parts) bytes kept os same ∙ ap (λ (r : Result Contents Cause). at (length parts) (appended os r)) one)
-
--- the same of a part that is read, whether a session takes it or not
-pub read_goes_on : GoesOn objects_each read_after
-read_goes_on = record {
-  more = λ parts bytes os o so_far one. whole parts bytes []
-      ∙ by_more (length parts) (read_inputs (numbered 0 parts)) (inputs.object_in (decode bytes)) os o so_far one;
-  stops = λ parts bytes rest os cause so_far one. whole parts bytes rest
-      ∙ by_stops (length parts) (read_inputs (numbered 0 parts)) (inputs.object_in (decode bytes))
-      (read_inputs (numbered (length parts + 1) rest)) os cause so_far one;
-}
+each_from-append : (one : TakesOne) (n : ℕ) (os : List Contents) (xs ys : List (List ℕ)) →
+    each_from one n os (xs ++ ys) ≡ and_then (each_from one n os xs) (λ more. each_from one (n + length xs) more ys)
+each_from-append one n os [] ys = let e : n ≡ n + 0 = omega arith in ap (λ (m : ℕ). each_from one m os ys) e
+each_from-append one n os (x ∷ xs) ys = by_first (one os x) (λ more. each_from-append one (n + 1) more xs ys)
   where
-    next_read : ℕ → Result Contents inputs.Cause → Result (List Contents) inputs.Refusal → Result (List Contents) inputs.Refusal
-    next_read number f s = and_then (at_path (number ∷ []) f) (λ o. and_then s (λ os. Ok (o ∷ os)))
+    by_first : (r : Result Contents Cause) → ((more : List Contents) → each_from one (n + 1) more (xs ++ ys)
+        ≡ and_then (each_from one (n + 1) more xs) (λ os. each_from one (n + 1 + length xs) os ys)) →
+        and_then (at n r) (λ o. each_from one (n + 1) (os ++ o ∷ []) (xs ++ ys))
+        ≡ and_then (and_then (at n r) (λ o. each_from one (n + 1) (os ++ o ∷ []) xs)) (λ more. each_from one (n + length (x ∷ xs)) more ys)
+    by_first (Ok o) later =
+        let e : n + 1 + length xs ≡ n + length (x ∷ xs) = omega arith in
+        later (os ++ o ∷ [])
+        ∙ ap (λ (m : ℕ). and_then (each_from one (n + 1) (os ++ o ∷ []) xs) (λ more. each_from one m more ys)) e
+    by_first (Err cause) later = refl
 
-    whole : (parts : List (List ℕ)) (bytes : List ℕ) (rest : List (List ℕ)) → objects_each (parts ++ bytes ∷ rest)
-        ≡ refused_as refusal_of (both (read_inputs (numbered 0 parts))
-        (next_read (length parts) (inputs.object_in (decode bytes)) (read_inputs (numbered (length parts + 1) rest))))
-    whole parts bytes rest =
-        ap (λ (is : List (List ℕ × List ℕ)). refused_as refusal_of (read_inputs is)) (numbered-next parts (bytes ∷ rest))
-        ∙ ap (refused_as refusal_of) (read-append (numbered 0 parts) (numbered (length parts) (bytes ∷ rest)))
+-- ---- what a session takes
 
-    by_more : (number : ℕ) (r : Result (List Contents) inputs.Refusal) (f : Result Contents inputs.Cause) (os : List Contents)
-        (o : Contents) → refused_as refusal_of r ≡ Ok os → refused_as cause_of_input f ≡ Ok o →
-        refused_as refusal_of (both r (next_read number f (Ok []))) ≡ Ok (os ++ o ∷ [])
-    by_more number (Err refusal) f os o so_far one = absurd (cc)
-    by_more number (Ok l) (Err cause) os o so_far one = absurd (cc)
-    by_more number (Ok l) (Ok x) os o so_far one =
-        let same : l ≡ os = cc in
-        let last : x ≡ o = cc in
-        ap (λ (l : List Contents). Ok l) (ap (λ (l : List Contents). l ++ x ∷ []) same ∙ ap (λ (y : Contents). os ++ y ∷ []) last)
+module _ (forced : List (List ℕ)) (n : ℕ) (kept : List Labelled) (rest : List (List ℕ)) where
+  abbrev rest_taken : List Labelled → Result (List Labelled) inputs.Refusal
+  rest_taken more = with_inputs forced more (numbered (n + 1) rest)
 
-    by_stops : (number : ℕ) (r : Result (List Contents) inputs.Refusal) (f : Result Contents inputs.Cause)
-        (s : Result (List Contents) inputs.Refusal) (os : List Contents) (cause : Cause) →
-        refused_as refusal_of r ≡ Ok os → refused_as cause_of_input f ≡ Err cause →
-        refused_as refusal_of (both r (next_read number f s)) ≡ Err (record { cause = cause; place = number })
-    by_stops number (Err refusal) f s os cause so_far one = absurd (cc)
-    by_stops number (Ok l) (Ok o) s os cause so_far one = absurd (cc)
-    by_stops number (Ok l) (Err found) s os cause so_far one =
-        let same : cause_of_input found ≡ cause = cc in
-        ap (λ (c : Cause). Err (record { cause = c; place = number })) same
+  abbrev Later : Type 0
+  Later = (more : List Labelled) → objects_in (rest_taken more) ≡ each_from (taken_after forced) (n + 1) (objects more) rest
+
+  abbrev then_kept : Result Contents Cause → Result (List Contents) Refusal
+  then_kept r = and_then (at n r) (λ o. each_from (taken_after forced) (n + 1) (objects kept ++ o ∷ []) rest)
+
+  by_limit : (o : Contents) (q : Option AddFault) → Later →
+      objects_in (and_then (at_path (n ∷ []) (unless inputs.not_added q (kept ++ record { label = n ∷ []; object = o } ∷ []))) rest_taken)
+      ≡ then_kept (unless NotAdded q o)
+  by_limit o None rest_is =
+      let e : Labelled = record { label = n ∷ []; object = o } in
+      rest_is (kept ++ e ∷ [])
+      ∙ ap (λ (os : List Contents). each_from (taken_after forced) (n + 1) os rest)
+      (map-append (λ (x : Labelled). x.object) kept (e ∷ []))
+  by_limit o (Some fault) rest_is = refl
+
+  by_object : (r : Result Contents inputs.Cause) → Later →
+      objects_in (and_then (at_path (n ∷ []) (kept_with forced kept (n ∷ []) r)) rest_taken)
+      ≡ then_kept (and_then (refused_as cause_of_input r) (λ o. unless NotAdded (refusal forced (objects kept) o) o))
+  by_object (Ok o) rest_is = by_limit o (refusal forced (objects kept) o) rest_is
+  by_object (Err cause) rest_is = refl
+
+taken_from : (forced : List (List ℕ)) (n : ℕ) (kept : List Labelled) (parts : List (List ℕ)) →
+    objects_in (with_inputs forced kept (numbered n parts)) ≡ each_from (taken_after forced) n (objects kept) parts
+taken_from forced n kept [] = refl
+taken_from forced n kept (bytes ∷ rest) =
+    by_object forced n kept rest (inputs.object_in (decode bytes)) (λ more. taken_from forced (n + 1) more rest)
+
+pub taken_goes_on : (forced : List (List ℕ)) (parts : List (List ℕ)) → taken_each forced parts ≡ each_from (taken_after forced) 0 [] parts
+taken_goes_on forced parts = taken_from forced 0 [] parts
+
+-- ---- what is read, whether a session takes it or not
+
+-- objects, with more
+abbrev with_more : List Contents → Result (List Contents) Refusal → Result (List Contents) Refusal
+with_more os r = and_then r (λ more. Ok (os ++ more))
+
+read_from : (n : ℕ) (os : List Contents) (parts : List (List ℕ)) →
+    with_more os (refused_as refusal_of (read_inputs (numbered n parts))) ≡ each_from read_after n os parts
+read_from n os [] = ap (λ (l : List Contents). Ok l) (append-nil os)
+read_from n os (bytes ∷ rest) = by_object (inputs.object_in (decode bytes)) (λ more. read_from (n + 1) more rest)
+  where
+    by_rest : (o : Contents) (s : Result (List Contents) inputs.Refusal) →
+        with_more os (refused_as refusal_of (and_then s (λ l. Ok (o ∷ l)))) ≡ with_more (os ++ o ∷ []) (refused_as refusal_of s)
+    by_rest o (Ok l) = ap (λ (l : List Contents). Ok l) (sym (append_assoc os (o ∷ []) l))
+    by_rest o (Err refusal) = refl
+
+    by_object : (r : Result Contents inputs.Cause) → ((more : List Contents) →
+        with_more more (refused_as refusal_of (read_inputs (numbered (n + 1) rest))) ≡ each_from read_after (n + 1) more rest) →
+        with_more os (refused_as refusal_of (and_then (at_path (n ∷ []) r) (λ o. and_then (read_inputs (numbered (n + 1) rest)) (λ l. Ok (o ∷ l)))))
+        ≡ and_then (at n (refused_as cause_of_input r)) (λ o. each_from read_after (n + 1) (os ++ o ∷ []) rest)
+    by_object (Ok o) later = by_rest o (read_inputs (numbered (n + 1) rest)) ∙ later (os ++ o ∷ [])
+    by_object (Err cause) later = refl
+
+pub read_goes_on : (parts : List (List ℕ)) → objects_each parts ≡ each_from read_after 0 [] parts
+read_goes_on parts = with_none (objects_each parts) ∙ read_from 0 [] parts
+  where
+    with_none : (r : Result (List Contents) Refusal) → r ≡ with_more [] r
+    with_none (Ok os) = refl
+    with_none (Err refusal) = refl
 
 -- ---- part by part
 
-module _ (taken : Takes) (one : TakesOne) (goes_on : GoesOn taken one) (parts : List ObjectBytes) (i : ℕ) (d : ObjectBytes)
+module _ (taken : List (List ℕ) → Result (List Contents) Refusal) (one : TakesOne)
+    (goes_on : (parts : List (List ℕ)) → taken parts ≡ each_from one 0 [] parts) (parts : List ObjectBytes) (i : ℕ) (d : ObjectBytes)
     (os : List Contents) where
   abbrev before : List (List ℕ)
   before = each_of (take i parts)
 
-  count : i < length parts → length before ≡ i
-  count more = length-map (take i parts) (λ (part : ObjectBytes). part.bytes.now) ∙ length-take-le i parts (omega (arith, more))
+  abbrev number : ℕ
+  number = 0 + length before
 
-  split : i < length parts → each_of parts ≡ before ++ (get_or parts i d).bytes.now ∷ each_of (drop (i + 1) parts)
-  split more =
-      ap each_of (sym (take-append-drop i parts) ∙ ap (λ (l : List ObjectBytes). take i parts ++ l) (drop_more parts i d more))
-      ∙ map-append (λ (part : ObjectBytes). part.bytes.now) (take i parts) (get_or parts i d ∷ drop (i + 1) parts)
+  -- this part and others, after those before it
+  abbrev then_each : List (List ℕ) → Result Contents Cause → Result (List Contents) Refusal
+  then_each rest r = and_then (at number r) (λ o. each_from one (number + 1) (os ++ o ∷ []) rest)
 
-  longer : i < length parts → each_of (take (i + 1) parts) ≡ before ++ (get_or parts i d).bytes.now ∷ []
-  longer more = map_more (λ (part : ObjectBytes). part.bytes.now) parts i d more
+  next_is : (rest : List (List ℕ)) → taken before ≡ Ok os →
+      taken (before ++ (get_or parts i d).bytes.now ∷ rest) ≡ then_each rest (one os (get_or parts i d).bytes.now)
+  next_is rest so_far =
+      let bytes = (get_or parts i d).bytes.now in
+      goes_on (before ++ bytes ∷ rest)
+      ∙ each_from-append one 0 [] before (bytes ∷ rest)
+      ∙ ap (λ (r : Result (List Contents) Refusal). and_then r (λ more. each_from one number more (bytes ∷ rest)))
+      (sym (goes_on before) ∙ so_far)
 
   -- this part gave an object
   pub more_each : (o : Contents) → i < length parts → taken (each_of (take i parts)) ≡ Ok os →
       one os (get_or parts i d).bytes.now ≡ Ok o → taken (each_of (take (i + 1) parts)) ≡ Ok (os ++ o ∷ [])
   more_each o more so_far first =
-      ap taken (longer more) ∙ goes_on.more before (get_or parts i d).bytes.now os o so_far first
+      ap taken (map_more (λ (part : ObjectBytes). part.bytes.now) parts i d more)
+      ∙ next_is [] so_far
+      ∙ ap (then_each []) first
 
   -- this part was refused
   pub refused_each : (cause : Cause) → i < length parts → taken (each_of (take i parts)) ≡ Ok os →
       one os (get_or parts i d).bytes.now ≡ Err cause → taken (each_of parts) ≡ Err (record { cause = cause; place = i })
   refused_each cause more so_far first =
-      ap taken (split more)
-      ∙ goes_on.stops before (get_or parts i d).bytes.now (each_of (drop (i + 1) parts)) os cause so_far first
-      ∙ ap (λ (n : ℕ). Err (record { cause = cause; place = n })) (count more)
+      let bytes_of : ObjectBytes → List ℕ = λ part. part.bytes.now in
+      let rest = each_of (drop (i + 1) parts) in
+      let count : number ≡ i = omega (arith, more, length-map (take i parts) bytes_of, length-take-le i parts (omega (arith, more))) in
+      ap (λ (l : List ObjectBytes). taken (each_of l))
+      (sym (take-append-drop i parts) ∙ ap (λ (l : List ObjectBytes). take i parts ++ l) (drop_more parts i d more))
+      ∙ ap taken (map-append bytes_of (take i parts) (get_or parts i d ∷ drop (i + 1) parts))
+      ∙ next_is rest so_far
+      ∙ ap (then_each rest) first
+      ∙ ap (λ (n : ℕ). Err (record { cause = cause; place = n })) count
 
   -- memory may run out for this part
   pub out_at_each : i < length parts → taken (each_of (take i parts)) ≡ Ok os →

@@ -1,16 +1,16 @@
 -- Where memory may run out, stage by stage.
 use Rattle.std.proofs.Common.{◌≡◌, ℕ, List, [], Result, Ok, Err, refl, sym, ap, ◌∙◌, subst, inl}
-use Rattle.std.specs.Prelude.{IfErr, IsOk}
-use Rattle.aout_core.specs.{Refusals.refused, Contents.Contents}
+use Rattle.std.specs.Prelude.{IsOk}
+use Rattle.aout_core.specs.Contents.{Contents}
 use Rattle.link_session.specs.{Labelled.Labelled, Labelled.objects, Undo.Kept}
 use Rattle.tool_options.specs.Choices.{Choices}
 use Rattle.link_out.specs.{declared.linked.LinkFault.LinkFault, function.Link.link, Inputs.with_inputs, Results.Outcome, Steps.and_then}
 use Rattle.link_out.specs.{Steps.refused_as}
 use Rattle.link_out.specs.Inputs as inputs
 use Rattle.libv7.specs.LinkAnswers.{numbered, objects_in, parts_linked, refusal_of, taken_each}
-use Rattle.libv7.specs.{RunAnswers.{RunOutput, objects_run, parts_run, run_output}, MemoryWanted.{LinkMayRunOut, MayRunOutInLink}}
-use Rattle.libv7.specs.{declared.cause.Cause.Cause, declared.cause.Cause.TheVariants.{Memory, NotLinked}}
-use Rattle.libv7.specs.{declared.cause.Refusal.Refusal, Causes.at, LinkRequests.{choices_in, forced_in}}
+use Rattle.libv7.specs.{RunAnswers.{RunOutput, objects_run, parts_run, run_output}, MemoryWanted.MayRunOutInLink}
+use Rattle.libv7.specs.{declared.cause.Cause.Cause, declared.cause.Cause.TheVariants.NotLinked}
+use Rattle.libv7.specs.{declared.cause.Refusal.Refusal, Causes.at}
 
 -- a link was made, so there is one
 pub there_is_one : (r : Result Outcome LinkFault) (x : Outcome) → refused_as NotLinked r ≡ Ok x → IsOk r
@@ -74,11 +74,3 @@ module _ (forced : List (List ℕ)) (o : Choices) (parts : List (List ℕ)) wher
         rw (parts_link (objects k.entries) taken) (is_linked (link forced (objects k.entries) o)
             (subst (λ (f : List (List ℕ)). IsOk (link f (objects k.entries) o)) names linked)),
       )
-
--- memory may run out in a link, once the options and the forced names are accepted
-pub link_runs_out : {A : Type 0} (bits : ℕ) (entry bytes : List ℕ) (parts : List (List ℕ)) (o : Choices) (forced : List (List ℕ))
-    (given : Result A Refusal) → Ok o ≡ choices_in bits entry → Ok forced ≡ forced_in bytes →
-    IfErr given (λ r. r.cause ≡ Memory refused → MayRunOutInLink forced o parts r.place) →
-    IfErr given (λ r. r.cause ≡ Memory refused → LinkMayRunOut bits entry bytes parts r.place)
-link_runs_out bits entry bytes parts o forced (Ok a) first second h = tt
-link_runs_out bits entry bytes parts o forced (Err r) first second h = λ memory. rw (← first, ← second) (h memory)

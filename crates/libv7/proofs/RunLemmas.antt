@@ -1,15 +1,15 @@
 -- What the library answers to a request.
-use Rattle.std.proofs.Common.{◌≡◌, ◌≢◌, ℕ, Bool, true, false, nat_lt, if◌then◌else◌, Some, None, Result, Ok, Err, IfOk, IfErr, refl, ap, ◌∙◌}
+use Rattle.std.proofs.Common.{◌≡◌, ◌≢◌, ℕ, Bool, true, false, nat_lt, if◌then◌else◌, List, Some, None, Result, Ok, Err, IfOk, IfErr, refl, ap, ◌∙◌}
 use Rattle.std.proofs.Common.{subst, sym}
 use Rattle.aout_core.specs.Refusals.{refused}
-use Rattle.libv7.specs.MapAnswers.{IsMapAnswer, MapMayRunOut, MapOf, map_asked}
-use Rattle.libv7.specs.RunAnswers.{RunOutput, link_run, no_run, results_of}
+use Rattle.tool_options.specs.Choices.{Choices}
+use Rattle.libv7.specs.MapAnswers.{MapsParts, MayRunOutInMap, objects_each}
+use Rattle.libv7.specs.RunAnswers.{RunOutput, no_run, parts_run, results_of}
 use Rattle.libv7.specs.declared.cause.Cause.TheVariants.{Memory, NoWant, NotKept, ShortStruct}
 use Rattle.libv7.specs.{declared.cause.Cause.Cause, declared.cause.Refusal.Refusal, declared.output.LinkOutput.LinkOutput}
-use Rattle.libv7.specs.{FileAnswers.has_bit, LinkAnswers.each_of, MemoryWanted.LinkMayRunOut}
+use Rattle.libv7.specs.{FileAnswers.has_bit, LinkAnswers.each_of, MemoryWanted.MayRunOutInLink}
 use Rattle.libv7.specs.{Left.{refused as refused_as_said, of_none, IsRefusal}, declared.answer.Answer.Answer, declared.requests.Request.Request}
-use Rattle.libv7.specs.RunLeft.{AnswerBy, IsAnswer, MapRunsOut, RunMayRunOut, RunLeft, answered, is_enough, map_in}
-use Rattle.libv7.specs.RunLeft.{or_unread, run_in, unread}
+use Rattle.libv7.specs.RunLeft.{AnswersBy, IsAnswer, LinksParts, RunLeft, answered, asked_in, is_enough, or_unread, unread}
 use Rattle.libv7.proofs.LeftLemmas.{refusal_by}
 
 never_by : (short unknown unkept enough : Bool) → (if short then Some ShortStruct else if unknown then Some NoWant
@@ -28,42 +28,42 @@ unread_refused most q size asked MayRunOut r cause is same =
     (λ out. absurd (never_by (nat_lt q.size 64) (nat_lt 15 q.wants) (nat_lt most q.wants) (is_enough q.wants size)
     (is ∙ ap (λ (c : Cause). Some c) (sym (ap (λ (x : Refusal). x.cause) same) ∙ out))))
 
-module _ (q : Request) (size : ℕ) where
-  abbrev run_asked : Result RunOutput Refusal
-  run_asked = link_run q.wants q.options q.entry.now q.forced.now (each_of q.objects.now)
+module _ (q : Request) (size : ℕ) (asked : Choices × List (List ℕ)) (r : Result LinkOutput Refusal) (is : Ok asked ≡ asked_in q size) where
+  abbrev parts : List (List ℕ)
+  parts = each_of q.objects.now
 
-  abbrev asked : Result MapOf Refusal
-  asked = map_asked q.options q.entry.now q.forced.now (each_of q.objects.now)
+  abbrev Links : Bool → Result LinkOutput Refusal → Type 0
+  Links b x = LinksParts b q.wants asked.1 asked.0 parts x
 
-  by_bit : (b : Bool) (r : Result LinkOutput Refusal) → has_bit q.wants 8 ≡ b → AnswerBy b q size r → IsAnswer q size r
-  by_bit b r is h = subst (λ (x : Bool). AnswerBy x q size r) (sym is) h
+  by_bit : (b : Bool) → has_bit q.wants 8 ≡ b → Links b r → IsAnswer q size r
+  by_bit b wanted h =
+      subst (λ (a : Result (Choices × List (List ℕ)) Refusal). AnswersBy a q r) is (subst (λ (x : Bool). Links x r) (sym wanted) h)
 
-  pub map_answer : (r : Result LinkOutput Refusal) → unread 15 q size ≡ None → has_bit q.wants 8 ≡ true →
-      IfOk r (λ x. IsMapAnswer q.wants asked x) →
-      IfErr r (λ refusal. refusal.cause ≢ Memory refused → asked ≡ Err refusal) →
-      IfErr r (λ refusal. refusal.cause ≡ Memory refused → MapMayRunOut q.options q.entry.now q.forced.now
-      (each_of q.objects.now) refusal.place) → IsAnswer q size r
-  map_answer (Ok x) known wanted ok err memory = by_bit true (Ok x) wanted (rw known ok)
-  map_answer (Err refusal) known wanted ok err memory =
-      by_bit true (Err refusal) wanted
-      (refusal_by (map_in q size) (MapRunsOut q size) refusal (λ other. rw known (err other)) (λ out. (known, memory out)))
-
-  pub run_answer : (r : Result LinkOutput Refusal) → unread 15 q size ≡ None → has_bit q.wants 8 ≡ false →
-      IfOk r (λ x. run_asked ≡ Ok (results_of x)) → IfErr r (λ refusal. refusal.cause ≢ Memory refused → run_asked ≡ Err refusal) →
-      IfErr r (λ refusal. refusal.cause ≡ Memory refused → LinkMayRunOut q.options q.entry.now q.forced.now
-      (each_of q.objects.now) refusal.place) → IsAnswer q size r
-  run_answer (Ok x) known unwanted ok err memory = by_bit false (Ok x) unwanted (rw known ok)
-  run_answer (Err refusal) known unwanted ok err memory =
-      by_bit false (Err refusal) unwanted
-      (refusal_by (run_in q size) (RunMayRunOut q size) refusal (λ other. rw known (err other)) (λ out. (known, memory out)))
-
-  pub unread_answer : (r : Refusal) (cause : Cause) → unread 15 q size ≡ Some cause → r ≡ of_none cause → IsAnswer q size (Err r)
-  unread_answer r cause is same =
-      by_bits (has_bit q.wants 8)
+  pub map_answer : has_bit q.wants 8 ≡ true → IfOk r (λ x. MapsParts q.wants asked.1 asked.0 parts x) →
+      IfErr r (λ refusal. refusal.cause ≢ Memory refused → objects_each parts ≡ Err refusal) →
+      IfErr r (λ refusal. refusal.cause ≡ Memory refused → MayRunOutInMap asked.1 parts refusal.place) → IsAnswer q size r
+  map_answer wanted ok err memory = by_bit true wanted (by_result r ok err memory)
     where
-      by_bits : (b : Bool) → AnswerBy b q size (Err r)
-      by_bits true = unread_refused 15 q size asked (MapRunsOut q size) r cause is same
-      by_bits false = unread_refused 15 q size run_asked (RunMayRunOut q size) r cause is same
+      by_result : (x : Result LinkOutput Refusal) → IfOk x (λ x. MapsParts q.wants asked.1 asked.0 parts x) →
+          IfErr x (λ refusal. refusal.cause ≢ Memory refused → objects_each parts ≡ Err refusal) →
+          IfErr x (λ refusal. refusal.cause ≡ Memory refused → MayRunOutInMap asked.1 parts refusal.place) → Links true x
+      by_result (Ok x) ok err memory = ok
+      by_result (Err refusal) ok err memory = refusal_by (objects_each parts) (MayRunOutInMap asked.1 parts) refusal err memory
+
+  pub run_answer : has_bit q.wants 8 ≡ false → IfOk r (λ x. parts_run q.wants asked.1 asked.0 parts ≡ Ok (results_of x)) →
+      IfErr r (λ refusal. refusal.cause ≢ Memory refused → parts_run q.wants asked.1 asked.0 parts ≡ Err refusal) →
+      IfErr r (λ refusal. refusal.cause ≡ Memory refused → MayRunOutInLink asked.1 asked.0 parts refusal.place) → IsAnswer q size r
+  run_answer wanted ok err memory = by_bit false wanted (by_result r ok err memory)
+    where
+      by_result : (x : Result LinkOutput Refusal) → IfOk x (λ x. parts_run q.wants asked.1 asked.0 parts ≡ Ok (results_of x)) →
+          IfErr x (λ refusal. refusal.cause ≢ Memory refused → parts_run q.wants asked.1 asked.0 parts ≡ Err refusal) →
+          IfErr x (λ refusal. refusal.cause ≡ Memory refused → MayRunOutInLink asked.1 asked.0 parts refusal.place) → Links false x
+      by_result (Ok x) ok err memory = ok
+      by_result (Err refusal) ok err memory =
+          refusal_by (parts_run q.wants asked.1 asked.0 parts) (MayRunOutInLink asked.1 asked.0 parts) refusal err memory
+
+pub unread_answer : (q : Request) (size : ℕ) (why : Refusal) → Err why ≡ asked_in q size → IsAnswer q size (Err why)
+unread_answer q size why is = subst (λ (a : Result (Choices × List (List ℕ)) Refusal). AnswersBy a q (Err why)) is refl
 
 pub ruleset by_answer = (map_answer, run_answer, unread_answer)
 

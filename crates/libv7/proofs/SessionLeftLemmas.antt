@@ -38,17 +38,15 @@ module _ (kept : Option Kept) (q : Request) (size : ℕ) where
   abbrev pub run : Result RunOutput Refusal
   run = of_session (kept_run q.wants q.options q.entry.now) kept
 
-  pub link_given : (r : Result LinkOutput Refusal) → unread 3 q size ≡ None → IfOk r (λ given. run ≡ Ok (results_of given)) →
-      IfErr r (λ refusal. refusal.cause ≢ Memory refused → run ≡ Err refusal) →
-      IfErr r (λ refusal. refusal.cause ≡ Memory refused → (refusal.place ≡ 0) × Keeps (MayRunOutToLink q.options q.entry.now) kept) →
-      IsGiven (kept_in kept q size) (Unplaced (LinkMayRunOut kept q size)) (results_or r)
-  link_given (Ok given) known ok err memory = rw known ok
-  link_given (Err refusal) known ok err memory =
-      refusal_by (kept_in kept q size) (Unplaced (LinkMayRunOut kept q size)) refusal (λ other. rw known (err other))
+  pub link_refused : (r : Refusal) → unread 3 q size ≡ None → (r.cause ≢ Memory refused → run ≡ Err r) →
+      (r.cause ≡ Memory refused → (r.place ≡ 0) × Keeps (MayRunOutToLink q.options q.entry.now) kept) →
+      IsGiven (kept_in kept q size) (Unplaced (LinkMayRunOut kept q size)) (Err r)
+  link_refused r known err memory =
+      refusal_by (kept_in kept q size) (Unplaced (LinkMayRunOut kept q size)) r (λ other. rw known (err other))
       (λ out. ((memory out).0, (known, (memory out).1)))
 
   pub link_unread : (r : Refusal) (cause : Cause) → unread 3 q size ≡ Some cause → r ≡ of_none cause →
       IsGiven (kept_in kept q size) (Unplaced (LinkMayRunOut kept q size)) (Err r)
   link_unread r cause is same = unread_refused 3 q size run (Unplaced (LinkMayRunOut kept q size)) r cause is same
 
-pub ruleset by_link = (link_given, link_unread)
+pub ruleset by_link = (link_refused, link_unread)

@@ -1,4 +1,4 @@
--- Why a call has no answer, by the faults of the libraries below, and its number. (own choice)
+-- Why a call has no answer, by the faults of the libraries below, and its number.
 --
 -- That memory ran out is one cause, `Memory`, and no other has its number, 50. A device is never read. So the faults below that say
 -- one of these never come, and have the number 0.

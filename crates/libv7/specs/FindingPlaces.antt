@@ -1,4 +1,4 @@
--- Which objects the names of a report are of. (own choice)
+-- Which objects the names of a report are of.
 --
 -- Objects are numbered from 0, and the largest number of 64 bits means none. A name is of the first object that defines it, or
 -- else of the first that has a symbol of it. A name is multiply defined once for each definition that differs from the first, and each

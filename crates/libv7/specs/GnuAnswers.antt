@@ -1,4 +1,4 @@
--- What a call answers for an object in GNU's form. (own choice)
+-- What a call answers for an object in GNU's form.
 use Rattle.std.specs.Prelude.{◌≡◌, ℕ, nat_lt, if◌then◌else◌, List, None, Result, Ok, Err, IsOk}
 use Rattle.aout_core.specs.Encoding.{encoding}
 use Rattle.gnu_objects.specs.declared.options.Locals.TheVariants.{KeepAll, KeepNeeded, KeepNone}

@@ -1,4 +1,4 @@
--- Lists that are written item by item. (own choice)
+-- Lists that are written item by item.
 use Rattle.std.specs.Prelude.{ℕ, ◌+◌, List, [], ◌∷◌, ◌++◌, Option, Some, None, slice_get}
 use Rattle.link_session.specs.{declared.state.State.State, Image.Named, Undo.Kept, Undo.image_of}
 

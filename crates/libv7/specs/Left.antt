@@ -1,4 +1,4 @@
--- What a call of the library leaves in the buffers of its caller, what it answers, and its status. (own choice)
+-- What a call of the library leaves in the buffers of its caller, what it answers, and its status.
 --
 -- Bytes are given at the beginning of a buffer. If a buffer is too short nothing is written, and the answer has the number of bytes
 -- that are needed. A refusal is a number, with the place of what is refused.

@@ -1,4 +1,4 @@
--- What a call answers for listings: the listing of a file, and the file of a listing. (own choice)
+-- What a call answers for listings: the listing of a file, and the file of a listing.
 use Rattle.std.specs.Prelude.{◌≡◌, ◌⊎◌, ℕ, List, Result, Ok, IsOk}
 use Rattle.aout_core.specs.{Contents.Contents, Encoding.encoding}
 use Rattle.link_out.specs.Steps.{and_then, refused_as}

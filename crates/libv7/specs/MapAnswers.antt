@@ -1,16 +1,16 @@
--- The map of a link of objects whose bytes are apart, as a call answers it, with the file and the report. (own choice)
-use Rattle.std.specs.Prelude.{◌≡◌, ◌⊎◌, ℕ, ◌+◌, is_some, List, length, Option, Some, None, Result, Ok, Err, IsOk, IsOkAnd}
+-- The map of a link of objects whose bytes are apart, as a call answers it, with the file and the report.
+use Rattle.std.specs.Prelude.{◌≡◌, ◌⊎◌, ℕ, ◌+◌, is_some, List, length, Option, Some, None, Result, Ok, Err, IsOk}
 use Rattle.aout_core.specs.{Contents.Contents, Names.padded}
 use Rattle.link_session.specs.{declared.entry.AddFault.AddFault, Labelled.objects}
 use Rattle.tool_options.specs.Choices.{Choices}
 use Rattle.link_out.specs.{declared.linked.Linked.Linked, declared.linked.LinkFault.LinkFault, Layouts.Bases, Outcomes.outcome_of}
-use Rattle.link_out.specs.{function.Reports.status_of, Steps.and_then, Steps.refused_as}
+use Rattle.link_out.specs.{function.Reports.status_of, Steps.refused_as}
 use Rattle.link_maps.specs.{Links.ShowsLink, Links.read_inputs, Maps.AreRecords, Maps.IsMapOf}
 use Rattle.link_maps.specs.{declared.map.LinkMap.LinkMap, declared.members.Objects.Objects, declared.outcome.Outcome.Outcome}
 use Rattle.link_maps.specs.{Members.all_of, Members.cause_of, Records.bit, Records.no_label, Taking.split, Taking.split_of}
 use Rattle.libv7.specs.{declared.cause.Refusal.Refusal, declared.output.MapHead.MapHead, declared.output.LinkOutput.LinkOutput}
-use Rattle.libv7.specs.{declared.cause.Cause.TheVariants.{NotAdded, NotLinked}, LinkRequests.{choices_in, forced_in}}
-use Rattle.libv7.specs.{Causes.{at, number_of}, LinkAnswers.{numbered, refusal_of}, MemoryWanted.MayRunOutInParts}
+use Rattle.libv7.specs.{declared.cause.Cause.TheVariants.{NotAdded, NotLinked}}
+use Rattle.libv7.specs.{Causes.number_of, LinkAnswers.{numbered, refusal_of}, MemoryWanted.MayRunOutInParts}
 use Rattle.libv7.specs.RunAnswers.{RunOutput, map_given, no_head, no_run, results_of, run_output}
 
 -- the objects that these parts begin with, or why one of them has none
@@ -59,23 +59,6 @@ head_by (Some cause) place outcome = record no_head { place = place; fault = num
 head_by None place None = no_head
 head_by None place (Some x) = linked_head x.bases x.linked
 
--- the options, then the forced names, then the objects: the first refusal, or what the map is of
-pub record MapOf : Type 0 where
-  pub choices : Choices
-  pub forced : List (List ℕ)
-  pub inputs : List (List ℕ × List ℕ)
-  pub objects : List Contents
-
-abbrev pub map_of_all : Choices → List (List ℕ) → List (List ℕ × List ℕ) → List Contents → MapOf
-map_of_all o forced inputs os = record { choices = o; forced = forced; inputs = inputs; objects = os }
-
-abbrev pub map_asked : ℕ → List ℕ → List ℕ → List (List ℕ) → Result MapOf Refusal
-map_asked bits entry forced parts =
-    and_then (at 0 (choices_in bits entry))
-    (λ o. and_then (forced_in forced)
-    (λ names. and_then (objects_each parts)
-    (λ os. Ok (map_of_all o names (numbered 0 parts) os))))
-
 -- ---- the file and the report
 
 abbrev pub linked_run : ℕ → List (List ℕ) → List Contents → Result Linked LinkFault → RunOutput
@@ -87,29 +70,28 @@ abbrev pub run_shown : ℕ → List (List ℕ) → List Contents → Option Outc
 run_shown w forced os None = no_run
 run_shown w forced os (Some x) = linked_run w forced os x.linked
 
--- a map of that, which shows the link of the inputs, and what this link gives
-pub record IsMapped (w : ℕ) (asked : MapOf) (x : LinkOutput) : Type 0 where
+-- a map of these objects of parts, which shows the link of the parts, and what this link gives
+pub record IsMapped (w : ℕ) (forced : List (List ℕ)) (o : Choices) (parts : List (List ℕ)) (os : List Contents) (x : LinkOutput) :
+    Type 0 where
   pub all : Objects
   pub map : LinkMap
-  pub taken : AreTaken asked.forced asked.objects all
-  pub is_map : IsMapOf all asked.forced asked.choices map
-  pub shows : ShowsLink asked.forced asked.choices asked.inputs all map.outcome
-  pub records : AreRecords all asked.choices map x.records
+  pub taken : AreTaken forced os all
+  pub is_map : IsMapOf all forced o map
+  pub shows : ShowsLink forced o (numbered 0 parts) all map.outcome
+  pub records : AreRecords all o map x.records
   pub head : x.head ≡ head_by (cause_of all.refused) (length all.session.entries) map.outcome
   pub run : results_of x
       ≡ record (run_shown w all.session.forced (objects all.session.entries) map.outcome) { map = map_given x.head x.records }
 
-abbrev pub IsMapAnswer : ℕ → Result MapOf Refusal → LinkOutput → Type 0
-IsMapAnswer w (Ok asked) x = IsMapped w asked x
-IsMapAnswer w (Err r) x = ⊥
+abbrev pub MapsEach : ℕ → List (List ℕ) → Choices → List (List ℕ) → Result (List Contents) Refusal → LinkOutput → Type 0
+MapsEach w forced o parts (Ok os) x = IsMapped w forced o parts os x
+MapsEach w forced o parts (Err r) x = ⊥
+
+abbrev pub MapsParts : ℕ → List (List ℕ) → Choices → List (List ℕ) → LinkOutput → Type 0
+MapsParts w forced o parts x = MapsEach w forced o parts (objects_each parts) x
 
 -- ---- memory
 
 -- memory may run out for forced names, for an object, or for the map of all of them
 abbrev pub MayRunOutInMap : List (List ℕ) → List (List ℕ) → ℕ → Type 0
 MayRunOutInMap forced parts place = ((place ≡ 0) × IsOk (objects_each parts)) ⊎ MayRunOutInParts objects_each forced parts place
-
--- not before the options and the forced names are accepted
-abbrev pub MapMayRunOut : ℕ → List ℕ → List ℕ → List (List ℕ) → ℕ → Type 0
-MapMayRunOut bits entry forced parts place =
-    IsOk (choices_in bits entry) × IsOkAnd (forced_in forced) (λ names. MayRunOutInMap names parts place)

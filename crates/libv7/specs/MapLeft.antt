@@ -1,4 +1,4 @@
--- What is left in the struct of a caller for the map of a link. (own choice)
+-- What is left in the struct of a caller for the map of a link.
 use Rattle.std.specs.Prelude.{Bool, ◌||◌, if◌then◌else◌}
 use Rattle.link_maps.specs.{declared.limit_records.LimitRecord.LimitRecord, declared.name_records.NameRecord.NameRecord}
 use Rattle.link_maps.specs.{declared.records.ObjectRecord.ObjectRecord, declared.records.UseRecord.UseRecord}

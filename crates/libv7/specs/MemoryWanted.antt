@@ -1,12 +1,11 @@
--- For which inputs a call may answer that memory ran out, and with which place. (own choice)
+-- For which inputs a call may answer that memory ran out, and with which place.
 --
 -- A call works in stages, and each lacks memory only if nothing is refused up to there. The answer does not reveal which request
 -- failed. So once an object is accepted, memory may have run out there, whatever is refused later.
-use Rattle.std.specs.Prelude.{◌≡◌, ◌≢◌, ◌⊎◌, ℕ, ◌+◌, ◌<◌, List, [], get_or, length, take, Result, IsOk, IsOkAnd}
+use Rattle.std.specs.Prelude.{◌≡◌, ◌≢◌, ◌⊎◌, ℕ, ◌+◌, ◌<◌, List, [], get_or, length, take, Result, IsOk}
 use Rattle.aout_core.specs.{Contents.Contents, Decoding.header_in, Encoding.file_length}
 use Rattle.tool_options.specs.Choices.{Choices}
 use Rattle.libv7.specs.{declared.cause.Refusal.Refusal, FileAnswers.file_in, LinkAnswers.parts_linked, LinkAnswers.taken_each}
-use Rattle.libv7.specs.{LinkRequests.choices_in, LinkRequests.forced_in}
 
 -- the bytes begin with a whole file, and it has more than its header: it is read before its words are checked
 pub record HasBody (bytes : List ℕ) : Type 0 where
@@ -31,8 +30,3 @@ MayRunOutInParts taken forced parts place = ((place ≡ 0) × (forced ≢ [])) �
 abbrev pub MayRunOutInLink : List (List ℕ) → Choices → List (List ℕ) → ℕ → Type 0
 MayRunOutInLink forced o parts place =
     ((place ≡ 0) × IsOk (parts_linked forced o parts)) ⊎ MayRunOutInParts (taken_each forced) forced parts place
-
--- not before the options and the forced names are accepted
-abbrev pub LinkMayRunOut : ℕ → List ℕ → List ℕ → List (List ℕ) → ℕ → Type 0
-LinkMayRunOut bits entry forced parts place =
-    IsOkAnd (choices_in bits entry) (λ o. IsOkAnd (forced_in forced) (λ names. MayRunOutInLink names o parts place))

@@ -1,4 +1,4 @@
--- What a call remarks of a file: what is wrong and odd in it, as records with their texts. (own choice)
+-- What a call remarks of a file: what is wrong and odd in it, as records with their texts.
 --
 -- Each record has the place of its text among all texts, which are one after another. What a text says is in no definition.
 use Rattle.std.specs.Prelude.{◌≡◌, ℕ, ◌+◌, ◌-◌, ◌/◌, true, ◌||◌, nat_le, nat_lt, if◌then◌else◌, List, [], ◌∷◌, ◌++◌, length, Option, Some}

@@ -10,8 +10,7 @@ use Rattle.link_out.specs.{function.Link.Outcome, function.Link.link, function.R
 use Rattle.link_out.specs.{Results.ReportNames, Steps.and_then, Steps.refused_as}
 use Rattle.libv7.specs.{declared.places.FindingPlace.FindingPlace, FindingPlaces.finding_places, declared.cause.Cause.Cause}
 use Rattle.libv7.specs.{declared.cause.Cause.TheVariants.NotLinked, declared.cause.Refusal.Refusal}
-use Rattle.libv7.specs.{declared.findings.ReportedName.ReportedName, declared.output.LinkOutput.LinkOutput, declared.output.MapHead.MapHead, Causes.at}
-use Rattle.libv7.specs.LinkRequests.{choices_in, forced_in}
+use Rattle.libv7.specs.{declared.findings.ReportedName.ReportedName, declared.output.LinkOutput.LinkOutput, declared.output.MapHead.MapHead}
 use Rattle.libv7.specs.{FileAnswers.has_bit, LinkAnswers.{all_findings, parts_linked, taken_each}}
 
 -- what becomes of a link, and the records of its map
@@ -97,12 +96,7 @@ results_of x = record {
 abbrev pub objects_run : ℕ → List (List ℕ) → Choices → List Contents → Result RunOutput Cause
 objects_run w forced o os = and_then (refused_as NotLinked (link forced os o)) (λ x. Ok (run_output w forced os x))
 
--- a link of all parts
+-- the objects, then the link: the first refusal, or what is given
 abbrev pub parts_run : ℕ → List (List ℕ) → Choices → List (List ℕ) → Result RunOutput Refusal
 parts_run w forced o parts =
     and_then (taken_each forced parts) (λ os. and_then (parts_linked forced o parts) (λ x. Ok (run_output w forced os x)))
-
--- the options, then the forced names, then the objects, then the link: the first refusal, or what is given
-abbrev pub link_run : ℕ → ℕ → List ℕ → List ℕ → List (List ℕ) → Result RunOutput Refusal
-link_run w bits entry forced parts =
-    and_then (at 0 (choices_in bits entry)) (λ o. and_then (forced_in forced) (λ names. parts_run w names o parts))

@@ -1,15 +1,18 @@
--- What v7_run is asked for, what it leaves in the result of its caller, and its status. (own choice)
+-- What v7_run is asked for, what it leaves in the result of its caller, and its status.
 --
 -- A request and a result begin with their sizes in bytes. A caller may have a shorter result, without the last fields: a link whose
 -- report is wanted as lines alone does not need them. So it is with the objects of what is reported. Fields that a result lacks stay as
 -- they are, but for those that every answer fills: the fault, its word and its place, and the sizes of file and report.
-use Rattle.std.specs.Prelude.{◌≡◌, ℕ, Bool, true, false, ◌||◌, ◌&&◌, not, nat_lt, nat_le, if◌then◌else◌, Result, Option, None, Some, Ok, Err}
-use Rattle.libv7.specs.MapAnswers.{IsMapAnswer, MapMayRunOut, MapOf, map_asked}
-use Rattle.libv7.specs.RunAnswers.{RunOutput, link_run, no_run, results_of}
+use Rattle.std.specs.Prelude.{◌≡◌, ℕ, Bool, true, false, ◌||◌, ◌&&◌, not, nat_lt, nat_le, if◌then◌else◌, List, Result, Option, None, Some, Ok, Err}
+use Rattle.link_out.specs.Steps.{and_then}
+use Rattle.tool_options.specs.Choices.{Choices}
+use Rattle.libv7.specs.MapAnswers.{MapsParts, MayRunOutInMap, objects_each}
+use Rattle.libv7.specs.RunAnswers.{RunOutput, no_run, parts_run, results_of}
 use Rattle.libv7.specs.{declared.cause.Cause.TheVariants.{NoWant, NotKept, ShortStruct}, declared.output.LinkOutput.LinkOutput}
 use Rattle.libv7.specs.{declared.cause.Cause.Cause, declared.cause.Refusal.Refusal, declared.findings.ReportedName.ReportedName}
 use Rattle.libv7.specs.FileAnswers.{has_bit}
-use Rattle.libv7.specs.{LinkAnswers.each_of, MemoryWanted.LinkMayRunOut, declared.places.FindingPlace.FindingPlace}
+use Rattle.libv7.specs.{LinkAnswers.each_of, MemoryWanted.MayRunOutInLink, declared.places.FindingPlace.FindingPlace}
+use Rattle.libv7.specs.{Causes.at, LinkRequests.{choices_in, forced_in}}
 use Rattle.libv7.specs.MapLeft.{MapLeft, with_map, left_in as map_left_in, is_short as map_is_short}
 use Rattle.libv7.specs.Left.{IsRefusal, Room, given, lacks, of_none, refused, room, with_items}
 use Rattle.libv7.specs.{declared.answer.Answer.Answer, declared.requests.Request.Request, declared.run.RunAnswer.RunAnswer}
@@ -47,38 +50,30 @@ abbrev pub or_unread : {A : Type 0} → Option Cause → Result A Refusal → Re
 or_unread None r = r
 or_unread (Some cause) r = Err (of_none cause)
 
--- what the library gives without a map, to a caller with a result of this size
-abbrev pub run_in : Request → ℕ → Result RunOutput Refusal
-run_in q size =
-    or_unread (unread 15 q size) (link_run q.wants q.options q.entry.now q.forced.now (each_of q.objects.now))
-
--- memory may run out, at this place
-abbrev pub RunMayRunOut : Request → ℕ → ℕ → Type 0
-RunMayRunOut q size place =
-    (unread 15 q size ≡ None) × LinkMayRunOut q.options q.entry.now q.forced.now (each_of q.objects.now) place
-
--- the objects, options and names of the map that is asked for
-abbrev pub map_in : Request → ℕ → Result MapOf Refusal
-map_in q size =
-    or_unread (unread 15 q size) (map_asked q.options q.entry.now q.forced.now (each_of q.objects.now))
-
-abbrev pub MapRunsOut : Request → ℕ → ℕ → Type 0
-MapRunsOut q size place =
-    (unread 15 q size ≡ None) × MapMayRunOut q.options q.entry.now q.forced.now (each_of q.objects.now) place
+-- the options, then the forced names, of a caller with a result of this size: the first refusal, or both
+abbrev pub asked_in : Request → ℕ → Result (Choices × List (List ℕ)) Refusal
+asked_in q size =
+    or_unread (unread 15 q size)
+    (and_then (at 0 (choices_in q.options q.entry.now)) (λ o. and_then (forced_in q.forced.now) (λ names. Ok (o, names))))
 
 abbrev pub results_or : Result LinkOutput Refusal → Result RunOutput Refusal
 results_or (Ok x) = Ok (results_of x)
 results_or (Err r) = Err r
 
--- an answer is what the library gives: with a map, if bit 8 is set, or without one
-abbrev pub AnswerBy : Bool → Request → ℕ → Result LinkOutput Refusal → Type 0
-AnswerBy true q size (Ok x) = IsMapAnswer q.wants (map_in q size) x
-AnswerBy true q size (Err r) = IsRefusal (map_in q size) (MapRunsOut q size) r
-AnswerBy false q size (Ok x) = run_in q size ≡ Ok (results_of x)
-AnswerBy false q size (Err r) = IsRefusal (run_in q size) (RunMayRunOut q size) r
+-- a link of these parts, with a map if it is wanted, or why there is none
+abbrev pub LinksParts : Bool → ℕ → List (List ℕ) → Choices → List (List ℕ) → Result LinkOutput Refusal → Type 0
+LinksParts true w forced o parts (Ok x) = MapsParts w forced o parts x
+LinksParts true w forced o parts (Err r) = IsRefusal (objects_each parts) (MayRunOutInMap forced parts) r
+LinksParts false w forced o parts (Ok x) = parts_run w forced o parts ≡ Ok (results_of x)
+LinksParts false w forced o parts (Err r) = IsRefusal (parts_run w forced o parts) (MayRunOutInLink forced o parts) r
+
+-- the link by these options and forced names, or why these are refused
+abbrev pub AnswersBy : Result (Choices × List (List ℕ)) Refusal → Request → Result LinkOutput Refusal → Type 0
+AnswersBy (Ok asked) q r = LinksParts (has_bit q.wants 8) q.wants asked.1 asked.0 (each_of q.objects.now) r
+AnswersBy (Err why) q r = r ≡ Err why
 
 abbrev pub IsAnswer : Request → ℕ → Result LinkOutput Refusal → Type 0
-IsAnswer q size r = AnswerBy (has_bit q.wants 8) q size r
+IsAnswer q size r = AnswersBy (asked_in q size) q r
 
 -- ---- what is left
 

@@ -1,4 +1,4 @@
--- What the calls of a session that is kept do to it, and what they give. (own choice)
+-- What the calls of a session that is kept do to it, and what they give.
 --
 -- A call that is refused leaves the session as it was. The objects have no labels.
 use Rattle.std.specs.Prelude.{◌≡◌, ◌⊎◌, ℕ, List, [], ok_or, Result, Ok, IsOk, IsOkAnd}

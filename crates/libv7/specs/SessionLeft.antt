@@ -1,4 +1,4 @@
--- What a handle keeps for C between calls, and what a call on it leaves. (own choice)
+-- What a handle keeps for C between calls, and what a call on it leaves.
 use Rattle.std.specs.Prelude.{◌≡◌, ℕ, eqb, if◌then◌else◌, List, Option, Some, None, Result, Ok, Err, IsOk, IfOk}
 use Rattle.link_session.specs.Undo.{Kept}
 use Rattle.libv7.specs.declared.cause.Cause.TheVariants.{NoSession, SessionOpen}

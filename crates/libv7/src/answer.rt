@@ -87,9 +87,10 @@ impl Answer {
     pub(crate) fn refused(refusal: Refusal) -> Answer
         ensures { result ≡ refused refusal }
     {
+        let (fault, word) = refusal.cause.code();
         Answer {
-            fault: refusal.cause.number(),
-            word: refusal.cause.word(),
+            fault,
+            word,
             place: refusal.place,
             size: 0,
             report_size: 0,

@@ -1,7 +1,7 @@
 //! Why a call has no answer.
 ghost use Rattle.std.specs.Prelude.{◌≡◌};
 ghost use Rattle.aout_core.specs.Refusals.{refused};
-ghost use Rattle.libv7.specs.Causes.{cause_of_addition, cause_of_link, code_of, column_word, gnu_code, number_of, object_code, reason_number, word_of};
+ghost use Rattle.libv7.specs.Causes.{cause_of_addition, cause_of_link, code_of, column_word, gnu_code, object_code, reason_number};
 ghost use Rattle.libv7.specs.declared.cause.Cause.TheVariants.{Memory};
 
 use aout_core::{ObjectFault, ReadFault, Refused};
@@ -23,7 +23,7 @@ pub enum LongPart {
     Symbols = 4,
 }
 
-/// Why a call has no answer. If memory runs out it is `Memory`, whatever was being done. (own choice)
+/// Why a call has no answer. If memory runs out it is `Memory`, whatever was being done.
 #[derive(Clone, Copy, Debug, PartialEq, Eq)]
 pub enum Cause {
     /// 1: a bit is not an option.
@@ -66,7 +66,7 @@ pub enum Cause {
     Memory(Refused),
 }
 
-/// Why a call has no answer, and where. (own choice)
+/// Why a call has no answer, and where.
 #[derive(Clone, Copy, Debug, PartialEq, Eq)]
 pub struct Refusal {
     /// Why there is no answer.
@@ -219,8 +219,10 @@ fn column_word(column: usize) -> u32
 }
 
 impl Cause {
-    /// Its number, and the number in it.
-    fn code(&self) -> (u32, u32)
+    /// The number by which other languages know the cause, and a number in it: the index of the word that is at fault, text before data,
+    /// from 0, or the number of the part that is too long. For a mistake in a listing it is the column, from 1, and columns from 2^32 - 1 on
+    /// have that number. For an object in GNU's form it is the number in the refusal, and of two the first. Other causes have 0.
+    pub(crate) fn code(&self) -> (u32, u32)
         ensures { result ≡ code_of self.now }
     {
         match *self {
@@ -256,21 +258,5 @@ impl Cause {
             | Cause::NotAdded(AddFault::Memory(_))
             | Cause::NotLinked(LinkFault::Memory(_)) => (0, 0),
         }
-    }
-
-    /// The number by which other languages know the cause. (own choice)
-    pub fn number(&self) -> u32
-        ensures { result ≡ number_of self.now }
-    {
-        self.code().0
-    }
-
-    /// The index of the word that is at fault, text before data, from 0, or the number of the part that is too long. For a mistake in a
-    /// listing it is the column, from 1, and columns from 2^32 - 1 on have that number. For an object in GNU's form it is the number in
-    /// the refusal, and of two the first. Other causes have 0. (own choice)
-    pub fn word(&self) -> u32
-        ensures { result ≡ word_of self.now }
-    {
-        self.code().1
     }
 }

@@ -1,4 +1,5 @@
 //! The calls of libv7 for C and for what can call C: `v7.h` says what each is for.
+//! What names no manual page is our own choice.
 //!
 //! Each call takes bytes of files, and writes bytes of files, text or records into buffers of its caller. Only a session is kept between
 //! two calls. An object is the bytes that begin with it: its header gives its length.
@@ -6,7 +7,7 @@
 //! - `file_calls`, `disassembly`, `listing_calls`, `gnu_call`, `remarks_call`, `make_call`, `part_lists`: what the calls on one file give
 //! - `requests`, `output`: what is asked of a link, and what it gives
 //! - `run`, `run_call`, `map_call`: a link, and its map
-//! - `session_calls`, `session_edits`, `session_json`: a session that C keeps in a `session_handle`, its edits, and its state
+//! - `session_calls`, `session_json`: a session that C keeps in a `session_handle`, and its state
 //! - `cause`: why a call gives nothing, and its number
 //! - `answer`, `buffers`, `map`: how that is written into the buffers
 #![tactic(auto)]
@@ -37,7 +38,6 @@ mod requests;
 mod run;
 mod run_call;
 mod session_calls;
-mod session_edits;
 mod session_handle;
 mod session_json;
 mod slot;
@@ -224,7 +224,8 @@ pub extern "C" fn v7_run(alloc: Global, request: &Request<'_>, answer: &mut RunA
     ensures left { LeavesRun request.now answer.old answer.new result }
     ensures most { answer.new.file_size ≤ 327684 }
 {
-    run::run(alloc, request, answer)
+    let given = run::answer_to(alloc, request, answer.size);
+    run::leave(alloc, answer, given)
 }
 
 /// Makes an object of its parts.
@@ -351,7 +352,8 @@ pub extern "C" fn v7_session_link(
     ensures most { answer.new.file_size ≤ 327684 }
     ensures unchanged { kept_by session.new ≡ kept_by session.old }
 {
-    session_calls::link(alloc, session, request, answer)
+    let given = session_calls::link_for(alloc, session, request, answer.size);
+    run::leave(alloc, answer, given)
 }
 
 /// Gives what a session shows.
@@ -375,6 +377,9 @@ pub extern "C" fn v7_session_free(alloc: Global, session: &mut Handle) -> u32
     ensures status { result ≡ 0 }
     ensures ended { kept_by session.new ≡ None }
 {
-    session_calls::end(alloc, session);
+    match session.take(alloc) {
+        None => {}
+        Some(kept) => drop(kept),
+    }
     0
 }

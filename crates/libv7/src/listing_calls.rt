@@ -23,7 +23,7 @@ fn listing_of(alloc: Global, file: &File) -> Result<Vec<u8>, AllocError>
 }
 
 /// The listing of the file that the bytes begin with, as v7-explain(1) prints it but for the lines that begin with a slash.
-/// `from_listing` gives the bytes of the file again. What is after the file is not looked at. (own choice)
+/// `from_listing` gives the bytes of the file again. What is after the file is not looked at.
 ///
 /// Errors: `BadFile`, 11 to 14, if the bytes do not begin with a file; else `Memory`, 50, if memory runs out.
 pub fn list_file(alloc: Global, bytes: &[u8]) -> Result<Vec<u8>, Cause>
@@ -52,7 +52,7 @@ fn file_described(alloc: Global, text: &[u8]) -> Result<File, Refusal>
     }
 }
 
-/// The bytes of the file that a listing describes. (own choice)
+/// The bytes of the file that a listing describes.
 ///
 /// Errors: `BadListing`, 61 to 80, for the first mistake, with its line as the place; `Memory`, 50, if memory runs out for a word, a
 /// symbol, a mistake after the first, or the file.

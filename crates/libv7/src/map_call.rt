@@ -3,9 +3,8 @@ ghost use Rattle.std.specs.Prelude.{◌≡◌, ◌≢◌, ◌⊎◌, ◌++◌, �
 ghost use Rattle.aout_core.specs.{Contents.Contents, Refusals.refused};
 ghost use Rattle.link_session.specs.Labelled.{objects};
 ghost use Rattle.link_maps.specs.{Links.read_inputs, Members.{all_of, cause_of}};
-ghost use Rattle.libv7.specs.LinkAnswers.{each_of};
-ghost use Rattle.libv7.specs.MapAnswers.{AreTaken, IsMapAnswer, IsMapped, MapMayRunOut, head_by, made_head, map_asked};
-ghost use Rattle.libv7.specs.MapAnswers.{map_of_all, objects_each, placed_head, run_shown};
+ghost use Rattle.libv7.specs.LinkAnswers.{each_of, numbered};
+ghost use Rattle.libv7.specs.MapAnswers.{AreTaken, IsMapped, MapsParts, MayRunOutInMap, head_by, made_head, objects_each, placed_head, run_shown};
 ghost use Rattle.libv7.specs.declared.cause.Cause.TheVariants.{Memory};
 ghost use Rattle.libv7.specs.{FileAnswers.object_in, MemoryWanted.{HasBody, MayRunOutInParts}, RunAnswers.results_of};
 
@@ -13,7 +12,6 @@ use crate::cause::{Cause, Refusal};
 use crate::decoding::first_object;
 use crate::output::{LinkOutput, MapHead, NO_HEAD};
 use crate::parts::ObjectBytes;
-use crate::requests::{Request, forced_names, tool_options};
 use crate::run_call::result_of;
 use link_maps::{LinkMap, Objects, map_of, padded, records_of};
 use link_out::{Bases, Linked, Options};
@@ -94,14 +92,14 @@ fn head_of(map: &LinkMap, all: &Objects) -> MapHead
 {
     match &all.refused {
         Some(refused) => MapHead {
-            fault: Cause::NotAdded(refused.cause).number(),
+            fault: Cause::NotAdded(refused.cause).code().0,
             place: all.session.entries().len(),
             ..NO_HEAD
         },
         None => match &map.outcome {
             Some(outcome) => match &outcome.linked {
                 Ok(linked) => made_head(&outcome.bases, linked),
-                Err(fault) => placed_head(&outcome.bases, Cause::NotLinked(*fault).number()),
+                Err(fault) => placed_head(&outcome.bases, Cause::NotLinked(*fault).code().0),
             },
             None => NO_HEAD,
         },
@@ -135,9 +133,9 @@ fn map_objects(
     forced: &Forced,
     options: &Options,
 ) -> Result<LinkOutput, AllocError>
-    ensures { IfOk result (λ x. (inputs : List (List ℕ × List ℕ))
-        → read_inputs inputs ≡ Ok (objects (all_of all)) → AreTaken forced.now (objects (all_of all)) all
-        → IsMapped wants (map_of_all options.now forced.now inputs (objects (all_of all))) x) }
+    ensures { IfOk result (λ x. (parts : List (List ℕ))
+        → read_inputs (numbered 0 parts) ≡ Ok (objects (all_of all)) → AreTaken forced.now (objects (all_of all)) all
+        → IsMapped wants forced.now options.now parts (objects (all_of all)) x) }
 {
     let map = map_of(alloc, &all, forced, options)?;
     let records = records_of(alloc, &map, &all, options)?;
@@ -149,20 +147,25 @@ fn map_objects(
 }
 
 /// The map of the link of the object that each of the parts begins with, in their order, with the file and what is wanted of the report.
-/// A link that is refused has a map too, and nothing else. (own choice)
+/// A link that is refused has a map too, and nothing else.
 ///
-/// Errors: those of `run_link` but for 31 to 43, which are in the map.
+/// Errors: those of `run_parts` but for 31 to 43, which are in the map.
 #[tactic(auto, using(crate::proofs::MapLemmas::mapped_all))]
-pub(crate) fn map_link(alloc: Global, request: &Request<'_>) -> Result<LinkOutput, Refusal>
-    ensures ok { IfOk result (λ x. IsMapAnswer request.now.wants (map_asked request.now.options
-        request.now.entry.now request.now.forced.now (each_of request.now.objects.now)) x) }
-    ensures err { IfErr result (λ r. r.cause ≢ Memory refused → map_asked request.now.options
-        request.now.entry.now request.now.forced.now (each_of request.now.objects.now) ≡ Err r) }
-    ensures memory { IfErr result (λ r. r.cause ≡ Memory refused → MapMayRunOut request.now.options
-        request.now.entry.now request.now.forced.now (each_of request.now.objects.now) r.place) }
+pub(crate) fn map_parts(
+    alloc: Global,
+    wants: u32,
+    parts: &[ObjectBytes<'_>],
+    forced: &Forced,
+    options: &Options,
+) -> Result<LinkOutput, Refusal>
+    ensures ok { IfOk result (λ x. MapsParts wants forced.now options.now (each_of parts.now) x) }
+    ensures err { IfErr result (λ r. r.cause ≢ Memory refused → objects_each (each_of parts.now) ≡ Err r) }
+    ensures memory { IfErr result (λ r.
+        r.cause ≡ Memory refused → MayRunOutInMap forced.now (each_of parts.now) r.place) }
 {
-    let options = tool_options(request.options, request.entry)?;
-    let forced = forced_names(request.forced)?;
-    let all = objects_of(alloc, request.objects, &forced)?;
-    Ok(map_objects(alloc, request.wants, all, &forced, &options)?)
+    let all = match objects_of(alloc, parts, forced) {
+        Ok(all) => all,
+        Err(refusal) => return Err(refusal),
+    };
+    Ok(map_objects(alloc, wants, all, forced, options)?)
 }

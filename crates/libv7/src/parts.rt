@@ -22,7 +22,7 @@ pub struct SymbolRow {
     pub value: u16,
 }
 
-/// The bytes of a file that begin with an object. (own choice)
+/// The bytes of a file that begin with an object.
 #[repr(C)]
 #[derive(Clone, Copy)]
 pub struct ObjectBytes<'a> {

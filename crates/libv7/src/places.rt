@@ -86,7 +86,7 @@ fn places_with(
     Ok(places)
 }
 
-/// The objects of the names of a report on the link of a session, in the order of its lines, and as many. (own choice)
+/// The objects of the names of a report on the link of a session, in the order of its lines, and as many.
 ///
 /// An error: out of memory.
 pub(crate) fn places_of(

@@ -11,7 +11,7 @@ use checks::{Evidence, FilePlaces, Finding, all_odd_of, wrong_bytes, wrong_in};
 use disassemblies::Sweep;
 use std::alloc::{AllocError, Global};
 
-/// A remark on a file. (own choice)
+/// A remark on a file.
 #[repr(C)]
 #[derive(Clone, Copy, Debug, PartialEq, Eq)]
 pub struct RemarkRecord {
@@ -35,7 +35,7 @@ struct Located {
     word: u32,
 }
 
-/// All remarks on a file. (own choice)
+/// All remarks on a file.
 #[derive(Debug, Drop)]
 pub struct Remarks {
     /// 1 if something is wrong, else 0.

@@ -1,19 +1,21 @@
 //! A link by one request, with one result: each is a struct that begins with its size.
 ghost use Rattle.std.specs.Prelude.{◌≡◌, ◌<◌, ◌≤◌, true, false};
 ghost use Rattle.libv7.specs.RunAnswers.{results_of};
-ghost use Rattle.libv7.specs.RunLeft.{IsAnswer, LeavesRun, answer_left, answered, is_enough, is_short, left_in, output_left, unread};
+ghost use Rattle.libv7.specs.RunLeft.{IsAnswer, answer_left, answered, asked_in, is_enough, is_short, left_in, output_left, unread};
 
 use crate::answer::Answer;
 use crate::buffers::{NO_ROOM, leave_items};
 use crate::cause::{Cause, Refusal};
 use crate::findings::ReportedName;
 use crate::map::MapAnswer;
-use crate::map_call::map_link;
+use crate::map_call::map_parts;
 use crate::output::LinkOutput;
 use crate::places::FindingPlace;
-use crate::requests::{Request, has_bit};
-use crate::run_call::run_link;
+use crate::requests::{Request, forced_names, has_bit, tool_options};
+use crate::run_call::run_parts;
+use link_session::Forced;
 use std::alloc::Global;
+use tool_options::Options;
 
 /// All wants.
 const ALL: u32 = 15;
@@ -83,18 +85,35 @@ pub(crate) fn unread(request: &Request<'_>, size: usize, most: u32) -> Option<Ca
     }
 }
 
-/// The link that is asked for, by a caller with a result of this size.
-#[tactic(auto, using(crate::proofs::RunLemmas::by_answer))]
-fn answer_to(alloc: Global, request: &Request<'_>, size: usize) -> Result<LinkOutput, Refusal>
-    ensures { IsAnswer request.now size result }
+/// The options and the forced names that are asked for, by a caller with a result of this size.
+fn asked_of(request: &Request<'_>, size: usize) -> Result<(Options, Forced), Refusal>
+    ensures { result ≡ asked_in request.now size }
 {
     if let Some(cause) = unread(request, size, ALL) {
         return Err(Refusal::from(cause));
     }
+    let options = tool_options(request.options, request.entry)?;
+    let forced = forced_names(request.forced)?;
+    Ok((options, forced))
+}
+
+/// The link that is asked for, by a caller with a result of this size. (ld(1))
+///
+/// Errors, the first that applies: those of `unread`; `NoOption`, 1, `Excluded`, 2, and `LongName`, 3, if the options or the name of the
+/// entry point are wrong; `CutNames`, 4, and `ManyNames`, 5, if the forced names are wrong; then those of `map_parts` or `run_parts`.
+#[tactic(auto, using(crate::proofs::RunLemmas::by_answer))]
+pub(crate) fn answer_to(
+    alloc: Global,
+    request: &Request<'_>,
+    size: usize,
+) -> Result<LinkOutput, Refusal>
+    ensures { IsAnswer request.now size result }
+{
+    let asked = asked_of(request, size)?;
     if has_bit(request.wants, 8) {
-        map_link(alloc, request)
+        map_parts(alloc, request.wants, request.objects, &asked.1, &asked.0)
     } else {
-        run_link(alloc, request)
+        run_parts(alloc, request.wants, request.objects, &asked.1, &asked.0)
     }
 }
 
@@ -189,13 +208,4 @@ pub(crate) fn leave(
             answer_by(answer, false, 2, &Answer::refused(refusal), &nothing)
         }
     }
-}
-
-/// Does what is asked for.
-pub(crate) fn run(alloc: Global, request: &Request<'_>, answer: &mut RunAnswer<'_>) -> u32
-    ensures left { LeavesRun request.now answer.old answer.new result }
-    ensures most { answer.new.file_size ≤ 327684 }
-{
-    let given = answer_to(alloc, request, answer.size);
-    leave(alloc, answer, given)
 }

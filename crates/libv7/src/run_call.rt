@@ -3,8 +3,8 @@ ghost use Rattle.std.specs.Prelude.{◌≡◌, ◌≢◌, Ok, Err, IsOk, IfOk, I
 ghost use Rattle.aout_core.specs.Refusals.{refused};
 ghost use Rattle.link_session.specs.Labelled.{objects};
 ghost use Rattle.link_out.specs.{Outcomes.{outcome_of, report_names}, Steps.refused_as, function.Link.link};
-ghost use Rattle.libv7.specs.RunAnswers.{findings_if, lines_if, link_run, no_run, objects_run, output_with, parts_run, places_if};
-ghost use Rattle.libv7.specs.{LinkAnswers.{each_of, taken_each}, MemoryWanted.{LinkMayRunOut, MayRunOutInLink, MayRunOutInParts}};
+ghost use Rattle.libv7.specs.RunAnswers.{findings_if, lines_if, no_run, objects_run, output_with, parts_run, places_if};
+ghost use Rattle.libv7.specs.{LinkAnswers.{each_of, taken_each}, MemoryWanted.{MayRunOutInLink, MayRunOutInParts}};
 ghost use Rattle.libv7.specs.{RunAnswers.{results_of, run_output}, declared.cause.Cause.TheVariants.{Memory, NotLinked}};
 
 use crate::cause::{Cause, Refusal};
@@ -13,14 +13,14 @@ use crate::findings::{ReportedName, all_findings};
 use crate::output::{LinkOutput, NO_HEAD, no_records};
 use crate::parts::ObjectBytes;
 use crate::places::{FindingPlace, places_of};
-use crate::requests::{Request, forced_names, has_bit, tool_options};
-use crate::session_edits::add_bytes;
+use crate::requests::has_bit;
+use crate::session_calls::add_bytes;
 use link_out::{Linked, Options, Report, finish};
 use link_session::{Forced, Session};
 use std::alloc::{AllocError, Global};
 
 impl LinkOutput {
-    /// Nothing but a status, for a link that is not made. (own choice)
+    /// Nothing but a status, for a link that is not made.
     pub fn nothing(alloc: Global) -> LinkOutput
         ensures { results_of result ≡ no_run }
     {
@@ -174,9 +174,14 @@ pub(crate) fn take_each(
     Ok(session)
 }
 
-/// Links the object that each of the parts begins with.
+/// Links the object that each of the parts begins with, in their order, and returns what is wanted of the report. Each is read, checked
+/// and added before the next one is read, and a refusal ends the link. The bytes after an object in its part are not looked at. (ld(1))
+///
+/// Errors, the first that applies: for the first object that is not taken, with the number of its part: `BadFile`, 11 to 14, if it is not
+/// a file; `BadObject`, 21 to 24, if it is not an object; `NotAdded`, 31 to 34, if it passes a limit; then `NotLinked`, 41 to 43, if there
+/// is no link of them. `Memory`, 50, if memory runs out for forced names, for a whole file, for an object that is accepted, or for a link.
 #[tactic(auto, using(crate::proofs::MemoryLemmas::parts_not_taken))]
-fn run_parts(
+pub(crate) fn run_parts(
     alloc: Global,
     wants: u32,
     parts: &[ObjectBytes<'_>],
@@ -198,29 +203,4 @@ fn run_parts(
         Ok(given) => Ok(given),
         Err(cause) => Err(Refusal { cause, place: 0 }),
     }
-}
-
-/// Links the object that each part of a request begins with, in their order, and returns what is wanted of the report. Each is read, checked
-/// and added before the next one is read, and a refusal ends the link. The bytes after an object in its part are not looked at. (ld(1))
-///
-/// Errors, the first that applies:
-///
-/// - `NoOption`, 1, `Excluded`, 2, and `LongName`, 3, if the options or the name of the entry point are wrong;
-/// - `CutNames`, 4, and `ManyNames`, 5, if the forced names are wrong;
-/// - for the first object that is not taken, with the number of its part: `BadFile`, 11 to 14, if it is not a file; `BadObject`, 21
-///   to 24, if it is not an object; `NotAdded`, 31 to 34, if it passes a limit;
-/// - `NotLinked`, 41 to 43, if all objects are taken and there is no link of them.
-///
-/// `Memory`, 50, if memory runs out for forced names, for a whole file, for an object that is accepted, or for a link.
-pub(crate) fn run_link(alloc: Global, request: &Request<'_>) -> Result<LinkOutput, Refusal>
-    ensures ok { IfOk result (λ given. link_run request.now.wants request.now.options request.now.entry.now
-        request.now.forced.now (each_of request.now.objects.now) ≡ Ok (results_of given)) }
-    ensures err { IfErr result (λ r. r.cause ≢ Memory refused → link_run request.now.wants request.now.options
-        request.now.entry.now request.now.forced.now (each_of request.now.objects.now) ≡ Err r) }
-    ensures memory { IfErr result (λ r. r.cause ≡ Memory refused → LinkMayRunOut request.now.options
-        request.now.entry.now request.now.forced.now (each_of request.now.objects.now) r.place) }
-{
-    let options = tool_options(request.options, request.entry)?;
-    let forced = forced_names(request.forced)?;
-    run_parts(alloc, request.wants, request.objects, &forced, &options)
 }

@@ -1,8 +1,7 @@
 -- Objects as a session takes them, one after another.
 use Rattle.std.proofs.{Common.{◌≡◌, ℕ, List, [], ◌∷◌, ◌++◌, Option, Some, None, refl, sym, ap, ◌∙◌}, lemmas.List.{append-nil, append_assoc}}
 use Rattle.aout_core.specs.WellFormed.{first_of}
-use Rattle.link_session.specs.{declared.entry.AddFault.AddFault, Labelled.Labelled, Labelled.objects, Limits.refusal, Sessions.nothing_kept}
-use Rattle.link_session.specs.{Undo.Kept}
+use Rattle.link_session.specs.{declared.entry.AddFault.AddFault, Labelled.Labelled, Labelled.objects, Limits.refusal}
 use Rattle.link_maps.specs.Members.{all_of, cause_of, left_of}
 use Rattle.link_maps.specs.Taking.{Split, not_split, split, split_by, split_from, split_of, split_with, with_object}
 use Rattle.link_maps.specs.{declared.members.Objects.Objects, declared.members.Refused.Refused}
@@ -41,16 +40,3 @@ split_more forced old new x names taken so_far =
     ∙ ap (split forced) (sym (all_more old new x taken))
 
 -- ---- before the first
-
--- there are none
-pub none_yet : (forced : List (List ℕ)) (o : Objects) → o.session ≡ nothing_kept forced → o.refused ≡ None → all_of o ≡ []
-none_yet forced o session refused =
-    ap (λ (k : Kept). k.entries ++ left_of o.refused) session ∙ ap (λ (r : Option Refused). left_of r) refused
-
--- and these are split as by their definition, whatever the forced names are
-pub none_split : (forced names : List (List ℕ)) (o : Objects) → o.session ≡ nothing_kept forced → o.refused ≡ None →
-    split_of o ≡ split names (all_of o)
-none_split forced names o session refused =
-    ap (λ (k : Kept). split_with k.entries o.refused) session
-    ∙ ap (λ (r : Option Refused). split_with [] r) refused
-    ∙ sym (ap (split names) (none_yet forced o session refused))

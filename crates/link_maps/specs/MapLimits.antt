@@ -1,4 +1,4 @@
--- The limits of a link, and how much of each its objects use. (own choice)
+-- The limits of a link, and how much of each its objects use.
 use Rattle.std.specs.Prelude.{ℕ, Bool, if◌then◌else◌, List, [], ◌∷◌, ◌++◌, length, Option, Some, None, Result, Ok, Err}
 use Rattle.link_session.specs.Undo.{Kept, image_of}
 use Rattle.link_out.specs.{declared.linked.Linked.Linked, declared.linked.LinkFault.LinkFault}

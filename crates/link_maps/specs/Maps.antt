@@ -1,4 +1,4 @@
--- The map of the link of some objects. (own choice)
+-- The map of the link of some objects.
 use Rattle.std.specs.Prelude.{◌≡◌, not, is_some, ℕ, List, map, IfSome}
 use Rattle.link_session.specs.Labelled.{objects}
 use Rattle.tool_options.specs.Choices.{Choices}

@@ -1,4 +1,4 @@
--- The map of a link as lists of records that have no lists of their own. (own choice)
+-- The map of a link as lists of records that have no lists of their own.
 --
 -- Objects and names are numbered from 0, names in their order. The uses of a name are one after another, and after each the words
 -- of its object that refer to the name.

@@ -1,4 +1,4 @@
--- A word of an object, with its line and the label before that. (own choice)
+-- A word of an object, with its line and the label before that.
 --
 -- A word of text is in a line, an instruction or a plain word; a word of data is a line of its own. A label is a symbol of text or of data,
 -- at its address in the object. The one before a line is that with the largest address up to the line's own; of several at that address,

@@ -1,4 +1,4 @@
--- What a session takes of the objects of a link, and why it refuses the first that it does not take. (own choice)
+-- What a session takes of the objects of a link, and why it refuses the first that it does not take.
 --
 -- It takes them in order, each after those that it keeps. After the first that passes a limit it takes none.
 use Rattle.std.specs.Prelude.{ℕ, List, [], ◌∷◌, ◌++◌, Option, Some, None}

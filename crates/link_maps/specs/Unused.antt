@@ -1,4 +1,4 @@
--- Which names of a link nothing uses. (own choice)
+-- Which names of a link nothing uses.
 --
 -- A name is used if a symbol of it does not define it, if a word leads to it, or if a word may reach what it names.
 use Rattle.std.specs.Prelude.{ℕ, Bool, false, not, ◌&&◌, ◌||◌, eqb, List, length, Option, Some, slice_get}

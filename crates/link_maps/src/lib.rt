@@ -1,5 +1,6 @@
 //! The map of a link: where the segments of each object lie, who defines each external name, who wants it, and which words refer to
 //! it. A link that is refused has a map too. docs/OBJECTS.md shows one.
+//! What names no manual page is our own choice.
 //!
 //! An example:
 //!

@@ -31,7 +31,7 @@ fn is_entry(address: u16, symbol: &Symbol) -> bool
 
 impl LinkMap {
     /// Whether a link of a session is made in which an object defines the name of these uses and nothing uses it: no other symbol wants it,
-    /// no word leads to it or may reach what it names, and it is not at the entry point. (own choice)
+    /// no word leads to it or may reach what it names, and it is not at the entry point.
     pub fn is_unused(&self, session: &Session, uses: &[Use]) -> bool
         ensures { result ≡ is_unused self.now.outcome session.now uses.now }
     {

@@ -1,5 +1,5 @@
 -- The file and the report of a link that no fault refuses.
-use Rattle.std.proofs.{Common.{◌≡◌, ℕ, ◌≤◌, false, ◌&&◌, List, length, ap, rules}, lemmas.Bool.ltb-false}
+use Rattle.std.proofs.Common.{◌≡◌, ℕ, ◌≤◌, false, ◌&&◌, List, length, ap, rules}
 use Rattle.aout_core.specs.{Contents.Contents}
 use Rattle.std.specs.Prelude.{Ok, nat_lt}
 use Rattle.link_out.specs.{function.Plans.Plan, function.Tables.{table, has_number_too_large}, function.Reports.report_of}
@@ -27,10 +27,6 @@ made_file p os x h = ap (λ (y : Outcome). y.file) (made p os x h).outcome
 -- its report
 pub made_report : (p : Plan) (os : List Contents) (x : Outcome) → link_by p os ≡ Ok x → report_of p ≡ x.report
 made_report p os x h = ap (λ (y : Outcome). y.report) (made p os x h).outcome
-
--- its end fits a word
-pub made_fits : (p : Plan) (os : List Contents) (x : Outcome) → link_by p os ≡ Ok x → p.at.bss_end ≤ 65535
-made_fits p os x h = ltb-false 65535 p.at.bss_end (made p os x h).short
 
 -- a number that is at most the limit is not over it
 pub not_over : (m n : ℕ) → n ≤ m → nat_lt m n ≡ false

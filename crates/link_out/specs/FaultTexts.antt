@@ -1,4 +1,4 @@
--- What is said of a link that is not made. (own choice)
+-- What is said of a link that is not made.
 use Rattle.std.specs.Prelude.{ℕ, List, codes}
 use Rattle.link_out.specs.declared.linked.LinkFault.{LinkFault}
 use Rattle.link_out.specs.declared.linked.LinkFault.TheVariants.{DoesNotFit, TooManySymbols, SymbolNumber, Memory}

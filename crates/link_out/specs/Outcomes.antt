@@ -1,4 +1,4 @@
--- A report as its lists, a file with its report, and when a result of the code is the link by the definition. (own choice)
+-- A report as its lists, a file with its report, and when a result of the code is the link by the definition.
 --
 -- The code may fail for one reason that the definition does not have: memory runs out.
 use Rattle.std.specs.Prelude.{◌≡◌, Result, Ok, Err, IsOk}

@@ -1,4 +1,4 @@
--- Steps of which the first refusal counts, for callers that name refusals in their own way. (own choice)
+-- Steps of which the first refusal counts, for callers that name refusals in their own way.
 use Rattle.std.specs.Prelude.{Option, Some, None, Result, Ok, Err}
 
 -- the next step, with what the one before it gives

@@ -9,7 +9,7 @@ use link_session::AddFault;
 use std::alloc::AllocError;
 use thiserror::Error;
 
-/// A change of the objects that a session keeps. (own choice)
+/// A change of the objects that a session keeps.
 #[derive(Debug, Drop)]
 pub enum Edit {
     /// Appends this object, known by this label.
@@ -18,7 +18,7 @@ pub enum Edit {
     Withdraw,
 }
 
-/// The reply to an edit. (own choice)
+/// The reply to an edit.
 #[derive(Debug, Drop)]
 pub enum Reply {
     /// The object was appended.
@@ -31,7 +31,7 @@ pub enum Reply {
     Nothing,
 }
 
-/// Why a run gave no link. (own choice)
+/// Why a run gave no link.
 #[derive(Clone, Copy, Debug, PartialEq, Eq, Error)]
 pub enum RunFault {
     /// 1: memory ran out, in any step.

@@ -9,7 +9,7 @@ use aout_core::{Name, Symbol};
 use link_session::Entry;
 use tool_options::Keep;
 
-/// The most symbols of a table: one more, of 12 bytes each, would not fit the size in the header. (own choice)
+/// The most symbols of a table: one more, of 12 bytes each, would not fit the size in the header.
 pub const MOST_ROWS: usize = 5461;
 
 fn begins_with_l(name: &[u8]) -> bool

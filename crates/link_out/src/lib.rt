@@ -1,4 +1,5 @@
 //! Links the objects of a session: a file and a report, by the rules of docs/LINK.md.
+//! What names no manual page is our own choice.
 //!
 //! ```rust
 //! use link_out::{Keep, Layout, LinkFault, Linked, Options, finish};

@@ -31,7 +31,7 @@ pub struct Report {
     pub undefined: Vec<Name>,
 }
 
-/// Why there is no file. They are tested in this order. (own choice)
+/// Why there is no file. They are tested in this order.
 #[derive(Clone, Copy, Debug, PartialEq, Eq, Error)]
 #[error("{}", self.text())]
 pub enum LinkFault {
@@ -49,7 +49,7 @@ impl LinkFault {
     ghost use Rattle.std.specs.Prelude.{◌≡◌};
     ghost use Rattle.link_out.specs.FaultTexts.{link_text};
 
-    /// What is said of the link. (own choice)
+    /// What is said of the link.
     pub fn text(self) -> &'static str
         ensures { result.now ≡ link_text self }
     {
@@ -82,7 +82,7 @@ fn put_names<W: Write>(names: &[Name], text: &[u8], out: &mut Wire<W>) -> Result
 }
 
 impl Report {
-    /// The status that a program ends with: 0 if there is nothing to report, else 1. (own choice)
+    /// The status that a program ends with: 0 if there is nothing to report, else 1.
     pub fn status(&self) -> u8
         ensures { result ≡ status_of (report_names self.now) }
     {
@@ -101,7 +101,7 @@ impl Report {
 
     /// Writes the report: a line `NAME: Multiply defined` for each of `multiples` and `reserved`, the line
     /// `NAME: Entry point not in text`, and the line `Undefined:` with the undefined names below it, one a line.
-    /// On a fault a prefix of this went out. (own choice)
+    /// On a fault a prefix of this went out.
     pub fn write<W: Write>(&self, out: &mut Wire<W>) -> Result<(), DeviceFault>
         ensures { Writes W.contents result out.old out.new (report_text (report_names self.now)) }
     {

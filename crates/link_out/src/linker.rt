@@ -24,7 +24,7 @@ use std::alloc::Global;
 use tool_options::Options;
 
 /// The most that the end of bss may be. It is the address after the last byte of bss and the value of `_end`, so it has to
-/// fit a word. (own choice)
+/// fit a word.
 pub const LAST_ADDRESS: u64 = 65_535;
 
 /// The link of the objects that a session keeps: the file, and what is reported of it. If the options keep relocation

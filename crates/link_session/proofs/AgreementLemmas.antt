@@ -1,5 +1,5 @@
 -- Mentions that agree with the first definition of their name, and names that are not multiply defined.
-use Rattle.std.proofs.Common.{◌≡◌, ℕ, true, false, List, [], ◌∷◌, map, Option, Some, None, refl, ap, rules}
+use Rattle.std.proofs.Common.{◌≡◌, ℕ, true, false, List, [], ◌∷◌, map, Option, Some, None, refl, rules}
 use Rattle.std.proofs.lemmas.Slice.Eq.{bytes_eq-Decides}
 use Rattle.std.specs.{Prelude.bytes_eq, Prelude.filter, List.AllByRecursion}
 use Rattle.aout_core.specs.{declared.symbol.Segment.Segment}
@@ -57,11 +57,6 @@ pub none_kept : (all ms : List Mention) → AllByRecursion (AgreesIn all) ms →
     filter (λ m. differs (first_definition all m.name) m.says) ms ≡ []
 none_kept all [] h = refl
 none_kept all (m ∷ ms) h = rw h.0 (none_kept all ms h.1)
-
--- if each mention agrees with the first definition of its name, no name is multiply defined
-pub no_multiples : (all ms : List Mention) → AllByRecursion (AgreesIn all) ms →
-    map (λ m. m.name) (filter (λ m. differs (first_definition all m.name) m.says) ms) ≡ []
-no_multiples all ms h = ap (λ (ks : List Mention). map (λ m. m.name) ks) (none_kept all ms h)
 
 -- what a definition says of itself agrees
 pub own_again : (s : State) (first : Option Definition) → first ≡ definition_by s → differs first s ≡ false

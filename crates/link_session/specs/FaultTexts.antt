@@ -1,4 +1,4 @@
--- What is said of an object that is not added. (own choice)
+-- What is said of an object that is not added.
 use Rattle.std.specs.Prelude.{ℕ, List, codes}
 use Rattle.link_session.specs.declared.entry.AddFault.{AddFault}
 use Rattle.link_session.specs.declared.entry.AddFault.TheVariants.{TextFull, DataFull, BssFull, NamesFull, Memory}

@@ -1,4 +1,4 @@
--- The laws of sessions, each proved by a function of the module `laws`. (own choice)
+-- The laws of sessions, each proved by a function of the module `laws`.
 --
 -- A withdrawal takes back exactly what an addition did. A name has a mark if and only if its state changed, and its first mark holds
 -- the state before. Where the segments of an object start, and by how much its addresses are shifted, follows from the whole list

@@ -1,4 +1,4 @@
--- Which objects are accepted. (own choice)
+-- Which objects are accepted.
 --
 -- Sizes and numbers are words of 16 bits, so a list of objects has limits; an object that passes one is refused.
 use Rattle.std.specs.Prelude.{ℕ, if◌then◌else◌, nat_lt, List, [], ◌∷◌, ◌++◌, length, Option, Some, None}

@@ -1,4 +1,4 @@
--- Marks are exactly the difference that an addition makes to what was there. (own choice)
+-- Marks are exactly the difference that an addition makes to what was there.
 --
 -- An earlier cell that the addition changes has one mark, which holds the cell before; any other earlier cell has none. An earlier
 -- name has one mark for each mention by the object that changes its state, in the order of the mentions: the first mark holds the

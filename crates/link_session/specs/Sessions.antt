@@ -1,4 +1,4 @@
--- What the calls of a session do to what it keeps. (own choice)
+-- What the calls of a session do to what it keeps.
 --
 -- A session keeps forced names, objects with labels, and a journal. `add` appends an object and its marks, `withdraw` takes the
 -- last ones away. These records define that, and what the marks are.

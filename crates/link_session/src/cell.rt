@@ -4,7 +4,7 @@
 ///
 /// In its value, what the word refers to counts as an offset in bytes from the start of the merged segment that is the
 /// target. In a word that is relative to the pc its own place, too, counts from the start of its merged segment, the
-/// text or the data. A word that waits for an external holds its offset from that. (own choice)
+/// text or the data. A word that waits for an external holds its offset from that.
 #[derive(Clone, Copy, Debug, PartialEq, Eq)]
 pub struct Cell {
     pub value: u16,
@@ -13,7 +13,7 @@ pub struct Cell {
     pub pc: bool,
 }
 
-/// What a cell refers to. (own choice)
+/// What a cell refers to.
 #[derive(Clone, Copy, Debug, PartialEq, Eq)]
 pub enum Target {
     Absolute,

@@ -5,7 +5,7 @@ use aout_core::{Object, Refused};
 use std::marker::Model;
 use thiserror::Error;
 
-/// An object of a session and the label that it was added with. Contracts see the bytes of the label. (own choice)
+/// An object of a session and the label that it was added with. Contracts see the bytes of the label.
 #[derive(Debug, Drop)]
 pub struct Entry {
     label: String,
@@ -31,14 +31,14 @@ impl Entry {
         Entry { label, object }
     }
 
-    /// The label that the object was added with. (own choice)
+    /// The label that the object was added with.
     pub fn label(&self) -> &str
         ensures { result.now ≡ self.now.label }
     {
         &self.label
     }
 
-    /// The object. (own choice)
+    /// The object.
     pub fn object(&self) -> &Object
         ensures { result.now ≡ self.now.object }
     {
@@ -53,7 +53,7 @@ impl Entry {
     }
 }
 
-/// Why an object was not added: the first that applies. (own choice)
+/// Why an object was not added: the first that applies.
 #[derive(Clone, Copy, Debug, PartialEq, Eq, Error)]
 #[error("{}", self.text())]
 pub enum AddFault {
@@ -73,7 +73,7 @@ impl AddFault {
     ghost use Rattle.std.specs.Prelude.{◌≡◌};
     ghost use Rattle.link_session.specs.FaultTexts.{add_text};
 
-    /// What is said of the object. (own choice)
+    /// What is said of the object.
     pub fn text(self) -> &'static str
         ensures { result.now ≡ add_text self }
     {
@@ -87,7 +87,7 @@ impl AddFault {
     }
 }
 
-/// An object that was not added, handed back. (own choice)
+/// An object that was not added, handed back.
 #[derive(Debug, Drop)]
 pub struct AddRefused {
     pub cause: AddFault,

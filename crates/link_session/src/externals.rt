@@ -7,7 +7,7 @@ use aout_core::Name;
 use indexmap::map::Iter;
 use std::marker::Model;
 
-/// The externals that are left, by first mention: the name of each, and what is known of it. (own choice)
+/// The externals that are left, by first mention: the name of each, and what is known of it.
 #[derive(Drop)]
 pub struct ExternalStates<'a> {
     entries: Iter<'a, Name, State>,

@@ -1,4 +1,5 @@
 //! Joins objects to one image, and takes the last one out again so that the image is as it was.
+//! What names no manual page is our own choice.
 //!
 //! ```rust
 //! let before = session.external_count();

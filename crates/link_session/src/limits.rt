@@ -16,10 +16,10 @@ use aout_core::{Name, Object, Symbol};
 use indexmap::IndexMap;
 use std::alloc::{AllocError, Global};
 
-/// The most bytes of text, of data and of bss in a session. (own choice)
+/// The most bytes of text, of data and of bss in a session.
 pub const MOST_BYTES: usize = 65_534;
 
-/// The most external names in a session, forced names counted. (own choice)
+/// The most external names in a session, forced names counted.
 pub const MOST_NAMES: usize = 65_535;
 
 /// Whether the symbol is external and has the name.

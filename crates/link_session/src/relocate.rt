@@ -14,7 +14,7 @@ use crate::merged::{Externals, Merged};
 use crate::state::State;
 use aout_core::{Header, Kind, Object, Reloc, Segment};
 
-/// What is added to an object's own addresses to make them offsets in the merged segments, modulo 65,536. (own choice)
+/// What is added to an object's own addresses to make them offsets in the merged segments, modulo 65,536.
 #[derive(Clone, Copy, Debug)]
 pub struct Shifts {
     text: u16,
@@ -22,7 +22,7 @@ pub struct Shifts {
     bss: u16,
 }
 
-/// Where the segments of an object start in the merged segments, in bytes, modulo 65,536. (own choice)
+/// Where the segments of an object start in the merged segments, in bytes, modulo 65,536.
 #[derive(Clone, Copy, Debug)]
 pub struct Starts {
     text: u16,
@@ -47,7 +47,7 @@ pub(crate) struct Words<'a> {
 }
 
 impl Shifts {
-    /// What is added to an address in this segment; 0 to an absolute one. (own choice)
+    /// What is added to an address in this segment; 0 to an absolute one.
     pub fn of(&self, segment: Segment) -> u16
         ensures { result ≡ shift_by self.now segment }
     {
@@ -61,7 +61,7 @@ impl Shifts {
 }
 
 impl Starts {
-    /// Those of the first object. (own choice)
+    /// Those of the first object.
     pub fn first() -> Starts
         ensures { result ≡ no_starts }
     {
@@ -72,7 +72,7 @@ impl Starts {
         }
     }
 
-    /// Those of the object after one with this header that starts here. (own choice)
+    /// Those of the object after one with this header that starts here.
     pub fn after(&self, header: &Header) -> Starts
         ensures { result ≡ next_starts self.now header.now }
     {
@@ -83,7 +83,7 @@ impl Starts {
         }
     }
 
-    /// The shifts of an object with this header that starts here. (own choice)
+    /// The shifts of an object with this header that starts here.
     pub fn shifts(&self, header: &Header) -> Shifts
         ensures { result ≡ shifts_at self.now header.now }
     {

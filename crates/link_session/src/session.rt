@@ -90,7 +90,7 @@ fn enter_forced(
 }
 
 impl Session {
-    /// A session of no objects and no forced names. (own choice)
+    /// A session of no objects and no forced names.
     pub fn new(alloc: Global) -> Session
         ensures { result ≡ nothing_kept [] }
     {
@@ -122,7 +122,7 @@ impl Session {
         })
     }
 
-    /// How many of the first externals are forced. (own choice)
+    /// How many of the first externals are forced.
     pub fn forced_count(&self) -> u16
         ensures value { result ≡ length self.now.forced }
         ensures few { result ≤ 64 }
@@ -180,7 +180,7 @@ impl Session {
     }
 
     /// Takes the object added last out again, and returns its label and the object. The image is then that of the
-    /// others. `None` if there is no object. This does not fail for lack of memory. (own choice)
+    /// others. `None` if there is no object. This does not fail for lack of memory.
     pub fn withdraw(&mut self) -> Option<(String, Object)>
         ensures none { IsNone result → (self.old.entries ≡ []) × (self.new ≡ self.old) }
         ensures last { IfSome result (λ last.
@@ -192,7 +192,7 @@ impl Session {
         Some(entry.into_parts())
     }
 
-    /// The objects, in order, each with its label. Together they pass no limit. (own choice)
+    /// The objects, in order, each with its label. Together they pass no limit.
     pub fn entries(&self) -> &[Entry]
         ensures value { result.now ≡ self.now.entries }
         ensures objects { AllByRecursion IsObject (objects self.now.entries) }
@@ -201,7 +201,7 @@ impl Session {
         &self.entries
     }
 
-    /// The cells of the merged text, in words. (own choice)
+    /// The cells of the merged text, in words.
     pub fn text_cells(&self) -> &[Cell]
         ensures value { result.now ≡ (image_of self.now).text_cells }
         ensures short { 2 * length result.now ≤ 65534 }
@@ -210,7 +210,7 @@ impl Session {
         &self.image.text_cells
     }
 
-    /// The cells of the merged data, in words. (own choice)
+    /// The cells of the merged data, in words.
     pub fn data_cells(&self) -> &[Cell]
         ensures value { result.now ≡ (image_of self.now).data_cells }
         ensures short { 2 * length result.now ≤ 65534 }
@@ -219,7 +219,7 @@ impl Session {
         &self.image.data_cells
     }
 
-    /// The size of the merged bss in bytes, without commons. (own choice)
+    /// The size of the merged bss in bytes, without commons.
     pub fn bss_total(&self) -> u16
         ensures value { result ≡ (image_of self.now).bss_total }
         ensures small { result ≤ 65534 }
@@ -275,7 +275,7 @@ impl Session {
 
     /// What the addition of the last object overwrote, and nothing else; empty without objects. A name may have several
     /// marks, as a common that grows several times: the first has its state before the addition, and each later one the
-    /// state that the change before it led to. A cell has at most one. (own choice)
+    /// state that the change before it led to. A cell has at most one.
     pub fn last_marks(&self) -> &[Mark]
         ensures value { result.now ≡ newest self.now.journal }
         ensures journal { IsJournal self.now.forced (objects self.now.entries) self.now.journal }

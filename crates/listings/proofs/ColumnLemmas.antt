@@ -64,9 +64,6 @@ first_last : (f t : List ℕ) → IsColumn f → column (skip (f ++ remarked t))
 first_last f [] h = rw (append-nil f, skip_all f h) (column_all f (ink f h))
 first_last f (b ∷ bs) h = first_more 1 f (b ∷ bs) h
 
-pub row_one : (f : List ℕ) → IsColumn f → row_of f ≡ record { first = f; second = []; third = []; fourth = [] }
-row_one f h = search (rules, skip_all, column_all, ink, past_all)
-
 pub row_two : (i : ℕ) (f g t : List ℕ) → IsColumn f → IsColumn g →
     (let line = gap i f (g ++ remarked t) in
     row_of line ≡ record { first = f; second = g; third = column (from_third line); fourth = column (from_fourth line) })

@@ -1,4 +1,4 @@
--- The lines of a listing, and the columns of a line. (own choice)
+-- The lines of a listing, and the columns of a line.
 --
 -- A line ends with a newline, or with the text. Blanks separate its columns, and each byte up to 32 is a blank. Of those below 32 a
 -- listing has only tabs, newlines, and carriage returns before newlines. The first four columns make a row; a column that is missing is

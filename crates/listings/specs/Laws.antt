@@ -1,4 +1,4 @@
--- The law of listings: reading a listing of a file gives that file. (own choice)
+-- The law of listings: reading a listing of a file gives that file.
 use Rattle.std.specs.{Prelude.◌≡◌, Prelude.ℕ, Prelude.List, Prelude.Ok}
 use Rattle.aout_core.specs.Contents.{Contents, IsSound}
 use Rattle.texts.specs.Lines.{text_of}

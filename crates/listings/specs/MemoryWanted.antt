@@ -1,4 +1,4 @@
--- For which listings memory may run out while they are read. (own choice)
+-- For which listings memory may run out while they are read.
 --
 -- Only words, symbols, and mistakes after the first are kept. So memory is requested for a row of a section that begins with a digit, and
 -- for a mistake after another one.

@@ -1,4 +1,4 @@
--- Names in bytes that print, as they are read. (own choice)
+-- Names in bytes that print, as they are read.
 --
 -- A byte that prints is itself, except the blank and the backslash. A backslash and three octal digits are any byte.
 use Rattle.std.specs.Prelude.{ℕ, ◌+◌, ◌-◌, ◌*◌, nat_lt, eqb, if◌then◌else◌, List, [], ◌∷◌, ◌++◌, length, take, Result, Ok, Err}

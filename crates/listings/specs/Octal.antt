@@ -1,4 +1,4 @@
--- Octal numbers of 16 bits, with any number of digits, as they are read. (own choice)
+-- Octal numbers of 16 bits, with any number of digits, as they are read.
 use Rattle.std.specs.Prelude.{ℕ, ◌+◌, ◌-◌, ◌*◌, Bool, ◌&&◌, nat_le, nat_lt, if◌then◌else◌, List, [], ◌∷◌, Result, Ok, Err}
 use Rattle.listings.specs.{declared.fault.Reason.Reason, declared.fault.Reason.TheVariants.{Missing, NotOctal, TooLarge}}
 

@@ -1,4 +1,4 @@
--- Which file a listing describes: line by line, each line by its columns and by what was read before it. (own choice)
+-- Which file a listing describes: line by line, each line by its columns and by what was read before it.
 --
 -- A row that begins with a digit belongs to the section that was opened last. Any other row begins with a word. A row without columns,
 -- one that begins with a slash and a label are skipped. Columns after those that a row needs are a remark, and are not read; the first

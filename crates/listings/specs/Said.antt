@@ -1,4 +1,4 @@
--- What `read_listing` returns: the file that a listing describes, unless memory runs out. (own choice)
+-- What `read_listing` returns: the file that a listing describes, unless memory runs out.
 use Rattle.std.specs.Prelude.{◌≡◌, Result, Ok, Err}
 use Rattle.aout_core.specs.{Contents.Contents, Refusals.refused}
 use Rattle.listings.specs.{declared.fault.ListingFault.ListingFault, declared.fault.ListingFault.TheVariants.{Memory, Wrong}}

@@ -148,7 +148,7 @@ fn is_said(first: &[u8]) -> bool
     }
 }
 
-/// Whether a listing has a line that is neither blank nor a comment. (own choice)
+/// Whether a listing has a line that is neither blank nor a comment.
 #[tactic(auto, using(crate::proofs::ReadLemmas::said_here))]
 pub fn says_something(text: &[u8]) -> bool
     ensures { result ≡ says_something text.now }

@@ -6,7 +6,7 @@ use crate::fault::Section;
 use aout_core::{Reloc, Symbol};
 use std::alloc::Global;
 
-/// What is done with the address that a listing has for a word. (own choice)
+/// What is done with the address that a listing has for a word.
 #[derive(Clone, Copy, Debug, PartialEq, Eq)]
 pub enum Addresses {
     /// It has to be that of the next word.

@@ -32,7 +32,7 @@ pub(crate) enum Word {
     Unknown,
 }
 
-/// Why a line of a listing is wrong. (own choice)
+/// Why a line of a listing is wrong.
 #[derive(Clone, Copy, Debug, PartialEq, Eq, Error)]
 pub enum Reason {
     /// The line has no such column.
@@ -97,7 +97,7 @@ pub enum Reason {
     NoEnd,
 }
 
-/// A mistake of a listing. Lines are counted from 1, and so are columns, in bytes. (own choice)
+/// A mistake of a listing. Lines are counted from 1, and so are columns, in bytes.
 #[derive(Clone, Copy, Debug, PartialEq, Eq)]
 pub struct Fault {
     pub line: usize,
@@ -105,14 +105,14 @@ pub struct Fault {
     pub reason: Reason,
 }
 
-/// The mistakes of a listing by their lines: the first, and at most nine others. (own choice)
+/// The mistakes of a listing by their lines: the first, and at most nine others.
 #[derive(Debug, Drop)]
 pub struct Mistakes {
     pub first: Fault,
     pub others: Vec<Fault>,
 }
 
-/// Why a listing was not read. (own choice)
+/// Why a listing was not read.
 #[derive(Debug, Drop)]
 pub enum ListingFault {
     /// Memory ran out for the file or for its mistakes.

@@ -1,4 +1,5 @@
 //! Writes an a.out file as a listing, which people can read and change, and makes the file of a listing.
+//! What names no manual page is our own choice.
 //!
 //! ```rust
 //! match write_listing(alloc, file, &Nothing) {

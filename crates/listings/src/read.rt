@@ -182,7 +182,7 @@ fn read_all(alloc: Global, addresses: Addresses, text: &[u8]) -> Result<File, Li
 }
 
 /// Makes the file of a listing. The listing that `write_listing` makes of a file gives that file, whatever is remarked in it. After a
-/// mistake reading goes on. (own choice)
+/// mistake reading goes on.
 ///
 /// Errors: `Wrong` with the mistakes of the listing, at most ten; `Memory` if memory runs out for a word, a symbol, or a mistake
 /// after the first.

@@ -4,7 +4,7 @@ use aout_core::{Part, Symbol};
 use texts::Text;
 
 /// What a listing says to people beside the file. `read_listing` skips it: what it would not skip is written as a note or a remark that
-/// begins with a slash. A part is text or data, and a place in it is the index of a word. (own choice)
+/// begins with a slash. A part is text or data, and a place in it is the index of a word.
 pub trait Remark {
     /// The notes at the head of the listing. Each becomes a line that begins with a slash.
     fn notes(&self) -> &[Vec<u8>];

@@ -36,7 +36,7 @@ fn is_digits(column: &[u8]) -> bool
     begins_with_digit(column) && are_decimal(column)
 }
 
-/// Whether the first column of a remark consists of digits. Such a remark on a word is a mistake. (own choice)
+/// Whether the first column of a remark consists of digits. Such a remark on a word is a mistake.
 pub fn is_numbered(remark: &[u8]) -> bool
     ensures { result ≡ is_numbered remark.now }
 {

@@ -44,7 +44,7 @@ fn put_note(text: &mut Text, note: &[u8])
     text.put_byte(b'\n');
 }
 
-/// Appends notes, a line each, which begins with a slash. (own choice)
+/// Appends notes, a line each, which begins with a slash.
 pub fn put_notes(text: &mut Text, notes: &[Vec<u8>])
     ensures { PutsLines AreSkipped text.old text.new }
 {

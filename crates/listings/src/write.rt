@@ -252,7 +252,7 @@ fn put_before_end<R: Remark>(
 }
 
 /// The listing of a file with its first relocation words alone, as they are in a file that ends early. It lacks the last line, so it is
-/// not read as a file. (own choice)
+/// not read as a file.
 ///
 /// Errors: `AllocError` if memory runs out for the text.
 pub fn write_cut_listing<R: Remark>(
@@ -289,7 +289,7 @@ fn listing_of<R: Remark>(alloc: Global, file: &File, remarks: &R) -> Result<Vec<
     text.finish()
 }
 
-/// Writes a file as a listing, with remarks. Whatever is remarked, reading the listing gives the file. (own choice)
+/// Writes a file as a listing, with remarks. Whatever is remarked, reading the listing gives the file.
 ///
 /// Errors: `AllocError` if memory runs out for the text.
 pub fn write_listing<R: Remark>(

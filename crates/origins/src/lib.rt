@@ -1,4 +1,5 @@
 //! Which objects a program was linked from, and where they are in it.
+//! What names no manual page is our own choice.
 //!
 //! ```rust
 //! use origins::places;

@@ -6,7 +6,7 @@ use crate::placing;
 use crate::telling::tell;
 use aout_core::{File, Object, Segment, Symbol};
 
-/// Whether a table has a slot for each move and for each name, by their numbers. (own choice)
+/// Whether a table has a slot for each move and for each name, by their numbers.
 pub fn has_slots(table: &[Option<u16>], names: &[u16]) -> bool
     ensures { IsTrue result ↔ HasSlots names.now table.now }
 {
@@ -26,7 +26,7 @@ fn file_of(object: &Object) -> &File
 }
 
 /// Whether an object's text may be at an even address of the program's, by the table. Its move and the addresses that its words show are
-/// entered; after `false` too, some may be. (own choice)
+/// entered; after `false` too, some may be.
 pub fn tell_text(
     table: &mut [Option<u16>],
     names: &[u16],
@@ -41,7 +41,7 @@ pub fn tell_text(
 }
 
 /// Whether an object's data may be at an even byte of the program's, by the table. Its move and the addresses that its words show are
-/// entered; after `false` too, some may be. (own choice)
+/// entered; after `false` too, some may be.
 pub fn tell_data(
     table: &mut [Option<u16>],
     names: &[u16],
@@ -86,7 +86,7 @@ fn tell_symbol(table: &mut [Option<u16>], name: u16, moves: &[Option<u16>], symb
 }
 
 /// Whether the addresses of the externals that an object defines agree with the table, by the moves that the table has; they are entered.
-/// After `false` too, some may be. (own choice)
+/// After `false` too, some may be.
 pub fn tell_defined(table: &mut [Option<u16>], names: &[u16], symbols: &[Symbol]) -> bool
     requires slots { HasSlots names.now table.old }
     requires numbers { length symbols.now ≤ length names.now }

@@ -6,7 +6,7 @@ use texts::OctalBuffer;
 /// How many bytes a line may have.
 pub(crate) const LINE_CAPACITY: usize = 64;
 
-/// The bytes of a line, in an array. Contracts see it as the list of its bytes. (own choice)
+/// The bytes of a line, in an array. Contracts see it as the list of its bytes.
 #[derive(Drop)]
 pub struct LineBuffer {
     bytes: [u8; LINE_CAPACITY],
@@ -77,7 +77,7 @@ impl LineBuffer {
         self.push(OctalBuffer::new().format(u64::from(sum)));
     }
 
-    /// The bytes of the line. (own choice)
+    /// The bytes of the line.
     pub fn as_bytes(&self) -> &[u8]
         ensures { result.now ≡ self.now }
     {

@@ -7,7 +7,7 @@ use aout_core::{DeviceFault, Refused};
 use std::alloc::{AllocError, AllocFailed};
 use thiserror::Error;
 
-/// Why not all lines went out. (own choice)
+/// Why not all lines went out.
 #[derive(Clone, Copy, Debug, PartialEq, Eq, Error)]
 pub enum ToolFault {
     /// 1: memory runs out for the symbols of a file that are shown.

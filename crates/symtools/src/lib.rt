@@ -1,4 +1,5 @@
 //! Writes the lines of nm and size for files of all four magic numbers, linked or not.
+//! What names no manual page is our own choice.
 //!
 //! ```rust
 //! let files = [(path, file)];

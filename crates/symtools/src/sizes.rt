@@ -10,7 +10,7 @@ use aout_core::{DeviceFault, File, Header, Wire};
 use std::io::Write;
 
 /// Writes a line for each file: the sizes of text, data and bss in bytes, and their sum in decimal and in octal, as
-/// `4+2+2 = 8b = 010b`. With several files, the line begins with the file's path and `: `. (own choice)
+/// `4+2+2 = 8b = 010b`. With several files, the line begins with the file's path and `: `.
 ///
 /// It takes no memory. Its only error is `Device`, 2: the device failed, in this call or before it.
 pub fn size<W: Write>(files: &[(String, File)], out: &mut Wire<W>) -> Result<(), ToolFault>
@@ -40,7 +40,7 @@ fn put_size<W: Write>(
     out.put(text.as_bytes())
 }
 
-/// The line of one file, as `size` writes it without a path. (own choice)
+/// The line of one file, as `size` writes it without a path.
 pub fn size_line(header: &Header) -> LineBuffer
     ensures { result ≡ size_line header.now ++ 10 ∷ [] }
 {

@@ -1,4 +1,4 @@
--- The text of a list of lines, and the lines of a text. (own choice)
+-- The text of a list of lines, and the lines of a text.
 use Rattle.std.specs.{Prelude.ℕ, Prelude.eqb, Prelude.if◌then◌else◌, Prelude.List, Prelude.[], Prelude.◌∷◌, Prelude.◌++◌, List.flat_map}
 
 -- each line with its newline

@@ -1,4 +1,4 @@
--- Names in bytes that print. (own choice)
+-- Names in bytes that print.
 --
 -- A byte that prints is shown as it is, except the blank and the backslash. Any other byte is a backslash and three octal digits.
 use Rattle.std.specs.{Prelude.{ℕ, Bool, ◌&&◌, not, nat_lt, eqb, if◌then◌else◌, List, [], ◌∷◌}, List.flat_map}

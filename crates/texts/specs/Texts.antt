@@ -1,4 +1,4 @@
--- What contracts see of a text: its bytes. As long as it is not cut, they are all that was put. (own choice)
+-- What contracts see of a text: its bytes. As long as it is not cut, they are all that was put.
 use Rattle.std.specs.Prelude.{◌≡◌, ℕ, Bool, false, List, [], ◌++◌}
 
 -- once memory ran out the text is cut, and nothing is known of its bytes

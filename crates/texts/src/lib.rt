@@ -1,4 +1,5 @@
 //! Texts that grow, with numbers in octal and names as they print.
+//! What names no manual page is our own choice.
 //!
 //! A `Text` remembers whether memory ran out for it, so a function that only appends has no error. `finish` gives the bytes, or
 //! the error for all of them.
@@ -22,7 +23,7 @@
 //!
 //! Functions:
 //!
-//! - `six_digits`, `three_digits`: the last octal digits of a number
+//! - `six_digits`: the last octal digits of a number
 //! - `is_printable`: whether a byte of a name is shown as it is
 #![tactic(auto)]
 
@@ -31,5 +32,5 @@ mod numbers;
 mod text;
 
 pub use names::is_printable;
-pub use numbers::{OctalBuffer, six_digits, three_digits};
+pub use numbers::{OctalBuffer, six_digits};
 pub use text::{Printable, Text};

@@ -4,7 +4,7 @@ ghost use Rattle.texts.specs.Names.{escaped, is_printable};
 
 use crate::numbers::three_digits;
 
-/// Whether a byte of a name is shown as it is: it prints in ASCII, and is not a blank or a backslash. (own choice)
+/// Whether a byte of a name is shown as it is: it prints in ASCII, and is not a blank or a backslash.
 pub fn is_printable(byte: u8) -> bool
     ensures { result ≡ is_printable byte }
 {

@@ -19,7 +19,7 @@ fn long_digit(number: u64) -> u8
     b'0' + (number % 8) as u8
 }
 
-/// The last six octal digits of a number, which are all that a word has. (own choice)
+/// The last six octal digits of a number, which are all that a word has.
 #[tactic(auto, unfolding(crate::specs::Numbers::six_digits))]
 pub fn six_digits(number: u32) -> [u8; 6]
     ensures { result ≡ six_digits number }
@@ -34,8 +34,8 @@ pub fn six_digits(number: u32) -> [u8; 6]
     ]
 }
 
-/// The last three octal digits of a number, which are all that a byte has. (own choice)
-pub fn three_digits(number: u32) -> [u8; 3]
+/// The last three octal digits of a number, which are all that a byte has.
+pub(crate) fn three_digits(number: u32) -> [u8; 3]
     ensures { result ≡ three_digits number }
 {
     [digit(number / 0o100), digit(number / 0o10), digit(number)]
@@ -57,7 +57,7 @@ fn write_octal(number: u64, places: &mut [u8; MOST_DIGITS]) -> usize
     start
 }
 
-/// An array for the digits of a number. (own choice)
+/// An array for the digits of a number.
 #[derive(Clone, Copy)]
 pub struct OctalBuffer {
     places: [u8; MOST_DIGITS],

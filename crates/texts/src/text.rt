@@ -1,18 +1,18 @@
 //! A text that grows, and remembers whether memory ran out for it.
 ghost use Rattle.std.specs.Prelude.{◌≡◌, ◌∷◌, [], true, false, decimal, IfOk, IsErr};
-ghost use Rattle.texts.specs.Numbers.{six_digits, three_digits, octal, octal_and_decimal, padded_octal};
-ghost use Rattle.texts.specs.{Names.{escaped, printable_byte, printable_bytes, printable_name}, Columns.{blanks, at_left, at_right}};
+ghost use Rattle.texts.specs.Numbers.{six_digits, octal};
+ghost use Rattle.texts.specs.{Names.{escaped, printable_byte, printable_bytes, printable_name}, Columns.blanks};
 ghost use Rattle.texts.specs.Texts.{nothing_written, Puts};
 
 use crate::names::{escaped, is_printable};
-use crate::numbers::{OctalBuffer, six_digits, three_digits};
+use crate::numbers::{OctalBuffer, six_digits};
 use itoa::Buffer;
 use std::alloc::{AllocError, Global};
 use std::fmt::{self, Display, Formatter, Write};
 use std::marker::Model;
 
 /// A text that grows. Once memory runs out for it the text is cut: it takes nothing more, and `finish` returns the error. So
-/// what is put needs no test of its own. (own choice)
+/// what is put needs no test of its own.
 #[derive(Drop)]
 pub struct Text {
     bytes: Vec<u8>,
@@ -87,41 +87,11 @@ impl Text {
         self.put_bytes(&six_digits(number));
     }
 
-    /// Puts the last three octal digits of a number at the end.
-    pub fn put_three_digits(&mut self, number: u32)
-        ensures { Puts self.old self.new (three_digits number) }
-    {
-        self.put_bytes(&three_digits(number));
-    }
-
     /// Puts a number in octal at the end, with no zeros in front.
     pub fn put_octal(&mut self, number: u64)
         ensures { Puts self.old self.new (octal number) }
     {
         self.put_bytes(OctalBuffer::new().format(number));
-    }
-
-    /// Puts a number in octal at the end, with zeros in front up to six digits. A larger number has more.
-    pub fn put_padded_octal(&mut self, number: u64)
-        ensures { Puts self.old self.new (padded_octal number) }
-    {
-        if number < 0o1000000 {
-            self.put_six_digits(number as u32);
-        } else {
-            self.put_octal(number);
-        }
-    }
-
-    /// Puts a number at the end in octal after a 0, and in decimal: `020 (16)`.
-    #[tactic(auto, unfolding(crate::specs::Numbers::octal_and_decimal))]
-    pub fn put_octal_and_decimal(&mut self, number: u64)
-        ensures { Puts self.old self.new (octal_and_decimal number) }
-    {
-        self.put("0");
-        self.put_octal(number);
-        self.put(" (");
-        self.put_decimal(number);
-        self.put(")");
     }
 
     /// Puts a number in decimal at the end.
@@ -179,19 +149,9 @@ impl Text {
     }
 
     /// Puts bytes at the end, and then blanks up to this width. More bytes than that are not cut.
-    pub fn put_at_left(&mut self, width: usize, bytes: &[u8])
-        ensures { Puts self.old self.new (at_left width bytes.now) }
-    {
+    pub fn put_at_left(&mut self, width: usize, bytes: &[u8]) {
         self.put_bytes(bytes);
         self.put_blanks(width.saturating_sub(bytes.len()));
-    }
-
-    /// Puts blanks at the end, so that with the bytes after them they have this width. More bytes than that are not cut.
-    pub fn put_at_right(&mut self, width: usize, bytes: &[u8])
-        ensures { Puts self.old self.new (at_right width bytes.now) }
-    {
-        self.put_blanks(width.saturating_sub(bytes.len()));
-        self.put_bytes(bytes);
     }
 
     /// Puts what a format says at the end.

@@ -1,4 +1,4 @@
--- Names in a list, compared by their bytes. (own choice)
+-- Names in a list, compared by their bytes.
 use Rattle.std.specs.{Prelude.{ℕ, Bool, cond, List, [], ◌∷◌, ◌++◌, bytes_eq}, List.list_any}
 
 abbrev pub is_among : List (List ℕ) → List ℕ → Bool

@@ -39,7 +39,7 @@ impl Model for Forced {
 }
 
 impl Forced {
-    /// No names. (own choice)
+    /// No names.
     pub fn none() -> Forced
         ensures { result ≡ [] }
     {
@@ -50,7 +50,7 @@ impl Forced {
     }
 
     /// Appends a name, unless it is there already, and returns whether it is there now: false means that 64 other
-    /// names are, and then nothing changes. (own choice)
+    /// names are, and then nothing changes.
     pub fn push(&mut self, name: Name) -> bool
         ensures answer { result ≡ takes self.old name }
         ensures names { self.new ≡ with_name self.old name }
@@ -66,7 +66,7 @@ impl Forced {
         true
     }
 
-    /// The names, in the order in which they were appended. (own choice)
+    /// The names, in the order in which they were appended.
     pub fn names(&self) -> &[Name]
         ensures value { result.now ≡ self.now }
         ensures short { length result.now ≤ 64 }

@@ -1,4 +1,5 @@
 //! States what the options of `ld` and `nm` ask for.
+//! What names no manual page is our own choice.
 //!
 //! ```rust
 //! use tool_options::{Keep, Layout, Options};

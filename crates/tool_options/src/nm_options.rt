@@ -12,7 +12,7 @@ pub struct NmOptions {
     pub by_value: bool,
     /// `-o`: the file's path comes before each line, and not above the lines.
     pub each_line: bool,
-    /// `-p`: in the order of the table, whatever `by_value` and `reverse` say. (own choice)
+    /// `-p`: in the order of the table, whatever `by_value` and `reverse` say.
     pub table_order: bool,
     /// `-r`: the list from its end to its beginning.
     pub reverse: bool,

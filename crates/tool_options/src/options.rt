@@ -55,7 +55,7 @@ impl Model for Options {
     ghost inverse = { λ c. record { layout = c.layout; relocatable = c.relocatable; keep = c.keep; entry = c.entry; force_commons = c.force_commons } };
 }
 
-/// Options that exclude each other. (own choice)
+/// Options that exclude each other.
 #[derive(Clone, Copy, Debug, PartialEq, Eq, Error)]
 pub enum OptionFault {
     /// 1: relocation is kept, and no symbols (`-r` with `-s`).

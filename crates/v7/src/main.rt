@@ -3,10 +3,10 @@
 
 mod terminal;
 
+use host::{end, hold_streams};
 use std::io::IsTerminal;
 use std::process::ExitCode;
 use std::{env, io};
-use surroundings::{end, hold_streams};
 use terminal::command_at_terminal;
 use v7tools::{command, words};
 

@@ -12,6 +12,7 @@ mod reasons;
 
 use answers::{Answer, Answers};
 use aout_core::{BufferedWrite, Wire};
+use host::{Disk, FileSystem, show, words};
 use lines::{put_hint, put_reason};
 use pages::{asked_shown, page_asked};
 use prompts::Prompts;
@@ -19,7 +20,6 @@ use reasons::{Tool, first_reason};
 use std::cell::Cell;
 use std::rt::Runtime;
 use std::{env, io};
-use surroundings::{Disk, Office, show, words};
 use v7tools::{BlockWriter, CliFault, attempt};
 
 /// The arguments once more.
@@ -59,10 +59,10 @@ fn report<H: Runtime + AllocGlobal>(rt: &H, fault: &CliFault) -> u8
     2
 }
 
-/// Does what the arguments ask for, over any `Office`, and returns the status; if `is_typed`, a session reads its script after prompts.
-fn attempt_at_terminal<H: Runtime + AllocGlobal, O: Office, W: BufferedWrite>(
+/// Does what the arguments ask for, over any `FileSystem`, and returns the status; if `is_typed`, a session reads its script after prompts.
+fn attempt_at_terminal<H: Runtime + AllocGlobal, O: FileSystem, W: BufferedWrite>(
     rt: &H,
-    office: &mut O,
+    file_system: &mut O,
     is_typed: bool,
     prompts: &mut Prompts<'_, H>,
     output: &mut Wire<W>,
@@ -71,13 +71,13 @@ fn attempt_at_terminal<H: Runtime + AllocGlobal, O: Office, W: BufferedWrite>(
     ensures small { result ≤ 2 }
     // as `attempt`; the status is 2 for a fault, unless the arguments ask for no call: it may be for a page
     ensures run { (script : Option (List ℕ)) × (done : Result ℕ CliFault)
-        × RunsWords W.contents (map string_bytes words.items) script (O.history office.old) (O.history office.new) done output.old output.new
+        × RunsWords W.contents (map string_bytes words.items) script (O.history file_system.old) (O.history file_system.new) done output.old output.new
         × IfOk done (λ status. result ≡ status) × IfErr done (λ fault. (fault ≡ Usage) ⊎ (result ≡ 2)) }
 {
     let done = if is_typed {
-        attempt(rt.alloc(), office, &mut *prompts, output, words)
+        attempt(rt.alloc(), file_system, &mut *prompts, output, words)
     } else {
-        attempt(rt.alloc(), office, rt.reader(), output, words)
+        attempt(rt.alloc(), file_system, rt.reader(), output, words)
     };
     match done {
         Ok(status) => {
@@ -90,7 +90,7 @@ fn attempt_at_terminal<H: Runtime + AllocGlobal, O: Office, W: BufferedWrite>(
 
 /// Does what the arguments ask for, for a reader at a terminal, and returns the status of the program. It is that of
 /// `v7tools::command`, but 0 if a page of help or the version is asked for, which go to standard output. `is_typed`: standard
-/// input is a terminal too, so a session has a prompt. (own choice)
+/// input is a terminal too, so a session has a prompt.
 pub(crate) fn command_at_terminal<H: Runtime + AllocGlobal>(
     rt: &H,
     is_typed: bool,
@@ -100,7 +100,14 @@ pub(crate) fn command_at_terminal<H: Runtime + AllocGlobal>(
 {
     let answer = Cell::new(Answer::NONE);
     let mut prompts = Prompts::new(rt, &answer);
-    let mut office = Disk::new(rt);
+    let mut file_system = Disk::new(rt);
     let mut output = Wire::new(BlockWriter::new(Answers::new(io::writer(rt), &answer)));
-    attempt_at_terminal(rt, &mut office, is_typed, &mut prompts, &mut output, words)
+    attempt_at_terminal(
+        rt,
+        &mut file_system,
+        is_typed,
+        &mut prompts,
+        &mut output,
+        words,
+    )
 }

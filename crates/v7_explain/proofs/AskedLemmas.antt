@@ -3,11 +3,11 @@ use Rattle.std.proofs.Common.{◌≡◌, ℕ, ◌-◌, ◌<◌, ◌≤◌, Bool,
 use Rattle.std.proofs.{Common.{sym, ap, ◌∙◌, subst, inl, arith}, lemmas.List.take_all}
 use Rattle.std.specs.{Prelude.{Ok, Err, Result, String, codes, string_bytes, if◌then◌else◌}, declared.alloc.Global.Global}
 use Rattle.aout_core.specs.{Refusals.refused, Words.letter_of}
-use Rattle.surroundings.proofs.ShownLemmas.{some_words}
-use Rattle.surroundings.specs.{Answer.Answer, Answers.Ends, Events.History, declared.answer.Fault.Fault}
-use Rattle.surroundings.specs.Programs.{CallsOr, DoesWords}
-use Rattle.surroundings.specs.{declared.reasons.Reason.Reason, declared.reasons.Reason.TheVariants.NoValue}
-use Rattle.surroundings.specs.declared.answer.Fault.TheVariants as faults
+use Rattle.host.proofs.ShownLemmas.{some_words}
+use Rattle.host.specs.{Answer.Answer, Answers.Ends, Events.History, declared.answer.Fault.Fault}
+use Rattle.host.specs.Programs.{CallsOr, DoesWords}
+use Rattle.host.specs.{declared.reasons.Reason.Reason, declared.reasons.Reason.TheVariants.NoValue}
+use Rattle.host.specs.declared.answer.Fault.TheVariants as faults
 use Rattle.v7_explain.specs.{Calls.{after_map, asked_in, asked_or, map_link, words_of_link}, Runs.{IsCall, MapsWords}}
 use Rattle.v7_explain.specs.{declared.arguments.Call.Call as Code, internal.Asked.{asks_of_map, call_in}}
 

@@ -5,9 +5,9 @@ use Rattle.std.proofs.lemmas.List.{drop_more}
 use Rattle.std.specs.{Prelude.Result, Prelude.Ok, Prelude.Err, Prelude.String, declared.alloc.Global.Global}
 use Rattle.aout_core.specs.{Contents.Contents, Decoding.decode, Refusals.refused}
 use Rattle.link_out.specs.Inputs.{Cause, object_in}
-use Rattle.surroundings.specs.{Answer.Answer, Answers.Stops, Events.History, Programs.Step, declared.answer.Fault.Fault}
-use Rattle.surroundings.specs.Sources.{EndsReading}
-use Rattle.surroundings.specs.declared.answer.Fault.TheVariants as faults
+use Rattle.host.specs.{Answer.Answer, Answers.Stops, Events.History, Programs.Step, declared.answer.Fault.Fault}
+use Rattle.host.specs.Sources.{EndsReading}
+use Rattle.host.specs.declared.answer.Fault.TheVariants as faults
 use Rattle.v7_explain.specs.{Files.{GivesOr, HasStatus, joined, most_bytes, nothing_said}, Runs.{Answers, IsEach, said_of, status_taken}}
 
 -- ---- one file

@@ -3,7 +3,7 @@ use Rattle.std.proofs.Common.{◌≡◌, ℕ, Bool, false, ◌||◌, List, [], �
 use Rattle.std.proofs.lemmas.Result.{IfOk-weaker}
 use Rattle.std.specs.{Prelude.None, List.list_any}
 use Rattle.aout_core.specs.Contents.{Contents}
-use Rattle.surroundings.specs.{Answer.Answer, Answers.only_errors}
+use Rattle.host.specs.{Answer.Answer, Answers.only_errors}
 use Rattle.checks.specs.{Suspicions.all_odd, declared.evidence.Evidence.Evidence, Found.each_found, declared.finding.Finding.Finding}
 use Rattle.v7_explain.specs.Files.{HasStatus, status_checked, status_of}
 

@@ -5,8 +5,8 @@ use Rattle.aout_core.specs.Refusals.{refused}
 use Rattle.command_words.specs.Calls.{AsksForNone, IsAsked, IsWhole, dashes_in, files_of}
 use Rattle.command_words.specs.declared.words.Call.TheVariants.{Ld, Nm, Session, Size, Strip}
 use Rattle.command_words.specs.{declared.fault.WordsFault.TheVariants.Usage, declared.words.Call.Call}
-use Rattle.surroundings.specs.{Answer.Answer, Answers.EndsOr, Events.History, declared.answer.Fault.Fault}
-use Rattle.surroundings.specs.declared.answer.Fault.TheVariants as faults
+use Rattle.host.specs.{Answer.Answer, Answers.EndsOr, Events.History, declared.answer.Fault.Fault}
+use Rattle.host.specs.declared.answer.Fault.TheVariants as faults
 use Rattle.tool_options.specs.Choices.{Choices}
 use Rattle.v7_explain.specs.Runs.{MapsCall, MapsWords, link_words}
 

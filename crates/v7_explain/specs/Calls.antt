@@ -1,4 +1,4 @@
--- What the arguments of v7-explain ask for. (own choice)
+-- What the arguments of v7-explain ask for.
 --
 -- Options and paths may be in any order, but for -m, which is the first argument: those after it are of a map. With no option the files
 -- at these paths are listed.
@@ -6,8 +6,8 @@ use Rattle.std.specs.Prelude.{ℕ, Bool, false, ◌&&◌, not, if◌then◌else�
 use Rattle.std.specs.Option.{option_or}
 use Rattle.aout_core.specs.{Words.letter_of}
 use Rattle.instructions.specs.declared.unix.Decoder.TheVariants.{Pdp11, Unix}
-use Rattle.surroundings.specs.{Arguments.{Given, excluded_in, given_in, has_letter, if_given, value_of}, declared.reasons.Reason.Reason}
-use Rattle.surroundings.specs.declared.reasons.Reason.TheVariants.{Needs, NoFile, NoValue, NotFirst, NotOneFile}
+use Rattle.host.specs.{Arguments.{Given, excluded_in, given_in, has_letter, if_given, value_of}, declared.reasons.Reason.Reason}
+use Rattle.host.specs.declared.reasons.Reason.TheVariants.{Needs, NoFile, NoValue, NotFirst, NotOneFile}
 use Rattle.checks.specs.declared.evidence.Evidence.TheVariants.{Flow, Promise}
 use Rattle.v7_explain.specs.{declared.explaining.Mode.TheVariants.{Listing, Show, Check, Inventory}, declared.explaining.Mode.Mode}
 use Rattle.v7_explain.specs.{declared.listing.View.TheVariants.{Instructions, Rows}}

@@ -1,4 +1,4 @@
--- What v7-explain says of a file, by its bytes: its status, and that a listing reads back as its file. (own choice)
+-- What v7-explain says of a file, by its bytes: its status, and that a listing reads back as its file.
 --
 -- The status is 1 if there is something to report. What is said of a file, and in which words, is in no definition.
 use Rattle.std.specs.Prelude.{◌≡◌, ℕ, ◌+◌, ◌-◌, ◌*◌, max, Bool, false, ◌&&◌, ◌||◌, if◌then◌else◌, nat_le, nat_lt, bytes_eq}
@@ -8,9 +8,9 @@ use Rattle.aout_core.specs.{Refusals.refused, declared.file.ReadFault.ReadFault,
 use Rattle.aout_core.specs.{declared.object.ObjectFault.ObjectFault, declared.symbol.Symbol.Symbol}
 use Rattle.checks.specs.{Found.Found, Suspicions.all_odd, Wrong.is_damaged, declared.evidence.Evidence.Evidence}
 use Rattle.listings.specs.{Reading.read, declared.draft.Addresses.TheVariants.Compared}
-use Rattle.surroundings.specs.{Answer.Answer, Answers.only_errors, declared.answer.Fault.Fault}
-use Rattle.surroundings.specs.declared.answer.Fault.TheVariants as faults
-use Rattle.surroundings.specs.Programs.{Quietly, Reads, Step, Then}
+use Rattle.host.specs.{Answer.Answer, Answers.only_errors, declared.answer.Fault.Fault}
+use Rattle.host.specs.declared.answer.Fault.TheVariants as faults
+use Rattle.host.specs.Programs.{Quietly, Reads, Step, Then}
 use Rattle.v7_explain.specs.declared.explaining.Mode.{Mode}
 use Rattle.v7_explain.specs.declared.explaining.Mode.TheVariants.{Listing, Show, Check, Inventory}
 

@@ -1,4 +1,4 @@
--- What v7-explain does with its arguments: what it opens, reads and stores, in order, and its status. (own choice)
+-- What v7-explain does with its arguments: what it opens, reads and stores, in order, and its status.
 --
 -- Each file is read and explained before the next one is opened. The answer has what is shown of each, in order, and the largest status.
 -- If memory runs out, that is the answer, and nothing was stored.
@@ -9,10 +9,10 @@ use Rattle.command_words.specs.Calls.{AsksForNone, IsAsked, IsWhole, dashes_in, 
 use Rattle.command_words.specs.{declared.words.Call.Call as LinkCall, declared.words.Call.TheVariants.Ld}
 use Rattle.command_words.specs.declared.fault.WordsFault.TheVariants.{Usage}
 use Rattle.link_out.specs.Inputs.{object_in}
-use Rattle.surroundings.specs.{Answers.{AnswersOr, EndsOr, IsPerformed, only_errors}, Events.{History, Surroundings, written}}
-use Rattle.surroundings.specs.Programs.{AnswersGiven, CallsOr, Quietly, Reads, Step, Stores, Then, either}
-use Rattle.surroundings.specs.{Sources.{EndsReading, ReadsAt, ReadsFront}, Answer.Answer, Nodes.ChecksOutput, declared.answer.Fault.Fault}
-use Rattle.surroundings.specs.declared.answer.Fault.TheVariants as faults
+use Rattle.host.specs.{Answers.{AnswersOr, EndsOr, IsPerformed, only_errors}, Events.{History, Surroundings, written}}
+use Rattle.host.specs.Programs.{AnswersGiven, CallsOr, Quietly, Reads, Step, Stores, Then, either}
+use Rattle.host.specs.{Sources.{EndsReading, ReadsAt, ReadsFront}, Answer.Answer, Nodes.ChecksOutput, declared.answer.Fault.Fault}
+use Rattle.host.specs.declared.answer.Fault.TheVariants as faults
 use Rattle.v7_explain.specs.Calls.{Call, ask, asked_in, explain, map_link, store, walk, words_of_link}
 use Rattle.v7_explain.specs.{Files.{AnswersAt, GivesOr, HasStatus, IsSaid, joined, most_bytes, nothing_said}, declared.explaining.Mode.Mode}
 use Rattle.v7_explain.specs.declared.explaining.Mode.TheVariants.{Listing, Inventory}

@@ -5,8 +5,8 @@ ghost use Rattle.v7_explain.specs.{Calls.{after_map, asked_by, call_of, mode_in}
 use crate::explaining::Mode;
 use crate::listing::View;
 use checks::Evidence;
+use host::{Given, Reason};
 use instructions::Decoder;
-use surroundings::{Given, Reason};
 
 /// What the arguments ask for, but for a map.
 #[derive(Clone, Copy)]

@@ -111,7 +111,7 @@ impl Asked {
         Ok(())
     }
 
-    /// What these arguments ask of a map, each in turn. What the link does not have is absent. (own choice)
+    /// What these arguments ask of a map, each in turn. What the link does not have is absent.
     ///
     /// An error: out of memory.
     pub(crate) fn of(

@@ -13,8 +13,8 @@ use checks::{
     Evidence, Finding, KindText, all_odd_of, is_damaged, is_of_gnu, wrong_bytes, wrong_words,
 };
 use disassemblies::Sweep;
+use host::{Answer, error_answer};
 use std::alloc::{AllocError, Global};
-use surroundings::{Answer, error_answer};
 use texts::Text;
 
 /// Why bytes that are not a file are not an object.

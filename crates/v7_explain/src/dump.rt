@@ -34,7 +34,7 @@ fn put_named(text: &mut Text, named: &NamedFile<'_>) {
 }
 
 /// Appends the text and the data of a file, in rows of eight words with their addresses and with their bytes as characters, and with
-/// labels before their rows. (own choice)
+/// labels before their rows.
 pub(crate) fn put_dump(text: &mut Text, file: &File) {
     match NamedFile::new(text.allocator(), file) {
         Ok(named) => put_named(text, &named),

@@ -1,4 +1,4 @@
-//! The functions of a program that has no symbols of text. Only tested. (own choice)
+//! The functions of a program that has no symbols of text. Only tested.
 
 use aout_core::{File, Header, Name, Parts, Segment, Symbol};
 use disassemblies::{is_start, line_starts};

@@ -8,8 +8,8 @@ use crate::inventory_row::{InventoryRow, file_row, plain_row, refused_row};
 use crate::source::{Source, put_text_line};
 use aout_core::{File, FileFault, ReadFault, object_fault};
 use checks::{wrong_bytes, wrong_in};
+use host::{Answer, Path};
 use std::alloc::{AllocError, Global};
-use surroundings::{Answer, Path};
 use texts::Text;
 
 /// The line for a path. Its status is 0, whatever the file is.

@@ -30,7 +30,7 @@ fn put_condition(text: &mut Text, condition: Condition) {
 }
 
 /// Appends the line of a file with this path: its kind, the sizes of text, data and bss in bytes, how many symbols it has, how many
-/// names another object has to define, what is wrong or odd, and the path. (own choice)
+/// names another object has to define, what is wrong or odd, and the path.
 pub(crate) fn put_inventory_row(text: &mut Text, row: &InventoryRow, path: &str) {
     let (sizes, symbols) = (row.sizes, row.symbols);
     text.put_at_left(12, kind_text(row.kind).as_bytes());
@@ -45,7 +45,7 @@ pub(crate) fn put_inventory_row(text: &mut Text, row: &InventoryRow, path: &str)
     text.put("\n");
 }
 
-/// Appends the line of totals of the rows of an inventory: how many there are, and how many are ok, odd and damaged. (own choice)
+/// Appends the line of totals of the rows of an inventory: how many there are, and how many are ok, odd and damaged.
 pub(crate) fn put_inventory_totals(text: &mut Text, rows: &[u8]) {
     let (mut files, mut ok, mut odd, mut damaged) = (0u64, 0u64, 0u64, 0u64);
     for row in rows.split(|byte| *byte == b'\n') {

@@ -10,10 +10,10 @@ use crate::source::{GNU_NOTE, Source, fold_outside, front_notes, put_odd, report
 use aout_core::{File, object_fault};
 use checks::{Evidence, Finding, Notes, all_odd_of, is_of_gnu, put_findings, put_header, wrong_in};
 use disassemblies::{Sweep, put_disassembly, write_explained};
+use host::Answer;
 use instructions::Decoder;
 use listings::put_notes;
 use std::alloc::{AllocError, Global};
-use surroundings::Answer;
 use texts::Text;
 
 /// How the contents of a file are shown.

@@ -1,15 +1,14 @@
 //! The program `v7-explain`: an a.out file as a listing, with what is wrong and odd of it, whether files are objects, what is in
 //! folders, or the map of a link.
+//! What names no manual page is our own choice.
 #![tactic(auto)]
 
 mod arguments;
 mod asked;
 mod checking;
-mod disk_folders;
 mod dump;
 mod explaining;
 mod file_kind;
-mod folders;
 mod functions;
 mod help;
 mod inventory;
@@ -29,12 +28,11 @@ mod rows;
 mod source;
 mod storing;
 
-use disk_folders::DiskFolders;
 use help::USAGE;
+use host::{Disk, DiskFolders, end, hold_streams, outputs_of, readable_words, refuse};
 use program::{NAME, perform};
 use std::io;
 use std::process::ExitCode;
-use surroundings::{Disk, end, hold_streams, outputs_of, readable_words, refuse};
 
 /// The status of the program. The streams are held until it has ended.
 fn run(rt: &HostRuntime) -> io::Result<u8> {

@@ -2,17 +2,17 @@
 ghost use Rattle.std.specs.Prelude.{◌≡◌, true, IfErr, IfOk, Ok, is_err, map, string_bytes};
 ghost use Rattle.aout_core.specs.Decoding.{decode};
 ghost use Rattle.link_out.specs.Inputs.{object_in};
-ghost use Rattle.surroundings.specs.Answers.{Stops};
+ghost use Rattle.host.specs.Answers.{Stops};
 ghost use Rattle.v7_explain.specs.{Files.{GivesOr, HasStatus, nothing_said}, Runs.{IsEach, Takes, status_taken}};
 
 use crate::explaining::{MOST_BYTES, join, nothing_said};
 use crate::program::NAME;
 use crate::source::put_text_line;
 use aout_core::{Object, decode_file};
+use host::{Answer, Fault, FileSystem, error_answer, read_whole};
 use link_maps::Objects;
 use std::alloc::{AllocError, Global};
 use std::fmt::Display;
-use surroundings::{Answer, Fault, Office, error_answer, read_whole};
 use texts::Text;
 
 /// The fault that the bytes at a path are not an object.
@@ -59,15 +59,15 @@ fn take(alloc: Global, objects: &mut Objects, path: &str, bytes: &[u8]) -> Resul
 }
 
 /// Takes the object at a path, or says why there is none.
-fn take_at<O: Office>(
+fn take_at<O: FileSystem>(
     alloc: Global,
-    office: &mut O,
+    file_system: &mut O,
     objects: &mut Objects,
     path: &str,
 ) -> Result<Answer, Fault>
-    ensures { Takes path.now (O.history office.old) (O.history office.new) result }
+    ensures { Takes path.now (O.history file_system.old) (O.history file_system.new) result }
 {
-    match read_whole(alloc, office, NAME, path, MOST_BYTES) {
+    match read_whole(alloc, file_system, NAME, path, MOST_BYTES) {
         Ok(bytes) => take(alloc, objects, path, &bytes),
         Err(Fault::Answered(answer)) => Ok(answer),
         Err(Fault::Memory(refused)) => Err(Fault::Memory(refused)),
@@ -75,18 +75,18 @@ fn take_at<O: Office>(
 }
 
 /// Takes the objects at these paths in order. The answer has a line for each file that is not an object.
-pub(crate) fn take_objects<O: Office>(
+pub(crate) fn take_objects<O: FileSystem>(
     alloc: Global,
-    office: &mut O,
+    file_system: &mut O,
     objects: &mut Objects,
     paths: &[String],
 ) -> Result<Answer, Fault>
     ensures { IsEach Takes (map string_bytes paths.now) nothing_said
-        (O.history office.old) (O.history office.new) result }
+        (O.history file_system.old) (O.history file_system.new) result }
 {
     let mut said = nothing_said(alloc);
     for path in paths {
-        let more = take_at(alloc, office, objects, path.as_str())?;
+        let more = take_at(alloc, file_system, objects, path.as_str())?;
         join(&mut said, &more)?;
     }
     Ok(said)

@@ -1,4 +1,4 @@
-//! What is odd in a link, and that none of its objects shows alone. (own choice) Only tested: all of it.
+//! What is odd in a link, and that none of its objects shows alone. Only tested: all of it.
 
 use crate::mapped::Mapped;
 use aout_core::{Name, Part, Segment};

@@ -2,10 +2,10 @@
 use crate::map_names::{Section, put_section};
 use crate::mapped::Mapped;
 use aout_core::Header;
+use host::Path;
 use link_maps::{LimitRecord, LinkMap, Listed, Places, limits_of};
 use link_out::Options;
 use std::alloc::AllocError;
-use surroundings::Path;
 use texts::{Printable, Text};
 
 /// How many of the largest objects are shown.

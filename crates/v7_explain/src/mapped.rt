@@ -6,10 +6,10 @@ use crate::map_parts::{put_head, put_limits, put_members, put_objects, put_segme
 use crate::map_spots::put_spots;
 use aout_core::{Name, Symbol};
 use disassemblies::NamedFile;
+use host::Path;
 use link_maps::{LinkMap, Listed, Objects, Use};
 use link_out::Options;
 use std::alloc::{AllocError, Global};
-use surroundings::Path;
 use texts::Text;
 
 /// A map, its objects, and what is asked of it; nothing for the whole map.
@@ -61,7 +61,7 @@ impl<'a> Mapped<'a> {
         }
     }
 
-    /// The text of the whole map, or only what is asked for. An error: out of memory. (own choice)
+    /// The text of the whole map, or only what is asked for. An error: out of memory.
     pub(crate) fn text(
         &self,
         alloc: Global,

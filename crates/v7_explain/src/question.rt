@@ -12,9 +12,9 @@ use crate::program::NAME;
 use crate::source::{Source, refuse};
 use aout_core::{File, Header, Name, Part, Segment, decode_file};
 use disassemblies::{NamedFile, put_disassembly_between};
+use host::{Answer, Fault, FileSystem, read_whole};
 use link_maps::{Places, is_function, is_within, label_before, words_at, words_to};
 use std::alloc::{AllocError, Global};
-use surroundings::{Answer, Fault, Office, read_whole};
 use texts::{Printable, Text};
 
 /// Where the segments of a file lie.
@@ -192,17 +192,17 @@ fn answer_bytes(
 }
 
 /// What the file at a path has of what is asked: a symbol of this name, or this address; with its instructions, if a function is to be
-/// shown. (own choice)
-pub(crate) fn answer_at<O: Office>(
+/// shown.
+pub(crate) fn answer_at<O: FileSystem>(
     alloc: Global,
-    office: &mut O,
+    file_system: &mut O,
     what: &str,
     shows_function: bool,
     path: &str,
 ) -> Result<Answer, Fault>
-    ensures { AnswersAt what.now path.now (O.history office.old) (O.history office.new) result }
+    ensures { AnswersAt what.now path.now (O.history file_system.old) (O.history file_system.new) result }
 {
-    let bytes = read_whole(alloc, office, NAME, path, MOST_BYTES)?;
+    let bytes = read_whole(alloc, file_system, NAME, path, MOST_BYTES)?;
     let source = Source {
         path,
         bytes: &bytes,

@@ -11,10 +11,10 @@ use checks::{
     wrong_bytes,
 };
 use disassemblies::{Sweep, write_remains};
+use host::{Answer, Path};
 use listings::put_notes;
 use std::alloc::{AllocError, Global};
 use std::fmt::Display;
-use surroundings::{Answer, Path};
 use texts::Text;
 
 /// That a file is in the form of GNU's assembler.

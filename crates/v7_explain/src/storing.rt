@@ -4,12 +4,17 @@ ghost use Rattle.v7_explain.specs.Runs.{IsStoring, StoresListing};
 use crate::explaining::{MOST_BYTES, Mode, explain};
 use crate::program::NAME;
 use crate::source::Source;
+use host::{Answer, Fault, FileSystem, answer_stored, check_output, read_whole};
 use std::alloc::Global;
-use surroundings::{Answer, Fault, Office, answer_stored, check_output, read_whole};
 
 /// Stores a listing, if nothing is wrong with the file; else the answer says what is wrong.
-fn store<O: Office>(alloc: Global, office: &mut O, to: &str, said: Answer) -> Result<Answer, Fault>
-    ensures { IsStoring to.now said (O.history office.old) (O.history office.new) result }
+fn store<O: FileSystem>(
+    alloc: Global,
+    file_system: &mut O,
+    to: &str,
+    said: Answer,
+) -> Result<Answer, Fault>
+    ensures { IsStoring to.now said (O.history file_system.old) (O.history file_system.new) result }
 {
     let Answer {
         output,
@@ -24,25 +29,25 @@ fn store<O: Office>(alloc: Global, office: &mut O, to: &str, said: Answer) -> Re
     if status != 0 {
         return Ok(rest);
     }
-    let stored = office.store_text(to, &output);
+    let stored = file_system.store_text(to, &output);
     answer_stored(alloc, NAME, to, stored, rest)
 }
 
 /// Stores the listing of the file at a path, if nothing is wrong with the file.
-pub(crate) fn store_listing<O: Office>(
+pub(crate) fn store_listing<O: FileSystem>(
     alloc: Global,
-    office: &mut O,
+    file_system: &mut O,
     to: &str,
     path: &str,
 ) -> Result<Answer, Fault>
-    ensures { StoresListing to.now path.now (O.history office.old) (O.history office.new) result }
+    ensures { StoresListing to.now path.now (O.history file_system.old) (O.history file_system.new) result }
 {
-    check_output(alloc, office, NAME, path, to)?;
-    let bytes = read_whole(alloc, office, NAME, path, MOST_BYTES)?;
+    check_output(alloc, file_system, NAME, path, to)?;
+    let bytes = read_whole(alloc, file_system, NAME, path, MOST_BYTES)?;
     let source = Source {
         path,
         bytes: &bytes,
     };
     let said = explain(alloc, Mode::Listing(true), source)?;
-    store(alloc, office, to, said)
+    store(alloc, file_system, to, said)
 }

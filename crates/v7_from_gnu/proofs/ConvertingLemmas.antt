@@ -6,7 +6,7 @@ use Rattle.aout_core.specs.{Contents.Contents, Refusals.refused}
 use Rattle.gnu_objects.specs.{Clashes.{clashes_of, has_clash, names_of}, declared.clash.Clash.Clash, Converted.converted}
 use Rattle.gnu_objects.specs.{declared.options.Options.Options, declared.refusal.Refusal.Refusal}
 use Rattle.gnu_objects.specs.declared.refusal.Refusal.TheVariants as refusals
-use Rattle.surroundings.specs.{declared.answer.Fault.Fault, declared.answer.Fault.TheVariants.{Answered, Memory}, Answers.{Stops, is_none}}
+use Rattle.host.specs.{declared.answer.Fault.Fault, declared.answer.Fault.TheVariants.{Answered, Memory}, Answers.{Stops, is_none}}
 use Rattle.v7_from_gnu.specs.Converting.{and_then, converted_from, outcome, target_of, target_with, with_names}
 use Rattle.v7_from_gnu.specs.{Checks.bytes_of, Jobs.Source, Jobs.Target, internal.Lists.RefusedAs}
 

@@ -3,8 +3,8 @@ use Rattle.std.proofs.Common.{◌≡◌, ℕ, ◌<◌, ◌+◌, List, [], ◌∷
 use Rattle.std.proofs.lemmas.List.{drop_more}
 use Rattle.std.specs.Prelude.{Result, Err}
 use Rattle.aout_core.specs.Refusals.{refused}
-use Rattle.surroundings.specs.{Events.History, Events.Extends, Nodes.looks, declared.answer.Fault.Fault, declared.nodes.Nodes.Nodes}
-use Rattle.surroundings.specs.declared.answer.Fault.TheVariants.{Memory}
+use Rattle.host.specs.{Events.History, Events.Extends, Nodes.looks, declared.answer.Fault.Fault, declared.nodes.Nodes.Nodes}
+use Rattle.host.specs.declared.answer.Fault.TheVariants.{Memory}
 use Rattle.v7_from_gnu.specs.{Checks.Looks, Jobs.Job}
 
 -- what comes of the jobs that are left comes of all

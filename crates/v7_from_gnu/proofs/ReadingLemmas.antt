@@ -2,8 +2,8 @@
 use Rattle.std.proofs.Common.{◌≡◌, ℕ, List, [], ◌∷◌, ◌++◌, Some, false, refl, sym, subst, inl, inr}
 use Rattle.std.specs.Prelude.{Result, Err}
 use Rattle.aout_core.specs.Refusals.{refused}
-use Rattle.surroundings.specs.Sources.{EndsReading, ReadsAt}
-use Rattle.surroundings.specs.{Events.History, declared.answer.Fault.Fault, declared.answer.Fault.TheVariants.Memory}
+use Rattle.host.specs.Sources.{EndsReading, ReadsAt}
+use Rattle.host.specs.{Events.History, declared.answer.Fault.Fault, declared.answer.Fault.TheVariants.Memory}
 use Rattle.v7_from_gnu.specs.{Jobs.Job, Jobs.Source, Readings.IsReading, Readings.most_bytes, Readings.source_of}
 
 -- what comes of the files that are left comes of all

@@ -2,8 +2,8 @@
 use Rattle.std.proofs.Common.{◌≡◌, ℕ, ◌<◌, List, [], ◌∷◌, length, drop, get_or, drop-cons, suc, false, refl, sym, ap, ◌∙◌, subst}
 use Rattle.aout_core.specs.Contents.{Contents}
 use Rattle.std.specs.Prelude.{Result}
-use Rattle.surroundings.specs.{Answer.Answer, Events.History, Events.Extends, Events.stored, Answers.EndsOr, Programs.either, Sources.is_kept}
-use Rattle.surroundings.specs.{declared.answer.Fault.Fault, declared.office.Stored.Stored}
+use Rattle.host.specs.{Answer.Answer, Events.History, Events.Extends, Events.stored, Answers.EndsOr, Programs.either, Sources.is_kept}
+use Rattle.host.specs.{declared.answer.Fault.Fault, declared.file_system.Stored.Stored}
 use Rattle.v7_from_gnu.specs.{Runs.IsStoring, Jobs.Target}
 
 -- one is not stored

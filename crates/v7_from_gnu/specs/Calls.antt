@@ -1,11 +1,11 @@
--- What the arguments of v7-from-gnu ask for. (own choice)
+-- What the arguments of v7-from-gnu ask for.
 --
 -- With a folder there are files, and without one there are two paths.
 use Rattle.std.specs.Prelude.{ℕ, ◌==◌, if◌then◌else◌, List, [], ◌∷◌, ◌++◌, map, Option, Some, None, Result, Ok, Err, codes}
 use Rattle.aout_core.specs.Words.{letter_of}
 use Rattle.gnu_objects.specs.{declared.options.Locals.Locals, declared.options.Locals.TheVariants.{KeepAll, KeepNeeded, KeepNone}}
-use Rattle.surroundings.specs.{Arguments.{Given, given_in, has_letter, if_given, value_of}, declared.reasons.Reason.Reason}
-use Rattle.surroundings.specs.declared.reasons.Reason.TheVariants.{NoFile, NotTwoFiles}
+use Rattle.host.specs.{Arguments.{Given, given_in, has_letter, if_given, value_of}, declared.reasons.Reason.Reason}
+use Rattle.host.specs.declared.reasons.Reason.TheVariants.{NoFile, NotTwoFiles}
 use Rattle.v7_from_gnu.specs.{Jobs.Conversion, Jobs.Job}
 
 -- ---- paths

@@ -1,10 +1,9 @@
 -- What is checked before a file is opened, and before one is written: paths, and the files that they lead to.
--- (own choice)
 use Rattle.std.specs.Prelude.{◌≡◌, ◌⊎◌, ℕ, Bool, false, ◌||◌, List, [], ◌∷◌, ◌++◌, map, position, Result, Ok, Err, bytes_eq}
 use Rattle.std.specs.{List.list_any, Option.is_some}
 use Rattle.aout_core.specs.Refusals.{refused}
-use Rattle.surroundings.specs.{Answers.Refuses, Events.History, Events.Extends, Nodes.is_refused, Nodes.looks, declared.answer.Fault.Fault}
-use Rattle.surroundings.specs.{declared.nodes.Nodes.Nodes, declared.answer.Fault.TheVariants.Memory}
+use Rattle.host.specs.{Answers.Refuses, Events.History, Events.Extends, Nodes.is_refused, Nodes.looks, declared.answer.Fault.Fault}
+use Rattle.host.specs.{declared.nodes.Nodes.Nodes, declared.answer.Fault.TheVariants.Memory}
 use Rattle.v7_from_gnu.specs.{Jobs.Job, Jobs.Target}
 
 -- ---- paths

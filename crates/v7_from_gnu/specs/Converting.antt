@@ -1,4 +1,4 @@
--- Conversions of files that were read: all objects, or none. (own choice)
+-- Conversions of files that were read: all objects, or none.
 use Rattle.std.specs.Prelude.{if◌then◌else◌, List, [], ◌∷◌, ◌++◌, Option, Some, None, Result, Ok, Err}
 use Rattle.aout_core.specs.Contents.{Contents}
 use Rattle.gnu_objects.specs.{Clashes.has_clash, Converted.converted, declared.options.Options.Options, declared.refusal.Refusal.Refusal}

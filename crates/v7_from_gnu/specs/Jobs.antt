@@ -1,4 +1,4 @@
--- What is to be converted: the options and the paths of a call, and the files that were read. (own choice)
+-- What is to be converted: the options and the paths of a call, and the files that were read.
 use Rattle.std.specs.Prelude.{ℕ, Bool, List}
 use Rattle.aout_core.specs.Contents.{Contents}
 use Rattle.gnu_objects.specs.declared.options.Options.{Options}

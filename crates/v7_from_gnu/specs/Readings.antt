@@ -1,6 +1,6 @@
--- The files that are converted are read whole, each before the next one is opened, up to the first that can't be. (own choice)
+-- The files that are converted are read whole, each before the next one is opened, up to the first that can't be.
 use Rattle.std.specs.Prelude.{◌≡◌, ◌⊎◌, ℕ, List, [], ◌∷◌, ◌++◌, Result, Ok, Err}
-use Rattle.surroundings.specs.{Events.History, Sources.EndsReading, Sources.ReadsAt, declared.answer.Fault.Fault}
+use Rattle.host.specs.{Events.History, Sources.EndsReading, Sources.ReadsAt, declared.answer.Fault.Fault}
 use Rattle.v7_from_gnu.specs.{Jobs.Job, Jobs.Source}
 
 abbrev pub source_of : Job → List ℕ → Source

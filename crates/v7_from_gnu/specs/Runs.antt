@@ -1,13 +1,13 @@
--- What v7-from-gnu does with its arguments: what it opens, reads and stores, what it writes, and its status. (own choice)
+-- What v7-from-gnu does with its arguments: what it opens, reads and stores, what it writes, and its status.
 --
 -- Paths, and the files that they lead to, are checked before a file is opened. All files are read before one is converted, and all are
 -- converted before one is stored. So nothing is stored if one is refused. If memory runs out, that is the answer; it does so after a file
 -- was stored only if one was not.
 use Rattle.std.specs.Prelude.{◌≡◌, ◌⊎◌, ℕ, List, [], ◌∷◌, Option, Err}
 use Rattle.aout_core.specs.Refusals.{refused}
-use Rattle.surroundings.specs.{Answers.{EndsOr, FindsOr, IsPerformed, Refuses}, Events.{Extends, History, Surroundings, stored}}
-use Rattle.surroundings.specs.{Programs.{AnswersGiven, Quietly, Step, Then, either}, Answer.Answer, Sources.is_kept}
-use Rattle.surroundings.specs.{declared.office.Stored.Stored, declared.answer.Fault.TheVariants.Memory}
+use Rattle.host.specs.{Answers.{EndsOr, FindsOr, IsPerformed, Refuses}, Events.{Extends, History, Surroundings, stored}}
+use Rattle.host.specs.{Programs.{AnswersGiven, Quietly, Step, Then, either}, Answer.Answer, Sources.is_kept}
+use Rattle.host.specs.{declared.file_system.Stored.Stored, declared.answer.Fault.TheVariants.Memory}
 use Rattle.v7_from_gnu.specs.{Calls.conversion_asked, Checks.ChecksInputs, Checks.has_path_twice, Converting.outcome, Jobs.Conversion}
 use Rattle.v7_from_gnu.specs.{Jobs.Target, Readings.IsReading}
 

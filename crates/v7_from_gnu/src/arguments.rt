@@ -3,9 +3,9 @@ ghost use Rattle.std.specs.{Prelude.{◌≡◌, ◌∷◌, [], map, string_bytes
 ghost use Rattle.v7_from_gnu.specs.{Calls.{after_slash, conversion_of, into_folder, jobs_of, locals_in}, internal.Lists.listed};
 
 use gnu_objects::{Locals, Options};
+use host::{Given, Reason};
 use std::alloc::{AllocError, Global};
 use std::marker::Model;
-use surroundings::{Given, Reason};
 
 /// A file that is to be converted, and the path where its object is to go.
 #[derive(Drop)]

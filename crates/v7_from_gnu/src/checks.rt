@@ -1,7 +1,7 @@
 //! What is checked before a file is opened, and before one is written.
 ghost use Rattle.std.specs.Prelude.{◌≡◌, [], map, position, string_bytes, IfOk, Ok};
 ghost use Rattle.gnu_objects.specs.Clashes.{has_clash};
-ghost use Rattle.surroundings.specs.Answers.{Refuses};
+ghost use Rattle.host.specs.Answers.{Refuses};
 ghost use Rattle.v7_from_gnu.specs.Checks.{ChecksInputs, Judges, Looks, bytes_of, goes_to, has_path_twice, replaces};
 ghost use Rattle.v7_from_gnu.specs.internal.Lists.{listed};
 
@@ -9,10 +9,10 @@ use crate::arguments::Job;
 use crate::converting::Target;
 use crate::program::NAME;
 use gnu_objects::{Clash, clashes_among};
-use std::alloc::{AllocError, Global};
-use surroundings::{
-    Fault, Nodes, Office, Path, error_answer, fault_at, is_refused, nodes_at, refused_output,
+use host::{
+    Fault, FileSystem, Nodes, Path, error_answer, fault_at, is_refused, nodes_at, refused_output,
 };
+use std::alloc::{AllocError, Global};
 use texts::{Printable, Text};
 
 /// Whether one of these objects goes to a path.
@@ -44,14 +44,18 @@ pub(crate) fn check_paths(alloc: Global, jobs: &[Job]) -> Result<(), Fault>
 }
 
 /// What the paths of jobs lead to.
-fn look<O: Office>(alloc: Global, office: &mut O, jobs: &[Job]) -> Result<Vec<Nodes>, Fault>
-    ensures { Looks (O.history office.old) (O.history office.new) [] jobs.now (listed result) }
+fn look<O: FileSystem>(
+    alloc: Global,
+    file_system: &mut O,
+    jobs: &[Job],
+) -> Result<Vec<Nodes>, Fault>
+    ensures { Looks (O.history file_system.old) (O.history file_system.new) [] jobs.now (listed result) }
 {
     let mut found = Vec::new(alloc);
     for job in jobs {
         let from = job.from.as_str();
         let to = job.to.as_str();
-        let nodes = nodes_at(office, from, to);
+        let nodes = nodes_at(file_system, from, to);
         found.push(nodes)?;
     }
     Ok(found)
@@ -80,14 +84,14 @@ fn judge(alloc: Global, jobs: &[Job], found: &[Nodes]) -> Result<(), Fault>
 }
 
 /// Checks that no object could replace one of the files.
-pub(crate) fn check_inputs<O: Office>(
+pub(crate) fn check_inputs<O: FileSystem>(
     alloc: Global,
-    office: &mut O,
+    file_system: &mut O,
     jobs: &[Job],
 ) -> Result<(), Fault>
-    ensures { ChecksInputs jobs.now (O.history office.old) (O.history office.new) result }
+    ensures { ChecksInputs jobs.now (O.history file_system.old) (O.history file_system.new) result }
 {
-    let found = look(alloc, office, jobs)?;
+    let found = look(alloc, file_system, jobs)?;
     judge(alloc, jobs, &found)
 }
 

@@ -1,6 +1,6 @@
 //! Conversions of files that were read. Nothing is written before all are converted.
 ghost use Rattle.std.specs.Prelude.{◌≡◌, [], IfErr, IfOk, Some};
-ghost use Rattle.surroundings.specs.Answers.{FindsOr, Stops, is_none};
+ghost use Rattle.host.specs.Answers.{FindsOr, Stops, is_none};
 ghost use Rattle.v7_from_gnu.specs.{Converting.{converted_from, outcome, target_of}, Runs.{IsConversion, IsConverting}};
 ghost use Rattle.v7_from_gnu.specs.internal.Lists.{RefusedAs};
 
@@ -11,9 +11,9 @@ use crate::reading::{Source, read_all};
 use crate::storing::store_all;
 use aout_core::Object;
 use gnu_objects::{Options, Refusal, convert};
+use host::{Answer, Fault, FileSystem, error_answer};
 use std::alloc::Global;
 use std::marker::Model;
-use surroundings::{Answer, Fault, Office, error_answer};
 use texts::Text;
 
 /// A file that was read, and the object that it becomes.
@@ -84,53 +84,53 @@ fn convert_all(alloc: Global, options: Options, sources: Vec<Source>) -> Result<
 }
 
 /// Converts files after their paths were checked: reads all, converts all, and then writes the objects.
-fn convert_checked<O: Office>(
+fn convert_checked<O: FileSystem>(
     alloc: Global,
-    office: &mut O,
+    file_system: &mut O,
     options: Options,
     is_quiet: bool,
     jobs: Vec<Job>,
 ) -> Result<Answer, Fault>
     ensures { IsConverting (record { options = options; is_quiet = is_quiet; jobs = jobs.items })
-        (O.history office.old) (O.history office.new) result }
+        (O.history file_system.old) (O.history file_system.new) result }
 {
-    let sources = read_all(alloc, office, jobs)?;
+    let sources = read_all(alloc, file_system, jobs)?;
     let targets = convert_all(alloc, options, sources)?;
     store_all(
         alloc,
-        office,
+        file_system,
         (!is_quiet).then_some(options.locals),
         &targets,
     )
 }
 
 /// Converts files, and checks their paths first.
-fn convert_jobs<O: Office>(
+fn convert_jobs<O: FileSystem>(
     alloc: Global,
-    office: &mut O,
+    file_system: &mut O,
     options: Options,
     is_quiet: bool,
     jobs: Vec<Job>,
 ) -> Result<Answer, Fault>
     ensures { IsConversion (record { options = options; is_quiet = is_quiet; jobs = jobs.items })
-        (O.history office.old) (O.history office.new) result }
+        (O.history file_system.old) (O.history file_system.new) result }
 {
-    check_inputs(alloc, office, &jobs)?;
+    check_inputs(alloc, file_system, &jobs)?;
     check_paths(alloc, &jobs)?;
-    convert_checked(alloc, office, options, is_quiet, jobs)
+    convert_checked(alloc, file_system, options, is_quiet, jobs)
 }
 
-pub(crate) fn convert_files<O: Office>(
+pub(crate) fn convert_files<O: FileSystem>(
     alloc: Global,
-    office: &mut O,
+    file_system: &mut O,
     conversion: Conversion,
 ) -> Result<Answer, Fault>
-    ensures { IsConversion conversion (O.history office.old) (O.history office.new) result }
+    ensures { IsConversion conversion (O.history file_system.old) (O.history file_system.new) result }
 {
     let Conversion {
         options,
         is_quiet,
         jobs,
     } = conversion;
-    convert_jobs(alloc, office, options, is_quiet, jobs)
+    convert_jobs(alloc, file_system, options, is_quiet, jobs)
 }

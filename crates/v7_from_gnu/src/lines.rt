@@ -3,8 +3,8 @@ use crate::converting::Target;
 use crate::program::NAME;
 use crate::reading::Source;
 use gnu_objects::{Locals, Refusal, Remark, place_of, remarks, whole_name};
+use host::Path;
 use std::alloc::{AllocError, Global};
-use surroundings::Path;
 use texts::{Printable, Text};
 
 /// The whole name of a symbol of a file.

@@ -1,5 +1,6 @@
 //! The program `v7-from-gnu`: makes objects of the Seventh Edition of those in the form of GNU's assembler. Only tested: what is said of
 //! files and names.
+//! What names no manual page is our own choice.
 #![tactic(auto)]
 
 mod arguments;
@@ -12,10 +13,10 @@ mod reading;
 mod storing;
 
 use help::USAGE;
+use host::{Disk, end, hold_streams, outputs_of, readable_words, refuse};
 use program::{NAME, perform};
 use std::io;
 use std::process::ExitCode;
-use surroundings::{Disk, end, hold_streams, outputs_of, readable_words, refuse};
 
 /// The status of the program. The streams are held until it has ended.
 fn run(rt: &HostRuntime) -> io::Result<u8> {

@@ -1,14 +1,14 @@
 //! Objects that are stored.
 ghost use Rattle.std.specs.Prelude.{IfOk};
-ghost use Rattle.surroundings.specs.Answers.{Ends, EndsOr};
+ghost use Rattle.host.specs.Answers.{Ends, EndsOr};
 ghost use Rattle.v7_from_gnu.specs.Runs.{IsStoring, StoresAll};
 
 use crate::converting::Target;
 use crate::lines::all_remarks;
 use crate::program::NAME;
 use gnu_objects::Locals;
+use host::{Answer, Fault, FileSystem, Path, error_answer, stored_text};
 use std::alloc::{AllocError, Global};
-use surroundings::{Answer, Fault, Office, Path, error_answer, stored_text};
 use texts::Text;
 
 /// The answer with what is reported of names.
@@ -31,19 +31,19 @@ fn not_stored(alloc: Global, remarks: &[u8], path: &str, why: &str) -> Result<An
 }
 
 /// Stores the objects in order, up to the first that can't be stored. Without such one the answer is `done`.
-fn store_each<O: Office>(
+fn store_each<O: FileSystem>(
     alloc: Global,
-    office: &mut O,
+    file_system: &mut O,
     remarks: &[u8],
     targets: &[Target],
     done: Answer,
 ) -> Result<Answer, Fault>
     requires { Ends 0 done }
-    ensures { IsStoring targets.now (O.history office.old) (O.history office.new) result }
+    ensures { IsStoring targets.now (O.history file_system.old) (O.history file_system.new) result }
 {
     for target in targets {
         let path = target.source.to.as_str();
-        let stored = office.store(path, target.object.file());
+        let stored = file_system.store(path, target.object.file());
         if let Some(why) = stored_text(stored) {
             return not_stored(alloc, remarks, path, why);
         }
@@ -52,15 +52,15 @@ fn store_each<O: Office>(
 }
 
 /// Stores the objects, once there is memory for the answer. What becomes of names is reported with these locals.
-pub(crate) fn store_all<O: Office>(
+pub(crate) fn store_all<O: FileSystem>(
     alloc: Global,
-    office: &mut O,
+    file_system: &mut O,
     locals: Option<Locals>,
     targets: &[Target],
 ) -> Result<Answer, Fault>
-    ensures { StoresAll targets.now (O.history office.old) (O.history office.new) result }
+    ensures { StoresAll targets.now (O.history file_system.old) (O.history file_system.new) result }
 {
     let remarks = all_remarks(alloc, locals, targets)?;
     let done = said(alloc, &remarks)?;
-    store_each(alloc, office, &remarks, targets, done)
+    store_each(alloc, file_system, &remarks, targets, done)
 }

@@ -1,4 +1,4 @@
--- What v7-object does with its arguments: what it opens, reads and stores, what it writes, and its status. (own choice)
+-- What v7-object does with its arguments: what it opens, reads and stores, what it writes, and its status.
 --
 -- The system is asked whether the output is the listing before a file is opened, and a file is stored only if the listing has no
 -- mistake. If memory runs out, that is the answer; it does so after a file was to be stored only if it was not stored.
@@ -6,10 +6,10 @@ use Rattle.std.specs.{Prelude.{◌≡◌, ◌⊎◌, ℕ, Bool, codes, if◌then
 use Rattle.aout_core.specs.{Contents.Contents, Refusals.refused, Words.letter_of}
 use Rattle.listings.specs.{Columns.says_something, Reading.read, Reading.Mistakes, declared.draft.Addresses.Addresses}
 use Rattle.listings.specs.declared.draft.Addresses.TheVariants.{Compared, Computed}
-use Rattle.surroundings.specs.{Answers.{FindsOr, IsPerformed, only_errors}, Programs.{AnswersGiven, Quietly, Reads, Step, Stores, Then}}
-use Rattle.surroundings.specs.{Answer.Answer, Arguments.{Given, has_letter, if_given, given_in}, Events.{Surroundings, stored}}
-use Rattle.surroundings.specs.{Nodes.ChecksOutput, declared.answer.Fault.TheVariants.Memory, declared.reasons.Reason.Reason}
-use Rattle.surroundings.specs.declared.reasons.Reason.TheVariants.{NotTwoFiles}
+use Rattle.host.specs.{Answers.{FindsOr, IsPerformed, only_errors}, Programs.{AnswersGiven, Quietly, Reads, Step, Stores, Then}}
+use Rattle.host.specs.{Answer.Answer, Arguments.{Given, has_letter, if_given, given_in}, Events.{Surroundings, stored}}
+use Rattle.host.specs.{Nodes.ChecksOutput, declared.answer.Fault.TheVariants.Memory, declared.reasons.Reason.Reason}
+use Rattle.host.specs.declared.reasons.Reason.TheVariants.{NotTwoFiles}
 
 -- what the arguments ask for: to make the file of a listing at a path
 pub record Call : Type 0 where

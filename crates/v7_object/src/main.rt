@@ -1,4 +1,5 @@
 //! The program `v7-object`: makes an a.out file of a listing. Only tested: what is said of mistakes.
+//! What names no manual page is our own choice.
 #![tactic(auto)]
 
 mod help;
@@ -6,10 +7,10 @@ mod making;
 mod program;
 
 use help::USAGE;
+use host::{Disk, end, hold_streams, outputs_of, readable_words, refuse};
 use program::{NAME, perform};
 use std::io;
 use std::process::ExitCode;
-use surroundings::{Disk, end, hold_streams, outputs_of, readable_words, refuse};
 
 /// The status of the program. The streams are held until it has ended.
 fn run(rt: &HostRuntime) -> io::Result<u8> {

@@ -1,18 +1,18 @@
 //! The file of a listing. It is written only if the listing has no mistake.
 ghost use Rattle.std.specs.Prelude.{IfOk};
-ghost use Rattle.surroundings.specs.Answers.{Ends, FindsOr};
+ghost use Rattle.host.specs.Answers.{Ends, FindsOr};
 ghost use Rattle.v7_object.specs.Runs.{IsMaking, IsStoring, file_in};
 
 use crate::program::NAME;
 use aout_core::File;
+use host::{
+    Answer, Fault, FileSystem, Path, answer_stored, check_output, error_answer, read_whole,
+};
 use listings::{Addresses, ListingFault, Mistakes, Reason, read_listing, says_something};
 use std::alloc::{AllocError, Global};
-use surroundings::{
-    Answer, Fault, Office, Path, answer_stored, check_output, error_answer, read_whole,
-};
 use texts::Text;
 
-/// The most bytes of a listing that is read: 250 for each word of the largest file. (own choice)
+/// The most bytes of a listing that is read: 250 for each word of the largest file.
 const MOST_BYTES: u32 = 16_777_216;
 
 fn put_mistake(lines: &mut Text, path: &str, mistake: listings::Fault) {
@@ -68,26 +68,31 @@ fn file_in(alloc: Global, addresses: Addresses, path: &str, text: &[u8]) -> Resu
     }
 }
 
-fn store<O: Office>(alloc: Global, office: &mut O, to: &str, file: &File) -> Result<Answer, Fault>
-    ensures { IsStoring to.now file.now (O.history office.old) (O.history office.new) result }
+fn store<O: FileSystem>(
+    alloc: Global,
+    file_system: &mut O,
+    to: &str,
+    file: &File,
+) -> Result<Answer, Fault>
+    ensures { IsStoring to.now file.now (O.history file_system.old) (O.history file_system.new) result }
 {
     let done = error_answer(alloc, Text::new(alloc), 0)?;
-    let stored = office.store(to, file);
+    let stored = file_system.store(to, file);
     answer_stored(alloc, NAME, to, stored, done)
 }
 
-pub(crate) fn make_file<O: Office>(
+pub(crate) fn make_file<O: FileSystem>(
     alloc: Global,
-    office: &mut O,
+    file_system: &mut O,
     addresses: Addresses,
     listing: &str,
     to: &str,
 ) -> Result<Answer, Fault>
     ensures { IsMaking (record { addresses = addresses; listing = listing.now; to = to.now })
-        (O.history office.old) (O.history office.new) result }
+        (O.history file_system.old) (O.history file_system.new) result }
 {
-    check_output(alloc, office, NAME, listing, to)?;
-    let text = read_whole(alloc, office, NAME, listing, MOST_BYTES)?;
+    check_output(alloc, file_system, NAME, listing, to)?;
+    let text = read_whole(alloc, file_system, NAME, listing, MOST_BYTES)?;
     let file = file_in(alloc, addresses, listing, &text)?;
-    store(alloc, office, to, &file)
+    store(alloc, file_system, to, &file)
 }

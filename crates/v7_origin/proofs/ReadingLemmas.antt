@@ -1,60 +1,51 @@
--- Files that are read one after another, and outputs that are checked, from what comes of those that are left.
+-- What is done at each of some paths, from what comes of those that are left.
 use Rattle.std.proofs.Common.{◌≡◌, ℕ, ◌<◌, ◌+◌, List, [], ◌∷◌, ◌++◌, Some, false, length, drop, get_or, map, refl, sym, ap, ◌∙◌, subst, inl, inr}
 use Rattle.std.proofs.lemmas.List.{drop_more}
-use Rattle.std.specs.Prelude.{Result, Ok, Err, string_bytes}
-use Rattle.std.specs.{declared.alloc.Global.Global, Prelude.String}
+use Rattle.std.specs.Prelude.{Result, Ok, Err}
 use Rattle.aout_core.specs.Refusals.{refused}
-use Rattle.surroundings.specs.{Nodes.ChecksOutput, Sources.EndsReading, Sources.ReadsAt}
-use Rattle.surroundings.specs.{Events.History, declared.answer.Fault.Fault, declared.answer.Fault.TheVariants.Memory}
-use Rattle.v7_origin.specs.{Runs.ChecksEach, Runs.IsReading, Runs.most_bytes, Runs.source_of, Whole.Source}
+use Rattle.host.specs.{Events.History, Programs.Step, declared.answer.Fault.Fault, declared.answer.Fault.TheVariants.Memory}
+use Rattle.v7_origin.specs.{Runs.{Each, EndsFor, ReadsFor, Takes, taken}, Whole.Source, internal.Lists.after}
+use Rattle.v7_origin.specs.{declared.reading.PathFrom.PathFrom, declared.reading.PathFrom.TheVariants.{Arguments, Folder}}
 
-abbrev pub bytes_of : List (String Global) → List (List ℕ)
-bytes_of paths = map string_bytes paths
+-- the next of some items
+pub one_left : {A : Type 0} (all : List A) (i : ℕ) (x : A) → i < length all → x ≡ get_or all i x → drop i all ≡ x ∷ drop (i + 1) all
+one_left all i x within is = drop_more all i x within ∙ ap (λ y. y ∷ drop (i + 1) all) (sym is)
 
--- the next of some paths
-pub next_path : (paths : List (String Global)) (i : ℕ) (path : String Global) → i < length paths → path ≡ get_or paths i path →
-    bytes_of (drop i paths) ≡ string_bytes path ∷ bytes_of (drop (i + 1) paths)
-next_path paths i path within at =
-    ap bytes_of (drop_more paths i path within) ∙ ap (λ (p : String Global). string_bytes p ∷ bytes_of (drop (i + 1) paths)) (sym at)
+module _ {A : Type 0} (Does : List ℕ → A → Step A) (all : List (List ℕ)) (start : A) (old : History) where
+  -- what comes of the paths that are left comes of all
+  abbrev pub GoesOn : History → A → List (List ℕ) → Type 0
+  GoesOn mid so left = (new : History) → (result : Result A Fault) → Each Does left so mid new result → Each Does all start old new result
 
--- what comes of the files that are left comes of all
-abbrev pub GoesOn : History → History → List Source → List (List ℕ) → List (List ℕ) → Type 0
-GoesOn old mid read left all =
-    (new : History) → (result : Result (List Source) Fault) → IsReading read left mid new result → IsReading [] all old new result
+  pub each_ends : (mid new : History) (so : A) (left later : List (List ℕ)) (path : List ℕ) (fault : Fault) → GoesOn mid so left →
+      left ≡ path ∷ later → Does path so mid new (Err fault) → Each Does all start old new (Err fault)
+  each_ends mid new so left later path fault inv e h =
+      inv new (Err fault) (subst (λ paths. Each Does paths so mid new (Err fault)) (sym e) (inl (fault, h, refl)))
 
--- one is not read
-pub reading_ends : (old mid new : History) (read : List Source) (all left later : List (List ℕ)) (path : List ℕ) (fault : Fault) →
-    GoesOn old mid read left all → left ≡ path ∷ later →
-    EndsReading most_bytes mid new path fault → IsReading [] all old new (Err fault)
-reading_ends old mid new read all left later path fault inv e h =
-    inv new (Err fault) (subst (λ paths. IsReading read paths mid new (Err fault)) (sym e) (inr (fault, h, refl)))
+  pub each_more : (mid next : History) (so more : A) (left later : List (List ℕ)) (path : List ℕ) → GoesOn mid so left →
+      left ≡ path ∷ later → Does path so mid next (Ok more) → GoesOn next more later
+  each_more mid next so more left later path inv e h new result k =
+      inv new result (subst (λ paths. Each Does paths so mid new result) (sym e) (inr (more, next, h, k)))
 
--- one is read, and there is no memory for it
-pub reading_stops : (old mid new : History) (read : List Source) (all left later : List (List ℕ)) (path bytes : List ℕ) →
-    GoesOn old mid read left all → left ≡ path ∷ later → ReadsAt mid new path bytes → IsReading [] all old new (Err (Memory refused))
-reading_stops old mid new read all left later path bytes inv e h =
-    reading_ends old mid new read all left later path (Memory refused) inv e (inl (Some h.0, false, h.1, tt))
+  pub each_all : (mid : History) (so : A) (left : List (List ℕ)) → GoesOn mid so left → left ≡ [] → Each Does all start old mid (Ok so)
+  each_all mid so left inv e = inv mid (Ok so) (subst (λ paths. Each Does paths so mid mid (Ok so)) (sym e) (refl, refl))
 
--- one more is read
-pub reading_more : (old mid next : History) (read more : List Source) (all left later : List (List ℕ)) (path bytes : List ℕ) →
-    GoesOn old mid read left all → left ≡ path ∷ later →
-    ReadsAt mid next path bytes → more ≡ read ++ source_of path bytes ∷ [] → GoesOn old next more later all
-reading_more old mid next read more all left later path bytes inv e h p new result k =
-    inv new result (subst (λ paths. IsReading read paths mid new result) (sym e)
-    (inl (bytes, next, h, subst (λ s. IsReading s later next new result) p k)))
+-- ---- one file
 
--- what comes of the checks that are left comes of all
-abbrev pub ChecksOn : List ℕ → History → History → List (List ℕ) → List (List ℕ) → Type 0
-ChecksOn out old mid left all =
-    (new : History) → (result : Result (Unit {0}) Fault) → ChecksEach out left mid new result → ChecksEach out all old new result
+-- there is no memory for it
+not_taken : (from : PathFrom) (old new : History) (path bytes : List ℕ) → ReadsFor from old new path bytes → EndsFor from old new path (Memory refused)
+not_taken Arguments old new path bytes h = inl (Some h.0, false, h.1, tt)
+not_taken Folder old new path bytes h = (Some h.0, false, h.1, tt)
 
--- the output is one of the files
-pub checking_ends : (out : List ℕ) (old mid new : History) (all left later : List (List ℕ)) (path : List ℕ) (fault : Fault) →
-    ChecksOn out old mid left all → left ≡ path ∷ later → ChecksOutput path out mid new (Err fault) → ChecksEach out all old new (Err fault)
-checking_ends out old mid new all left later path fault inv e h =
-    inv new (Err fault) (subst (λ paths. ChecksEach out paths mid new (Err fault)) (sym e) (inl (fault, h, refl)))
+module _ (from : PathFrom) (old new : History) (path : List ℕ) (so more : List Source) (result : Result (Unit {0}) Fault) where
+  pub take_ends : (fault : Fault) → EndsFor from old new path fault → result ≡ Err fault → Takes from path so old new (after more result)
+  take_ends fault h is = rw is h
 
-pub checking_more : (out : List ℕ) (old mid next : History) (all left later : List (List ℕ)) (path : List ℕ) →
-    ChecksOn out old mid left all → left ≡ path ∷ later → ChecksOutput path out mid next (Ok tt) → ChecksOn out old next later all
-checking_more out old mid next all left later path inv e h new result k =
-    inv new result (subst (λ paths. ChecksEach out paths mid new result) (sym e) (inr (tt, next, h, k)))
+  pub take_stops : (bytes : List ℕ) → ReadsFor from old new path bytes → result ≡ Err (Memory refused) →
+      Takes from path so old new (after more result)
+  take_stops bytes h is = rw is (not_taken from old new path bytes h)
+
+  pub takes : (bytes : List ℕ) → ReadsFor from old new path bytes → more ≡ so ++ taken from path bytes → result ≡ Ok tt →
+      Takes from path so old new (after more result)
+  takes bytes h e is = rw is (bytes, h, e)
+
+pub ruleset by_taken = (take_ends, take_stops, takes)

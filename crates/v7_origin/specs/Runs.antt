@@ -1,17 +1,19 @@
 -- What v7-origin does with its arguments: what it opens, reads and stores, when it says that all of a program is found, and its status.
--- (own choice)
 --
--- The system is asked whether the output is one of the files before one is opened. All files are read before one is judged. In which words
--- something is said, and what else is found, no definition says: the search may miss an order, but it does not claim a wrong one.
-use Rattle.std.specs.Prelude.{◌≡◌, ◌⊎◌, ℕ, Bool, true, false, ◌&&◌, ◌||◌, ◌*◌, eqb, if◌then◌else◌, codes, List, [], ◌∷◌, ◌++◌, length, is_err}
+-- All files are read, and the system is asked whether the output is one of them, before one is judged. In which words something is said, and
+-- what else is found, no definition says: the search may miss an order, but it does not claim a wrong one.
+use Rattle.std.specs.Prelude.{◌≡◌, ◌⊎◌, ℕ, Bool, true, false, ◌&&◌, ◌||◌, ◌*◌, eqb, if◌then◌else◌, codes, List, [], ◌∷◌, ◌++◌, length, map, not, is_err}
 use Rattle.std.specs.Prelude.{Option, Some, None, Result, Ok, Err}
-use Rattle.aout_core.specs.{Contents.Contents, Decoding.decode, declared.file.ReadFault.ReadFault, declared.symbol.Symbol.Symbol, Words.letter_of}
+use Rattle.aout_core.specs.{Contents.Contents, Decoding.decode, Refusals.refused, Words.letter_of}
+use Rattle.aout_core.specs.{declared.file.ReadFault.ReadFault, declared.symbol.Symbol.Symbol}
 use Rattle.link_out.specs.Inputs.{object_in}
-use Rattle.surroundings.specs.{Answers.{IsPerformed, Stops, is_none}, Answer.Answer, Arguments.{Given, given_in, has_letter, if_given, value_of}}
-use Rattle.surroundings.specs.{Events.{History, Surroundings, stored}, Programs.{AnswersGiven, Step, Stores, Then}, Nodes.ChecksOutput}
-use Rattle.surroundings.specs.{Sources.{EndsReading, ReadsAt}, declared.answer.Fault.Fault, declared.reasons.Reason.Reason}
-use Rattle.surroundings.specs.declared.reasons.Reason.TheVariants.{Needs, NoFile}
-use Rattle.v7_origin.specs.Whole.{IsWhole, Source}
+use Rattle.host.specs.{Answers.{IsPerformed, Stops, is_none}, Answer.Answer, Arguments.{Given, given_in, has_letter, if_given, value_of}}
+use Rattle.host.specs.{Events.{History, Surroundings, stored}, Programs.{AnswersGiven, Step, Stores, Then}, Nodes.ChecksOutput}
+use Rattle.host.specs.{Sources.{EndsBroken, EndsReading, ReadsAt, ReadsFront}, declared.answer.Fault.Fault, declared.reasons.Reason.Reason}
+use Rattle.host.specs.declared.answer.Fault.TheVariants.{Memory}
+use Rattle.host.specs.declared.reasons.Reason.TheVariants.{Needs, NoFile}
+use Rattle.v7_origin.specs.{Whole.IsWhole, Whole.Source, declared.reading.PathFrom.PathFrom}
+use Rattle.v7_origin.specs.declared.reading.PathFrom.TheVariants.{Arguments, Folder}
 
 -- ---- arguments
 
@@ -36,20 +38,14 @@ abbrev pub call_in : Given → Result Given Reason
 call_in given = given_unless given (refusal_of given)
 
 abbrev pub call_asked : List (List ℕ) → Result Given Reason
-call_asked words = if_given (given_in (codes "aq") (codes "o") words) call_in
-
--- ---- before a file is opened
-
--- the output is none of the files at these paths, one after another
-abbrev pub ChecksEach : List ℕ → List (List ℕ) → Step (Unit {0})
-ChecksEach out [] old new result = (new ≡ old) × (result ≡ Ok tt)
-ChecksEach out (path ∷ paths) old new result = Then (ChecksOutput path out) (λ _. ChecksEach out paths) old new result
-
-abbrev pub ChecksOut : Option (List ℕ) → List (List ℕ) → Step (Unit {0})
-ChecksOut None paths old new result = (new ≡ old) × (result ≡ Ok tt)
-ChecksOut (Some out) paths old new result = ChecksEach out paths old new result
+call_asked words = if_given (given_in (codes "aq") (codes "oR") words) call_in
 
 -- ---- reading
+
+-- the same is done at each path, with what was found at those before it
+abbrev pub Each : {A : Type 0} → (List ℕ → A → Step A) → List (List ℕ) → A → Step A
+Each Does [] so old new result = (new ≡ old) × (result ≡ Ok so)
+Each Does (path ∷ paths) so old new result = Then (Does path so) (Each Does paths) old new result
 
 abbrev pub source_of : List ℕ → List ℕ → Source
 source_of path bytes = record { path = path; bytes = bytes }
@@ -58,12 +54,35 @@ source_of path bytes = record { path = path; bytes = bytes }
 abbrev pub most_bytes : ℕ
 most_bytes = 16777216
 
--- the files at these paths are read after others, each before the next one is opened, up to the first that can't be
-abbrev pub IsReading : List Source → List (List ℕ) → Step (List Source)
-IsReading read [] old new result = (new ≡ old) × (result ≡ Ok read)
-IsReading read (path ∷ paths) old new result =
-    ((bytes : List ℕ) × (between : History) × ReadsAt old between path bytes × IsReading (read ++ source_of path bytes ∷ []) paths between new result)
-    ⊎ ((fault : Fault) × EndsReading most_bytes old new path fault × (result ≡ Err fault))
+-- a file of the arguments is read whole; of one that a walk found these are the first bytes
+abbrev pub ReadsFor : PathFrom → History → History → List ℕ → List ℕ → Type 0
+ReadsFor Arguments = ReadsAt
+ReadsFor Folder = ReadsFront 327690
+
+abbrev pub EndsFor : PathFrom → History → History → List ℕ → Fault → Type 0
+EndsFor Arguments = EndsReading most_bytes
+EndsFor Folder = EndsBroken
+
+-- of the files that a walk found only objects are taken
+abbrev pub is_taken : PathFrom → List ℕ → Bool
+is_taken Arguments bytes = true
+is_taken Folder bytes = not (is_err (object_in (decode bytes)))
+
+abbrev pub taken : PathFrom → List ℕ → List ℕ → List Source
+taken from path bytes = if is_taken from bytes then source_of path bytes ∷ [] else []
+
+-- a file is read, and taken after others; or it can't be read
+abbrev pub Takes : PathFrom → List ℕ → List Source → Step (List Source)
+Takes from path so old new (Ok more) = (bytes : List ℕ) × ReadsFor from old new path bytes × (more ≡ so ++ taken from path bytes)
+Takes from path so old new (Err fault) = EndsFor from old new path fault
+
+-- the output is none of the files at these paths
+abbrev pub ChecksEach : List ℕ → List (List ℕ) → Step (Unit {0})
+ChecksEach out paths = Each (λ path _. ChecksOutput path out) paths tt
+
+abbrev pub ChecksOut : Option (List ℕ) → List (List ℕ) → Step (Unit {0})
+ChecksOut None paths old new result = (new ≡ old) × (result ≡ Ok tt)
+ChecksOut (Some out) paths old new result = ChecksEach out paths old new result
 
 -- ---- which files are refused
 
@@ -75,22 +94,15 @@ abbrev pub no_program : Result Contents ReadFault → Bool
 no_program (Err fault) = true
 no_program (Ok c) = is_no_program c
 
--- the first has to be a program
-abbrev pub first_refused : List Source → Bool
-first_refused [] = true
-first_refused (source ∷ sources) = no_program (decode source.bytes)
-
 -- these have to be objects
 abbrev pub any_refused : List Source → Bool
 any_refused [] = false
 any_refused (source ∷ sources) = is_err (object_in (decode source.bytes)) || any_refused sources
 
-abbrev pub others_refused : List Source → Bool
-others_refused [] = false
-others_refused (source ∷ sources) = any_refused sources
-
+-- the first has to be a program, and the others objects
 abbrev pub are_refused : List Source → Bool
-are_refused sources = first_refused sources || others_refused sources
+are_refused [] = true
+are_refused (source ∷ sources) = no_program (decode source.bytes) || any_refused sources
 
 -- ---- what was found
 
@@ -124,11 +136,22 @@ Judges given sources old new result =
 
 -- ---- the program
 
+-- without -R no path is found in a folder; which are found with it is only tested
+abbrev pub AreFoundIn : Option (List ℕ) → List (List ℕ) → Type 0
+AreFoundIn None found = found ≡ []
+AreFoundIn (Some folder) found = Unit {0}
+
+-- the files of the arguments are read, then those that were found, and the output is checked before one is judged
 abbrev pub FindsAmong : Given → List (List ℕ) → Step Answer
-FindsAmong given paths = Then (ChecksOut (out_of given) paths) (λ _. Then (IsReading [] paths) (Judges given))
+FindsAmong given found =
+    Then (Each (Takes Arguments) given.paths []) (λ named.
+    Then (Each (Takes Folder) found named) (λ sources.
+    Then (ChecksOut (out_of given) (map (λ s. s.path) sources)) (λ _. Judges given sources)))
 
 abbrev pub IsOrigin : Given → Step Answer
-IsOrigin given = FindsAmong given given.paths
+IsOrigin given old new result =
+    ((new ≡ old) × (result ≡ Err (Memory refused)))
+    ⊎ ((found : List (List ℕ)) × AreFoundIn (value_of given (letter_of (codes "R"))) found × FindsAmong given found old new result)
 
 -- what the arguments ask for is done, and its answer is written
 abbrev pub PerformsOrigin : {W E : Type 0} → (W → Option (List ℕ)) → (E → Option (List ℕ)) → List (List ℕ) →

@@ -8,7 +8,7 @@ use indexmap::IndexMap;
 use origins::places;
 use std::alloc::{AllocError, Global};
 
-/// How many places of an object are kept. (own choice)
+/// How many places of an object are kept.
 const MOST_PLACES: usize = 1024;
 
 /// An object that is tried.

@@ -17,10 +17,10 @@ use link_out::Keep;
 use std::alloc::{AllocError, Global};
 use texts::Text;
 
-/// How many orders are linked, at most. (own choice)
+/// How many orders are linked, at most.
 const MOST_ORDERS: u32 = 256;
 
-/// As many words are compared in the time of a link. (own choice)
+/// As many words are compared in the time of a link.
 const LINK_WORK: usize = 1_000_000;
 
 /// What was found.

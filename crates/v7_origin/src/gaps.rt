@@ -8,11 +8,11 @@ use crate::scanning::differing;
 use crate::search::Search;
 use aout_core::decode_file;
 use disassemblies::NamedFile;
+use host::Path;
 use std::alloc::AllocError;
-use surroundings::Path;
 use texts::Text;
 
-/// How many words a link has to leave alone in an object, for it not to be by chance where it fits. (own choice)
+/// How many words a link has to leave alone in an object, for it not to be by chance where it fits.
 const SURE_WORDS: usize = 4;
 
 /// Whether the object of a row has more than a word, and fits at no other place than one: another one may be there by chance.

@@ -1,12 +1,12 @@
 //! How the program is called, and what its help shows.
 
 /// How the program is called.
-pub(crate) const USAGE: &str = "usage: v7-origin [-q] [-a] [-o FILE] PROGRAM OBJECT...
+pub(crate) const USAGE: &str = "usage: v7-origin [-q] [-a] [-o FILE] [-R FOLDER] PROGRAM [OBJECT...]
        v7-origin --help | --version
 ";
 
 /// What the help shows.
-pub(crate) const HELP: &str = "usage: v7-origin [-q] [-a] [-o FILE] PROGRAM OBJECT...
+pub(crate) const HELP: &str = "usage: v7-origin [-q] [-a] [-o FILE] [-R FOLDER] PROGRAM [OBJECT...]
 
 Finds which of the objects a program was linked from, and where they are in it.
 The program may be stripped. If all of it is found, the last line is the command
@@ -14,6 +14,7 @@ that makes it again.
 
   -o FILE    stores the program in FILE with the externals of the objects found
   -a         stores their locals too
+  -R FOLDER  looks among the objects of a folder too, and of those below it
   -q         writes nothing: the status is 0 if all of the program is found,
              1 if not, and 2 after an error
   --help     shows this text

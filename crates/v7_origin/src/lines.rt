@@ -4,8 +4,8 @@ use crate::known::Row;
 use crate::linking::layout_of;
 use crate::reading::Source;
 use aout_core::File;
+use host::Path;
 use link_out::Layout;
-use surroundings::Path;
 use texts::Text;
 
 /// Puts a number of bytes in octal, with a 0 in front.

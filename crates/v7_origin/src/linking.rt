@@ -1,13 +1,13 @@
 //! The link of the objects that were found, and whether it is the program.
 ghost use Rattle.std.specs.Prelude.{◌≡◌, [], false, true, IfOk, IfSome, IsTrue, None, Ok};
-ghost use Rattle.aout_core.specs.{Decoding.decode, Strip.stripped};
-ghost use Rattle.link_out.specs.{Inputs.object_in, Outcomes.outcome_of, function.Link.link_of};
+ghost use Rattle.aout_core.specs.Strip.{stripped};
+ghost use Rattle.link_out.specs.{Outcomes.outcome_of, function.Link.link_of};
 ghost use Rattle.tool_options.specs.{Choices.options_of, declared.options.Keep.TheVariants.Nothing};
 ghost use Rattle.v7_origin.specs.{Whole.AreChosen, Whole.IsLinkOfAll, internal.Lists.IsAdded};
 ghost use Rattle.v7_origin.specs.declared.linking.Compared.TheVariants.{Equal};
 
-use crate::reading::Source;
-use aout_core::{File, Header, Object, Symbol, decode_file, strip_file};
+use crate::reading::{Source, object_in};
+use aout_core::{File, Header, Symbol, strip_file};
 use link_out::{Keep, Layout, LinkFault, Linked, Options, finish};
 use link_session::{AddFault, Session};
 use std::alloc::{AllocError, Global};
@@ -22,24 +22,11 @@ pub(crate) fn layout_of(magic: u16) -> Layout {
     }
 }
 
-/// The object of a file, if it is one.
-fn object_of(alloc: Global, source: &Source) -> Result<Option<Object>, AllocError>
-    ensures { IfOk result (λ o. IfSome o (λ object. object_in (decode source.now.bytes) ≡ Ok object)) }
-{
-    match decode_file(alloc, &source.bytes)? {
-        Ok(file) => match Object::from_file(file) {
-            Ok(object) => Ok(Some(object)),
-            Err(_) => Ok(None),
-        },
-        Err(_) => Ok(None),
-    }
-}
-
 /// Adds the object of a file to a session, unless it passes a limit.
 fn add(alloc: Global, session: &mut Session, source: &Source) -> Result<bool, AllocError>
     ensures { result ≡ Ok true → IsAdded source.now session.old session.new }
 {
-    let Some(object) = object_of(alloc, source)? else {
+    let Ok(object) = object_in(alloc, &source.bytes)? else {
         return Ok(false);
     };
     let label = String::from_str(alloc, source.path.as_str())?;

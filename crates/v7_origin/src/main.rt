@@ -1,4 +1,5 @@
 //! The program `v7-origin`: which objects a program was linked from. Only tested: what it finds but for the whole, and what it says.
+//! What names no manual page is our own choice.
 #![tactic(auto)]
 
 mod candidates;
@@ -18,10 +19,10 @@ mod scanning;
 mod search;
 
 use help::USAGE;
+use host::{Disk, DiskFolders, end, hold_streams, outputs_of, readable_words, refuse};
 use program::{NAME, perform};
 use std::io;
 use std::process::ExitCode;
-use surroundings::{Disk, end, hold_streams, outputs_of, readable_words, refuse};
 
 /// The status of the program. The streams are held until it has ended.
 fn run(rt: &HostRuntime) -> io::Result<u8> {
@@ -30,6 +31,7 @@ fn run(rt: &HostRuntime) -> io::Result<u8> {
         Ok(words) => perform(
             rt.alloc(),
             &mut Disk::of_files(rt),
+            &DiskFolders { rt },
             &mut outputs_of(rt),
             &words,
         ),

@@ -4,19 +4,19 @@ use crate::known::{Known, defines};
 use crate::scanning::differing;
 use aout_core::File;
 use disassemblies::{NamedFile, line_start, line_starts, put_line_text};
+use host::Path;
 use instructions::Decoder;
 use origins::{has_slots, tell_word};
 use std::alloc::AllocError;
-use surroundings::Path;
 use texts::Text;
 
-/// How many words may differ, unless an object is as long as the gap. (own choice)
+/// How many words may differ, unless an object is as long as the gap.
 const MOST_WORDS: usize = 8;
 
-/// How many have to be equal, unless it is. (own choice)
+/// How many have to be equal, unless it is.
 const FEW_WORDS: usize = 2;
 
-/// How many lines of an object are shown, and how many objects of a gap. (own choice)
+/// How many lines of an object are shown, and how many objects of a gap.
 const MOST_LINES: usize = 24;
 
 const MOST_NEAR: usize = 3;

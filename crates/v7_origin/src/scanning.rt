@@ -1,7 +1,7 @@
 //! Words that a link leaves alone, compared with those of a program. How much work a search takes is counted before it is done.
 use aout_core::{File, Object, Reloc};
 
-/// How many words are compared in one run of the program, at most: some seconds. (own choice)
+/// How many words are compared in one run of the program, at most: some seconds.
 pub(crate) const MOST_WORK: u64 = 250_000_000;
 
 /// How many words that a link leaves alone are not those that are there, up to one more than a number, and how many words were compared.

@@ -3,10 +3,10 @@ use crate::candidates::{Candidate, Trial};
 use crate::known::{Known, Placed, Row};
 use std::alloc::{AllocError, Global};
 
-/// How often a search goes on or back, at most. (own choice)
+/// How often a search goes on or back, at most.
 const STEPS: u32 = 200_000;
 
-/// As many words are compared in the time in which an object is found not to be next. (own choice)
+/// As many words are compared in the time in which an object is found not to be next.
 const CANDIDATE_WORK: usize = 16;
 
 /// A search from the front, or from the back, between two places: an address of text and a byte of data.

@@ -4,8 +4,8 @@ use Rattle.std.proofs.lemmas.List.{append_assoc, append-nil, map-append}
 use Rattle.std.specs.{declared.alloc.Global.Global, Prelude.IsErrAnd, Prelude.String, Prelude.string_bytes}
 use Rattle.v7tools.specs.{declared.fault.CliFault.CliFault, internal.Openings.sources, LinkRuns.StopsAt}
 use Rattle.aout_core.specs.{Wires.Latched, Contents.Contents}
-use Rattle.surroundings.proofs.EventLemmas.{asked_after}
-use Rattle.surroundings.specs.{Events.{History, Extends, opened, opens, paths_of, stored}, declared.office.Stored.Stored}
+use Rattle.host.proofs.EventLemmas.{asked_after}
+use Rattle.host.specs.{Events.{History, Extends, opened, opens, paths_of, stored}, declared.file_system.Stored.Stored}
 
 -- none are left
 pub no_more : {A : Type 0} (all before left : List A) → all ≡ before ++ left → left ≡ [] → all ≡ before

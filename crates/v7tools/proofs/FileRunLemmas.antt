@@ -5,13 +5,13 @@ use Rattle.std.specs.{declared.alloc.Global.Global, Prelude.String, Prelude.stri
 use Rattle.aout_core.specs.{Contents.Contents, Decoding.decode, Reading.IsReadOf, Reading.LeavesAfter, Refusals.{device_fault, refused}}
 use Rattle.aout_core.specs.{Strip.stripped, declared.file.ReadFault.ReadFault}
 use Rattle.aout_core.specs.declared.file.ReadFault.TheVariants as reads
-use Rattle.surroundings.specs.{Events.{Event, History, Extends, Opened, closed, opened, stored}, Sources.reading, declared.office.Stored.Stored}
-use Rattle.surroundings.specs.declared.office.Stored.TheVariants.{Kept}
+use Rattle.host.specs.{Events.{Event, History, Extends, Opened, closed, opened, stored}, Sources.reading, declared.file_system.Stored.Stored}
+use Rattle.host.specs.declared.file_system.Stored.TheVariants.{Kept}
 use Rattle.v7tools.specs.FileRuns.{AreRead, IsStored, IsLoadAt, IsStripping, Loaded, Reads, ReadsNotAll, readings, strips}
 use Rattle.v7tools.specs.Loads.{IsAtPath, read_of}
 use Rattle.v7tools.specs.declared.fault.CliFault.TheVariants as faults
 use Rattle.v7tools.specs.declared.fault.CliFault.{CliFault}
-use Rattle.surroundings.proofs.EventLemmas.{asked_after}
+use Rattle.host.proofs.EventLemmas.{asked_after}
 use Rattle.v7tools.proofs.EventLemmas.{one_more}
 
 read_after : (found : List Opened) (loaded : List Loaded) (known : Option (List ℕ)) (l : Loaded) → AreRead found loaded →

@@ -17,11 +17,11 @@ use Rattle.v7tools.specs.declared.session.commands.Command.TheVariants.{Add, Wit
 use Rattle.v7tools.specs.{FaultTexts.{cli_text, fault_of_link}, internal.StepParts.RefusesLink, declared.session.commands.Command.Command}
 use Rattle.v7tools.specs.{declared.session.commands.Step.Step, declared.fault.CliFault.CliFault}
 use Rattle.v7tools.specs.declared.fault.CliFault.TheVariants as faults
-use Rattle.surroundings.specs.{Events.Event, Events.History, Events.Extends, Events.stored, declared.office.Stored.Stored}
+use Rattle.host.specs.{Events.Event, Events.History, Events.Extends, Events.stored, declared.file_system.Stored.Stored}
 use Rattle.command_words.specs.Scripts.{Asked, to_add, to_withdraw, for_externals, for_undefined, to_link, for_nothing}
 use Rattle.command_words.specs.{declared.lines.Line.Line, ScriptAnswers.asked_by}
 use Rattle.command_words.specs.declared.lines.Line.TheVariants as lines
-use Rattle.surroundings.proofs.EventLemmas.{nothing_asked}
+use Rattle.host.proofs.EventLemmas.{nothing_asked}
 use Rattle.v7tools.proofs.StepLemmas.{link_refused_by, refused_as}
 
 -- ---- a step that is no link

@@ -1,15 +1,15 @@
--- A link over an office, from its parts.
+-- A link over a file system, from its parts.
 use Rattle.std.proofs.Common.{rules, ◌≡◌, ◌↔◌, ℕ, Bool, true, List, [], ◌∷◌, map, Option, Some, Result, Ok, Err, refl, inl, inr}
 use Rattle.std.specs.{declared.alloc.Global.Global, Prelude.String, Prelude.string_bytes, List.AllByRecursion}
 use Rattle.aout_core.specs.Wires.{Latched}
 use Rattle.link_out.specs.{declared.linked.Linked.Linked, Outcomes.report_names}
 use Rattle.tool_options.specs.Choices.{Choices}
-use Rattle.surroundings.specs.{Events.History, Events.Extends, Events.stored, declared.office.Stored.Stored}
+use Rattle.host.specs.{Events.History, Events.Extends, Events.stored, declared.file_system.Stored.Stored}
 use Rattle.v7tools.specs.internal.Openings.{sources, IsOpening, IsWorking, OpensAll}
 use Rattle.v7tools.specs.LinkRuns.{inputs_opened, IsLinkOfFiles, IsLinkRun, ReportsIf, closings}
 use Rattle.v7tools.specs.{LinkAnswers.inputs_of, LinkAnswers.IsDeviceFault, LinkAnswers.IsLinkOf, declared.fault.CliFault.CliFault}
 use Rattle.v7tools.specs.declared.fault.CliFault.TheVariants as faults
-use Rattle.surroundings.proofs.EventLemmas.{asked_after}
+use Rattle.host.proofs.EventLemmas.{asked_after}
 use Rattle.v7tools.proofs.EventLemmas.{paths_opened}
 
 module _ {R : Type 0} (remaining : R → Option (List ℕ)) where

@@ -6,7 +6,7 @@ use Rattle.std.proofs.lemmas.List.{flat_map_more, map-append}
 use Rattle.std.specs.{Prelude.{IfSome, IsSome, IsTrue, ◌⊎◌}, Io.KnownBytes.{Appends, prepend_known}}
 use Rattle.link_session.specs.{Labelled.Labelled, Sessions.nothing_kept, Undo.Kept}
 use Rattle.tool_options.specs.Choices.{Choices}
-use Rattle.surroundings.specs.Events.{History, Extends}
+use Rattle.host.specs.Events.{History, Extends}
 use Rattle.command_words.specs.Scripts.{Asked, Given, ScriptFault, long_line, many_lines, and_given, given_after}
 use Rattle.command_words.specs.ScriptAnswers.{Answer, GivesNext, GivesNone, NamesPath, WhereKnown, IsNextOf, Progress, Settles, asked_by, lines_of}
 use Rattle.command_words.specs.{declared.line_reader.Stop.Stop, declared.lines.Line.Line}
@@ -16,7 +16,7 @@ use Rattle.v7tools.specs.SessionRuns.{AreFirst, AreLines, Chains, EndsAfter, IsS
 use Rattle.v7tools.specs.{SessionRuns.{lines_asked, worst}, LineRuns.{IsLineOf, LineRun}, internal.SessionParts.AnswersLine}
 use Rattle.v7tools.specs.{ScriptCalls.returned, declared.fault.CliFault.CliFault}
 use Rattle.v7tools.specs.declared.fault.CliFault.TheVariants as faults
-use Rattle.surroundings.proofs.EventLemmas.{asked_after, nothing_asked}
+use Rattle.host.proofs.EventLemmas.{asked_after, nothing_asked}
 use Rattle.command_words.proofs.ScriptLemmas.{after_last_line}
 
 -- ---- one more line

@@ -1,4 +1,4 @@
--- The answers of a session. (own choice)
+-- The answers of a session.
 --
 -- Each command has its answer by the objects that are kept: what was added or withdrawn, the list that was asked for, or the text of
 -- the fault. A link is answered once it is known what became of its file.
@@ -13,7 +13,7 @@ use Rattle.link_out.specs.{FaultTexts.link_text, declared.linked.LinkFault.LinkF
 use Rattle.tool_options.specs.Choices.{Choices}
 use Rattle.symtools.specs.SymbolLines.{symbol_line}
 use Rattle.v7tools.specs.FaultTexts.{cause_text, at_file}
-use Rattle.surroundings.specs.{declared.office.Stored.Stored, declared.office.Stored.TheVariants.{Kept, NotCreated, Failed}}
+use Rattle.host.specs.{declared.file_system.Stored.Stored, declared.file_system.Stored.TheVariants.{Kept, NotCreated, Failed}}
 
 -- what a path leads to: nothing, a device that fails, or these bytes
 pub data Source : Type 0 where
@@ -81,7 +81,7 @@ step forced o kept anything_else = record { verdict = refused; answer = line (co
 -- the answer of a link, once it is known what became of its file
 abbrev pub link_answer_text : ReportNames → List ℕ → Stored → List ℕ
 link_answer_text f path Kept = report_text f ++ line (codes "linked " ++ path ++ codes " " ++ decimal (status_of f))
-link_answer_text f path NotCreated = line (at_file path (codes "cannot create"))
+link_answer_text f path (NotCreated _) = line (at_file path (codes "cannot create"))
 link_answer_text f path (Failed _) = line (at_file path (codes "write error"))
 
 abbrev pub link_status : ReportNames → Stored → ℕ

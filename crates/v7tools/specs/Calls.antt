@@ -1,4 +1,4 @@
--- Which fault the program has for arguments that ask for no call. (own choice)
+-- Which fault the program has for arguments that ask for no call.
 use Rattle.aout_core.specs.Refusals.{refused}
 use Rattle.std.specs.Prelude.{◌≡◌, ℕ, List}
 use Rattle.command_words.specs.{Calls.AsksForNone, declared.fault.WordsFault.WordsFault}

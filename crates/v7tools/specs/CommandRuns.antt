@@ -1,4 +1,4 @@
--- What the program does with its arguments: which call it runs, what it writes of a fault, and its status. (own choice)
+-- What the program does with its arguments: which call it runs, what it writes of a fault, and its status.
 --
 -- The arguments ask for a call, and then it is run, or they are refused, and nothing is asked of the system (Events). Without a fault
 -- the status is that of the call, and standard error is left alone. With one it is 2, and the line of the fault goes there.
@@ -9,7 +9,7 @@ use Rattle.command_words.specs.{Calls.{IsAsked, IsWhole, dashes_in, files_of}, d
 use Rattle.command_words.specs.declared.words.Call.TheVariants.{Ld, Nm, Size, Strip, Session}
 use Rattle.v7tools.specs.{FileRuns.{IsListRun, IsStripRun, OnlyWriteFailed, OrMemory}, Calls.IsOfWords, FaultTexts.fault_line}
 use Rattle.v7tools.specs.{LinkRuns.{IsLinkRun, Refuses}, SessionRuns.IsSessionRun, declared.fault.CliFault.CliFault}
-use Rattle.surroundings.specs.{Events.History, Events.Extends, Events.Surroundings, Emits.PutsUnless}
+use Rattle.host.specs.{Events.History, Events.Extends, Events.Surroundings, Emits.PutsUnless}
 
 -- a call was run, with a script of these bytes, if they are known
 abbrev pub IsCallRun : {W : Type 0} → (W → Option (List ℕ)) → Option (List ℕ) → Call → History → History →

@@ -1,4 +1,4 @@
--- The texts of faults. (own choice)
+-- The texts of faults.
 --
 -- Each fault has one text, which the program writes after `v7: `, and a session without it. A fault of a file begins with its path.
 use Rattle.aout_core.specs.{Refusals.{device_fault, refused}, declared.file.ReadFault.ReadFault, FaultTexts.{object_text, read_text}}

@@ -1,7 +1,7 @@
 -- What nm, size and strip do: what they open and read, what they write or store, and their status. (nm(1), size(1), strip(1))
 --
 -- Each file is opened and read before the next one is opened, and nothing is written or stored before all are read, so that one bad
--- file leaves all as it was (own choice).
+-- file leaves all as it was.
 use Rattle.aout_core.specs.{Refusals.{device_fault, refused}, Contents.Contents, Decoding.decode, Reading.IsReadOf, Strip.stripped}
 use Rattle.aout_core.specs.Wires.{Latched, Puts}
 use Rattle.aout_core.specs.declared.file.ReadFault.{ReadFault}
@@ -11,8 +11,8 @@ use Rattle.std.specs.Prelude.{◌≡◌, ◌≢◌, ◌↔◌, ◌⊎◌, ℕ, L
 use Rattle.std.specs.{List.flat_map, Prelude.{Bool, IsTrue, String, string_bytes, true, false}}
 use Rattle.symtools.specs.{Files.by_bytes, NmLists.ListsUpTo}
 use Rattle.tool_options.specs.declared.nm_options.NmOptions.{NmOptions}
-use Rattle.surroundings.specs.{Events.{Event, History, Extends, Opened, opened, stored}, Sources.reading, declared.office.Stored.Stored}
-use Rattle.surroundings.specs.declared.office.Stored.TheVariants.{Kept, NotCreated, Failed}
+use Rattle.host.specs.{Events.{Event, History, Extends, Opened, opened, stored}, Sources.reading, declared.file_system.Stored.Stored}
+use Rattle.host.specs.declared.file_system.Stored.TheVariants.{Kept, NotCreated, Failed}
 use Rattle.v7tools.specs.{LinkRuns.Refuses, declared.fault.CliFault.CliFault}
 use Rattle.v7tools.specs.declared.fault.CliFault.TheVariants as faults
 
@@ -101,7 +101,7 @@ IsListRun contents cut_short text files old new result before after =
 -- a file is stored, or the fault is the reason why it is not
 abbrev pub IsStored : String Global → Stored → Result (Unit {0}) CliFault → Type 0
 IsStored path Kept result = result ≡ Ok tt
-IsStored path NotCreated result = result ≡ Err (faults.CannotCreate path)
+IsStored path (NotCreated _) result = result ≡ Err (faults.CannotCreate path)
 IsStored path (Failed _) result = result ≡ Err (faults.WriteFailed device_fault)
 
 -- a file is to be stored stripped at its own path

@@ -1,4 +1,4 @@
--- What a session does with one line of a script: what it opens, stores and answers, its status, and what it leaves. (own choice)
+-- What a session does with one line of a script: what it opens, stores and answers, its status, and what it leaves.
 --
 -- A line opens at most the file that it names, stores at most the link that it asks for, and has an answer and a status: 0, or 1
 -- if it was refused or its link had something to report.
@@ -11,7 +11,7 @@ use Rattle.link_out.specs.{function.Link.{Outcome, link}, Inputs.{Cause, bad_fil
 use Rattle.v7tools.specs.Answers.{absent, failing, giving, adding, withdrawing, listing_externals, listing_undefined, anything_else, Verdict, done}
 use Rattle.v7tools.specs.{Answers.{refused, Stepped, add_step, input_from, step, link_answer_text, link_status}, LinkAnswers.WantsMemory}
 use Rattle.v7tools.specs.SessionSteps.{IsLinkBy, without_memory}
-use Rattle.surroundings.specs.{Events.Event, Events.opened, Events.stored, Sources.reading, declared.office.Stored.Stored}
+use Rattle.host.specs.{Events.Event, Events.opened, Events.stored, Sources.reading, declared.file_system.Stored.Stored}
 use Rattle.command_words.specs.Scripts.{Asked, to_add, to_withdraw, for_externals, for_undefined, to_link, for_nothing}
 
 -- a line: what it asked for, what it asked of the system, its answer, its status, and the objects that are kept after it

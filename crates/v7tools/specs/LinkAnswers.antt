@@ -1,4 +1,4 @@
--- Which results a link of files may have, by its inputs. (own choice)
+-- Which results a link of files may have, by its inputs.
 --
 -- The inputs are taken one after another, each by its bytes if these are known, and then linked. The link stops at the first that is
 -- refused, or whose device fails, or for which memory runs out. So if all bytes are known the result is the link of these bytes

@@ -8,8 +8,8 @@ use Rattle.std.specs.Prelude.{◌≡◌, ◌⊎◌, ◌↔◌, ℕ, Bool, List, 
 use Rattle.std.specs.Prelude.{string_bytes}
 use Rattle.link_out.specs.{function.Reports.{ReportNames, report_text, status_of}, declared.linked.Linked.Linked, Outcomes.report_names}
 use Rattle.tool_options.specs.Choices.{Choices}
-use Rattle.surroundings.specs.{Events.{Event, History, Extends, Opened, closed, opened, opens, paths_of, stored}, declared.office.Stored.Stored}
-use Rattle.surroundings.specs.declared.office.Stored.TheVariants.{Kept, NotCreated, Failed}
+use Rattle.host.specs.{Events.{Event, History, Extends, Opened, closed, opened, opens, paths_of, stored}, declared.file_system.Stored.Stored}
+use Rattle.host.specs.declared.file_system.Stored.TheVariants.{Kept, NotCreated, Failed}
 use Rattle.v7tools.specs.{LinkAnswers.{Input, IsDeviceFault, IsLinkOf}, declared.fault.CliFault.CliFault}
 use Rattle.v7tools.specs.declared.fault.CliFault.TheVariants as faults
 
@@ -41,7 +41,7 @@ pub record Reports {W : Type 0} (contents : W → Option (List ℕ)) (f : Report
 abbrev pub ReportsIf : {W : Type 0} → (W → Option (List ℕ)) → Stored → String Global → ReportNames → Result ℕ CliFault →
     Latched W → Latched W → Type 0
 ReportsIf contents Kept out f result before after = Reports contents f result before after
-ReportsIf contents NotCreated out f result before after = (result ≡ Err (faults.CannotCreate out)) × (after ≡ before)
+ReportsIf contents (NotCreated _) out f result before after = (result ≡ Err (faults.CannotCreate out)) × (after ≡ before)
 ReportsIf contents (Failed _) out f result before after = (result ≡ Err (faults.WriteFailed device_fault)) × (after ≡ before)
 
 -- nothing goes out

@@ -1,4 +1,4 @@
--- What `load` returns for the file at a path, by what `read_file` returns for its bytes. (own choice)
+-- What `load` returns for the file at a path, by what `read_file` returns for its bytes.
 --
 -- `load` is `read_file` with the path: the path comes back with the file, or is in the fault.
 use Rattle.aout_core.specs.{Refusals.refused, declared.file.ReadFault.ReadFault, Contents.Contents}

@@ -1,4 +1,4 @@
--- What a call of a script returns: what the reader of its lines gives, with the end and the faults of the program. (own choice)
+-- What a call of a script returns: what the reader of its lines gives, with the end and the faults of the program.
 use Rattle.aout_core.specs.Refusals.{refused}
 use Rattle.std.specs.Prelude.{◌≡◌, ℕ, List, Option, Some, None, Result, Ok, Err}
 use Rattle.command_words.specs.{ScriptAnswers.Answer, ScriptAnswers.GivesNext, ScriptAnswers.Progress, declared.lines.Line.Line}

@@ -1,4 +1,4 @@
--- What a session does with the lines of a script, and its status. (own choice)
+-- What a session does with the lines of a script, and its status.
 --
 -- Each line is run on what the line before it left (LineRuns). What a session asks of the system, and what it answers, is that of
 -- its lines, one after another, and its status is the largest of theirs. It ends after the last line, at a fault of the script, or
@@ -8,7 +8,7 @@ use Rattle.std.specs.Prelude.{◌≡◌, ◌⊎◌, ℕ, max, List, [], ◌∷�
 use Rattle.std.specs.{List.flat_map, Io.KnownBytes.Appends}
 use Rattle.link_session.specs.Labelled.{Labelled}
 use Rattle.tool_options.specs.Choices.{Choices}
-use Rattle.surroundings.specs.Events.{Event, History, Extends}
+use Rattle.host.specs.Events.{Event, History, Extends}
 use Rattle.v7tools.specs.{LinkRuns.Refuses, declared.fault.CliFault.CliFault, LineRuns.IsLineOf, LineRuns.LineRun}
 use Rattle.v7tools.specs.declared.fault.CliFault.TheVariants as faults
 use Rattle.command_words.specs.{Scripts.{Asked, Given, ScriptFault, long_line, many_lines, given_after}, ScriptAnswers.NamesPath}

@@ -1,4 +1,4 @@
--- What a step of a session does, as far as its reader's bytes are known and memory is found. (own choice)
+-- What a step of a session does, as far as its reader's bytes are known and memory is found.
 --
 -- A step does what the definition `step` (Answers) gives for the command, by what its path leads to. Two things do not follow from the
 -- command and the session: whether a device failed, and whether there was memory. Here is what each may change, and what goes out.

@@ -19,7 +19,7 @@ use std::fmt::{Display, Formatter};
 use std::io::Write;
 use symtools::ToolFault;
 
-/// Why a command failed. If memory runs out it is `Memory`, whatever was being done. (own choice)
+/// Why a command failed. If memory runs out it is `Memory`, whatever was being done.
 #[derive(Debug, Drop)]
 pub enum CliFault {
     /// 1: the words ask for nothing that there is.
@@ -130,7 +130,7 @@ impl From<LinkFault> for CliFault {
 
 impl CliFault {
     /// Writes the fault's line: `v7: `, the text of the fault, and a newline. It takes no memory. On a fault of the
-    /// device a prefix of the line went out. (own choice)
+    /// device a prefix of the line went out.
     pub fn write<W: Write>(&self, out: &mut Wire<W>) -> Result<(), DeviceFault>
         ensures { Writes W.contents result out.old out.new (fault_line self.now) }
     {

@@ -1,4 +1,5 @@
 //! Runs the tools as commands: their arguments, the files that they open and store, and what they write.
+//! What names no manual page is our own choice.
 //!
 //! ```rust
 //! use v7tools::{CliFault, ld};
@@ -9,7 +10,7 @@
 //!
 //! Types:
 //!
-//! - `Office`, `Stored`: what opens and stores the files of a command, and what became of a file
+//! - `FileSystem`, `Stored`: what opens and stores the files of a command, and what became of a file
 //! - `Outputs`: where a command writes
 //! - `Call`: what the arguments ask for, from `command_words`
 //! - `CliFault`: why a command failed
@@ -19,7 +20,7 @@
 //! Functions:
 //!
 //! - `command`: does what the arguments ask for, with the system's files
-//! - `perform`: the same over any `Office` and any streams
+//! - `perform`: the same over any `FileSystem` and any streams
 //! - `attempt`: the same, and the fault as a value
 //! - `words`, `parse`: the arguments of a program, and what they ask for
 //! - `load`: reads the file at a path
@@ -41,6 +42,7 @@ mod status;
 pub use command_words::{BlockWriter, Call, Line};
 pub use fault::CliFault;
 pub use files::loading::load;
+pub use host::{FileSystem, Outputs, Stored, words};
 pub use link::emitting::emit;
 pub use link::linking::ld;
 pub use parsing::parse;
@@ -49,4 +51,3 @@ pub use session::commands::{Command, Step};
 pub use session::link_answers::link_answer;
 pub use session::script::Script;
 pub use session::steps::step;
-pub use surroundings::{Office, Outputs, Stored, words};

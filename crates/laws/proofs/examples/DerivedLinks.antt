@@ -1,11 +1,13 @@
--- What follows from the laws of linking alone: no link is computed here.
+-- What follows from the laws of linking and of places alone: no link is computed here.
 use Rattle.std.proofs.Common.{◌≡◌, ℕ, zero, suc, true, false, List, [], ◌∷◌, Some, None, refl, sym, ◌∙◌, subst, arith, inl, inr}
 use Rattle.std.proofs.lemmas.Slice.Eq.{bytes_eq-Decides}
-use Rattle.std.specs.Prelude.{Ok, slice_get, bytes_eq}
+use Rattle.std.specs.{Prelude.{Ok, slice_get, bytes_eq}, List.AllByRecursion}
 use Rattle.aout_core.specs.{declared.symbol.Symbol.Symbol, declared.symbol.Segment.Segment, declared.symbol.Segment.TheVariants.TextSeg}
 use Rattle.aout_core.specs.{declared.symbol.Segment.TheVariants.DataSeg, declared.reloc.Reloc.Reloc, Contents.Contents}
-use Rattle.link_session.specs.{declared.state.State.TheVariants.{Defined, Wanted}, Mentions.Mention}
+use Rattle.link_session.specs.{declared.state.State.TheVariants.{Defined, Wanted}, Mentions.Mention, Sessions.IsObject}
 use Rattle.link_out.specs.{ReservedNames.{etext, edata, end_name}, Results.Outcome, function.Link.link}
+use Rattle.origins.specs.Fits.{IsPlace}
+use Rattle.laws.specs.Origins.{EachIsFound}
 use Rattle.laws.specs.{relation.NameStates.{IsFirst, IsWanted}, relation.Relocated.IsRelocated, relation.LinkedWords.AreRelocated}
 use Rattle.laws.specs.{relation.Reported.IsReported, relation.LinkedFrom.{IsLinkedFrom, LinkedExactly}}
 use Rattle.laws.proofs.examples.Samples.{sym as entry_of, header, _f, L1, c_o, d_o, plain}
@@ -130,8 +132,24 @@ forward_linked = record {
   report = reported;
 }
 
-linking_says : LinkedExactly → link [] os plain ≡ Ok forward
-linking_says exactly = (exactly [] os plain forward (
+are_objects : AllByRecursion IsObject os
+are_objects = (
   as_object c_o refl refl refl refl refl refl refl refl,
   (as_object d_o refl refl refl refl refl refl refl refl, tt),
-)).1 forward_linked
+)
+
+linking_says : LinkedExactly → link [] os plain ≡ Ok forward
+linking_says exactly = (exactly [] os plain forward are_objects).1 forward_linked
+
+-- the second object is in the file at 4, and is not at 0
+
+origin_says : EachIsFound → IsPlace forward.file d_o 4
+origin_says found = found [] os plain forward are_objects forward_linked (c_o ∷ []) d_o [] refl
+
+same_word : (v w : ℕ) → Some v ≡ Some w → v ≡ w
+same_word v w e = cc
+
+not_at_0 : IsPlace forward.file d_o 0 → ⊥
+not_at_0 is =
+    let word = same_word 0o4767 0o240 (is.3.2.1.text_words 0 0o240 (record { 0 = 0 }) refl refl) in
+    absurd (omega (arith, word))

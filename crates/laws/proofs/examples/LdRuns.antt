@@ -15,7 +15,7 @@ use Rattle.link_out.specs.{function.Link.link, function.Reports.report_text, fun
 use Rattle.link_out.specs.Inputs.{Cause, Refusal, at_path, kept_with, linked, not_linked, object_in, with_inputs}
 use Rattle.tool_options.specs.Choices.{Choices}
 use Rattle.v7tools.specs.{CommandRuns.{AsksFor, Ends}, LinkAnswers.{TakesAll, known_inputs}, LinkRuns.{IsLinkRun, inputs_opened}}
-use Rattle.surroundings.specs.{Events.{Event, Opened, opens, paths_of, stored}, declared.office.Stored.TheVariants.Kept}
+use Rattle.host.specs.{Events.{Event, Opened, opens, paths_of, stored}, declared.file_system.Stored.TheVariants.Kept}
 use Rattle.laws.specs.{Calls.AsksToLink, Calls.DoesPerform, Disks.Disk, Disks.IsOn, Disks.Run, SessionsByCommands.RunsLd}
 use Rattle.laws.proofs.{BuildRuns.known, examples.Samples.plain, examples.LawExamples.below}
 

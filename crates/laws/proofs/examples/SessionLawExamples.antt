@@ -10,7 +10,7 @@ use Rattle.command_words.specs.{declared.words.Call.TheVariants.Session, Scripts
 use Rattle.link_session.specs.{Labelled.Labelled}
 use Rattle.tool_options.specs.Choices.{Choices}
 use Rattle.link_out.specs.{declared.linked.Linked.Linked, Outcomes.outcome_of as result_of, function.Reports.line, Inputs.with_input}
-use Rattle.surroundings.specs.{Events.{Event, Opened, closed, opened, opens, stored}, declared.office.Stored.TheVariants.Kept}
+use Rattle.host.specs.{Events.{Event, Opened, closed, opened, opens, stored}, declared.file_system.Stored.TheVariants.Kept}
 use Rattle.v7tools.specs.declared.fault.CliFault.{CliFault}
 use Rattle.v7tools.specs.declared.fault.CliFault.TheVariants as faults
 use Rattle.link_out.specs.declared.linked.LinkFault.TheVariants as links

@@ -1,4 +1,4 @@
--- When a link is refused, and for what, by the objects, the forced names and the options alone. (own choice)
+-- When a link is refused, and for what, by the objects, the forced names and the options alone.
 --
 -- An address has 16 bits, and so has the end of bss, which is at most 65,535. A header has 16 bits for the bytes of the
 -- table, which are 12 for a symbol, so a table has at most 5,461 symbols. A relocation word has 12 bits for the number of a

@@ -134,18 +134,6 @@ kept_alone forced os name segment offset e =
     ∙ proper_start segment offset (subst IsProper e (state_is_proper [] os name))
     ∙ ap (λ (n : ℕ). Defined segment n) (sym (start_after [] segment offset))
 
--- alone the link of a partial link is that of its objects but for the multiples reported
-pub alone_alike : (own forced : List (List ℕ)) → IsPart own forced → (os : List Contents) (keep : Keep)
-    (entry : Option (List ℕ)) (o : Choices) → AllByRecursion IsWellFormed os → keep ≢ Nothing → KeepsNoMore o.keep keep →
-    link forced (partial_file own os keep entry ∷ []) o
-    ≡ with_multiples (multiple_names (mentions forced (partial_file own os keep entry ∷ []))) (link forced os o)
-alone_alike own forced part os keep entry o good table less =
-    let has : HasTable own os keep entry = has_table own os keep entry table in
-    link_alike own forced part [] os [] keep entry has tt good tt
-    (kept_holds own forced part [] os [] keep entry has (kept_alone forced os)) o less
-    ∙ ap (λ (xs : List Contents). with_multiples (multiple_names (mentions forced (partial_file own os keep entry ∷ [])))
-    (link forced xs o)) (append-nil os)
-
 -- alone a partial link stands for its objects
 pub always_replaces : (own forced : List (List ℕ)) (os : List Contents) (by o : Choices) (x : Outcome) → AllByRecursion IsWellFormed os →
     IsPartialLink own os by x → KeepsNoMore o.keep by.keep → IsPart own forced →

@@ -1,27 +1,18 @@
 -- The file of a link with relocation is an object, and stands for its objects under the forced names that it was linked with.
-use Rattle.std.proofs.Common.{◌≡◌, ℕ, true, List, [], ◌∷◌, ◌++◌, None, subst, rules}
+use Rattle.std.proofs.Common.{◌≡◌, ℕ, true, List, [], ◌∷◌, ◌++◌, None, rules}
 use Rattle.std.specs.{Prelude.Ok, List.AllByRecursion}
-use Rattle.aout_core.specs.{Contents.Contents, Contents.Fits, WellFormed.IsWellFormed}
-use Rattle.link_session.specs.{Sessions.IsObject, Mentions.mentions, States.multiple_names}
+use Rattle.aout_core.specs.{Contents.Contents, WellFormed.IsWellFormed}
+use Rattle.link_session.specs.{Mentions.mentions, States.multiple_names}
 use Rattle.tool_options.specs.{Choices.Choices, Choices.option_fault}
-use Rattle.link_session.proofs.ListLemmas.{all_map}
 use Rattle.link_out.specs.laws.PartialLinks.{KeepsNoMore, IsPartialLink, without_multiples}
 use Rattle.link_out.specs.{function.Plans.plan, function.Link.Outcome, function.Link.link}
-use Rattle.link_out.proofs.{OutcomeLemmas.made_file, FitLemmas.linked_fits, ObjectLemmas.linked_object}
+use Rattle.link_out.proofs.{OutcomeLemmas.made_file, ObjectLemmas.linked_object}
 use Rattle.link_out.proofs.{partial_links.PartialAmong.always_replaces, partial_links.PartialMultiples.replaces_among_others}
 
 -- the file of a link with relocation, with or without laid commons, is an object
 pub relocatable_is_object : (forced : List (List ℕ)) (os : List Contents) (o : Choices) (x : Outcome) → AllByRecursion IsWellFormed os →
     option_fault o.layout o.relocatable o.keep ≡ None → o.relocatable ≡ true → link forced os o ≡ Ok x → IsWellFormed x.file
 relocatable_is_object forced os o x good allowed r linked = cc (made_file (plan forced os o) os x linked, linked_object forced os o allowed r good)
-
--- it may be added to a session
-pub may_be_added : (forced : List (List ℕ)) (os : List Contents) (o : Choices) (x : Outcome) → AllByRecursion IsObject os →
-    option_fault o.layout o.relocatable o.keep ≡ None → o.relocatable ≡ true → link forced os o ≡ Ok x → IsObject x.file
-may_be_added forced os o x good allowed r linked = record {
-  fits = subst (λ (f : Contents). Fits f) (made_file (plan forced os o) os x linked) (linked_fits (plan forced os o) os good);
-  well = relocatable_is_object forced os o x (all_map IsObject IsWellFormed (λ k h. h.well) os good) allowed r linked;
-}
 
 -- alone: the same file or the same refusal, and reports that differ at most in the multiples
 pub partial_replaces_alone : (forced : List (List ℕ)) (os : List Contents) (by o : Choices) (x : Outcome) →

@@ -1,6 +1,6 @@
 //! Pages of help.
 use super::reasons::{Cause, Reason, Tool};
-use surroundings::Shown;
+use host::Shown;
 
 const ALL: &str = "usage: v7 COMMAND [ARGUMENT]...
 

@@ -1,7 +1,7 @@
 -- What the arguments ask for, as the code has it.
 use Rattle.std.specs.Prelude.{ℕ, Bool, false, bytes_eq, codes, List, [], ◌∷◌, map, Option, Some, None, Result, Ok, Err, string_bytes}
 use Rattle.aout_core.specs.Words.{letter_of}
-use Rattle.surroundings.specs.{declared.reasons.Reason.Reason, declared.reasons.Reason.TheVariants.NoValue}
+use Rattle.host.specs.{declared.reasons.Reason.Reason, declared.reasons.Reason.TheVariants.NoValue}
 use Rattle.v7_explain.specs.{declared.arguments.Call.TheVariants.{Explain, Walk, Store, Ask}, declared.arguments.Call.Call as Code}
 use Rattle.v7_explain.specs.Calls.{Call, ask, explain, store, walk}
 

@@ -3,7 +3,7 @@ use Rattle.std.specs.{declared.alloc.Global.Global, Prelude.{◌≢◌, List, Re
 use Rattle.aout_core.specs.Refusals.{refused}
 use Rattle.gnu_objects.specs.declared.refusal.Refusal.{Refusal}
 use Rattle.gnu_objects.specs.declared.refusal.Refusal.TheVariants as refusals
-use Rattle.surroundings.specs.{Answers.Ends, declared.answer.Fault.Fault, declared.answer.Fault.TheVariants.Answered, declared.answer.Fault.TheVariants.Memory}
+use Rattle.host.specs.{Answers.Ends, declared.answer.Fault.Fault, declared.answer.Fault.TheVariants.Answered, declared.answer.Fault.TheVariants.Memory}
 
 abbrev pub listed : {A E : Type 0} → Result (Vec A Global) E → Result (List A) E
 listed (Ok v) = Ok v.items

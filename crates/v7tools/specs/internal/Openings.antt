@@ -2,7 +2,7 @@
 use Rattle.std.specs.Prelude.{◌≡◌, ℕ, false, List, [], map, Option, Result, Ok, Err, String, string_bytes, Vec}
 use Rattle.std.specs.{declared.alloc.Global.Global, List.AllByRecursion}
 use Rattle.aout_core.specs.Wires.{Latched}
-use Rattle.surroundings.specs.Events.{History, Extends, Opened, opens}
+use Rattle.host.specs.Events.{History, Extends, Opened, opens}
 use Rattle.v7tools.specs.{declared.fault.CliFault.CliFault, LinkRuns.StopsAt, FileRuns.Loaded, FileRuns.ReadsAll, FileRuns.ReadsNotAll}
 use Rattle.v7tools.specs.declared.fault.CliFault.TheVariants as faults
 

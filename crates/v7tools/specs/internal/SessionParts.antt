@@ -9,7 +9,7 @@ use Rattle.v7tools.specs.{Answers.{Stepped, absent, adding, step}, SessionSteps.
 use Rattle.v7tools.specs.{declared.fault.CliFault.CliFault, LineRuns.{IsAddOf, IsLineOf, LineRun, status_after}}
 use Rattle.v7tools.specs.declared.session.commands.Step.{Step}
 use Rattle.v7tools.specs.declared.fault.CliFault.TheVariants as faults
-use Rattle.surroundings.specs.{Events.{Event, History, Extends, opened}, Sources.reading}
+use Rattle.host.specs.{Events.{Event, History, Extends, opened}, Sources.reading}
 use Rattle.command_words.specs.{declared.lines.Line.Line, Scripts.Asked}
 use Rattle.command_words.specs.declared.lines.Line.TheVariants as lines
 

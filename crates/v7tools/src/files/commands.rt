@@ -1,4 +1,4 @@
-//! The commands nm, size and strip, over any `Office`.
+//! The commands nm, size and strip, over any `FileSystem`.
 ghost use Rattle.aout_core.specs.Wires.{IsPassedOn};
 ghost use Rattle.symtools.specs.{Files.by_bytes, NmLists.nm_text, SizeLines.size_text};
 ghost use Rattle.v7tools.specs.FileRuns.{IsStored, IsListRun, IsLoadAt, IsStripping, IsStripRun, Lists, OnlyWriteFailed, OrMemory};
@@ -8,40 +8,40 @@ use crate::fault::CliFault;
 use crate::files::loading::load;
 use crate::status::Status;
 use aout_core::{BufferedWrite, File, Wire, strip_file};
+use host::{FileSystem, Stored};
 use std::alloc::Global;
-use surroundings::{Office, Stored};
 use symtools::{NmOptions, nm, size};
 
 /// Opens, reads and closes the file at a path.
-fn load_at<O: Office>(
+fn load_at<O: FileSystem>(
     alloc: Global,
-    office: &mut O,
+    file_system: &mut O,
     path: String,
 ) -> Result<(String, File), CliFault>
-    ensures { IsLoadAt (O.history office.old) (O.history office.new) path result }
+    ensures { IsLoadAt (O.history file_system.old) (O.history file_system.new) path result }
 {
-    match office.open(path.as_str()) {
-        Some(source) => {
+    match file_system.open(path.as_str()) {
+        Ok(source) => {
             let mut wire = Wire::new(source);
             let loaded = load(alloc, path, &mut wire);
-            office.close(wire);
+            file_system.close(wire);
             loaded
         }
-        None => Err(CliFault::CannotOpen(path)),
+        Err(_) => Err(CliFault::CannotOpen(path)),
     }
 }
 
 /// Opens, reads and closes the files in order, each before the next one is opened.
-fn load_all<O: Office>(
+fn load_all<O: FileSystem>(
     alloc: Global,
-    office: &mut O,
+    file_system: &mut O,
     files: Vec<String>,
 ) -> Result<Vec<(String, File)>, CliFault>
-    ensures { IsLoading (O.history office.old) (O.history office.new) files.items result }
+    ensures { IsLoading (O.history file_system.old) (O.history file_system.new) files.items result }
 {
     let mut loaded = Vec::with_capacity(alloc, files.len())?;
     for path in files {
-        let file = load_at(alloc, office, path)?;
+        let file = load_at(alloc, file_system, path)?;
         loaded.push(file).unwrap();
     }
     Ok(loaded)
@@ -78,33 +78,33 @@ fn put_sizes<W: BufferedWrite>(
 }
 
 /// Lists the symbols of the files.
-pub(crate) fn list_files<O: Office, W: BufferedWrite>(
+pub(crate) fn list_files<O: FileSystem, W: BufferedWrite>(
     alloc: Global,
-    office: &mut O,
+    file_system: &mut O,
     options: NmOptions,
     files: Vec<String>,
     output: &mut Wire<W>,
 ) -> Result<Status, CliFault>
     ensures run { IsListRun W.contents (OrMemory options) (nm_text options) files.items
-        (O.history office.old) (O.history office.new) result output.old output.new }
+        (O.history file_system.old) (O.history file_system.new) result output.old output.new }
     ensures passed { IsPassedOn W.waiting output.old → IsPassedOn W.waiting output.new }
 {
-    let loaded = load_all(alloc, office, files)?;
+    let loaded = load_all(alloc, file_system, files)?;
     put_names(alloc, options, &loaded, output)
 }
 
 /// Lists the sizes of the files.
-pub(crate) fn size_files<O: Office, W: BufferedWrite>(
+pub(crate) fn size_files<O: FileSystem, W: BufferedWrite>(
     alloc: Global,
-    office: &mut O,
+    file_system: &mut O,
     files: Vec<String>,
     output: &mut Wire<W>,
 ) -> Result<Status, CliFault>
     ensures run { IsListRun W.contents OnlyWriteFailed size_text files.items
-        (O.history office.old) (O.history office.new) result output.old output.new }
+        (O.history file_system.old) (O.history file_system.new) result output.old output.new }
     ensures passed { IsPassedOn W.waiting output.old → IsPassedOn W.waiting output.new }
 {
-    let loaded = load_all(alloc, office, files)?;
+    let loaded = load_all(alloc, file_system, files)?;
     put_sizes(&loaded, output)
 }
 
@@ -113,33 +113,33 @@ fn check_stored(path: String, stored: Stored) -> Result<(), CliFault>
 {
     match stored {
         Stored::Kept => Ok(()),
-        Stored::NotCreated => Err(CliFault::CannotCreate(path)),
+        Stored::NotCreated(_) => Err(CliFault::CannotCreate(path)),
         Stored::Failed(fault) => Err(CliFault::WriteFailed(fault)),
     }
 }
 
 /// Stores each file stripped at its own path, in order; a fault leaves those after it as they were.
-fn store_stripped<O: Office>(
-    office: &mut O,
+fn store_stripped<O: FileSystem>(
+    file_system: &mut O,
     loaded: Vec<(String, File)>,
 ) -> Result<Status, CliFault>
-    ensures { IsStripping (O.history office.old) (O.history office.new) loaded.items result }
+    ensures { IsStripping (O.history file_system.old) (O.history file_system.new) loaded.items result }
 {
     for (path, file) in loaded {
-        let stored = office.store(path.as_str(), &strip_file(file));
+        let stored = file_system.store(path.as_str(), &strip_file(file));
         check_stored(path, stored)?;
     }
     Ok(Status::new(0))
 }
 
 /// Strips the files in their places, once all of them are read.
-pub(crate) fn strip_files<O: Office>(
+pub(crate) fn strip_files<O: FileSystem>(
     alloc: Global,
-    office: &mut O,
+    file_system: &mut O,
     files: Vec<String>,
 ) -> Result<Status, CliFault>
-    ensures { IsStripRun (O.history office.old) (O.history office.new) files.items result }
+    ensures { IsStripRun (O.history file_system.old) (O.history file_system.new) files.items result }
 {
-    let loaded = load_all(alloc, office, files)?;
-    store_stripped(office, loaded)
+    let loaded = load_all(alloc, file_system, files)?;
+    store_stripped(file_system, loaded)
 }

@@ -8,7 +8,7 @@ use aout_core::{File, ReadFault, Wire, read_file};
 use std::alloc::Global;
 use std::io::Read;
 
-/// Reads the file at a path, as `read_file` does, and gives the path back with it. (own choice)
+/// Reads the file at a path, as `read_file` does, and gives the path back with it.
 ///
 /// Errors: `BadFile`, 3, with the path and the fault of the reader; `Memory`, 9, if memory runs out.
 pub fn load<R: Read>(

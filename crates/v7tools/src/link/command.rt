@@ -1,33 +1,33 @@
-//! The command ld, over any `Office`.
+//! The command ld, over any `FileSystem`.
 ghost use Rattle.std.specs.Prelude.{map, string_bytes};
 ghost use Rattle.aout_core.specs.Wires.{IsPassedOn};
 ghost use Rattle.link_out.specs.Outcomes.{report_names};
 ghost use Rattle.v7tools.specs.{LinkRuns.{IsLinkRun, Reports, ReportsIf, closings}, internal.{InputParts.stopped_at, Openings.IsOpening}};
-ghost use Rattle.surroundings.specs.Events.{Extends};
+ghost use Rattle.host.specs.Events.{Extends};
 
 use crate::fault::CliFault;
 use crate::link::linking::ld_of_session;
 use crate::setting::Setting;
 use crate::status::Status;
 use aout_core::{BufferedWrite, Wire};
+use host::{FileSystem, Stored};
 use link_out::Report;
 use link_session::Forced;
 use std::alloc::Global;
 use std::mem::forget;
-use surroundings::{Office, Stored};
 
 /// Opens the files in order, all before any is read.
-fn open_all<O: Office>(
+fn open_all<O: FileSystem>(
     alloc: Global,
-    office: &mut O,
+    file_system: &mut O,
     files: Vec<String>,
 ) -> Result<Vec<(String, Wire<O::Source>)>, CliFault>
     ensures { IsOpening O.Source.remaining
-        (O.history office.old) (O.history office.new) files.items result }
+        (O.history file_system.old) (O.history file_system.new) files.items result }
 {
     let mut inputs = Vec::with_capacity(alloc, files.len())?;
     for path in files {
-        let Some(source) = office.open(path.as_str()) else {
+        let Ok(source) = file_system.open(path.as_str()) else {
             return Err(CliFault::CannotOpen(path));
         };
         inputs.push((path, Wire::new(source))).unwrap();
@@ -36,11 +36,11 @@ fn open_all<O: Office>(
 }
 
 /// Closes the file at which a link stopped, if it did at one.
-fn close_stopped<O: Office>(office: &mut O, stopped: Option<Wire<O::Source>>)
-    ensures { Extends (O.history office.old) (O.history office.new) (closings (stopped_at stopped)) }
+fn close_stopped<O: FileSystem>(file_system: &mut O, stopped: Option<Wire<O::Source>>)
+    ensures { Extends (O.history file_system.old) (O.history file_system.new) (closings (stopped_at stopped)) }
 {
     if let Some(wire) = stopped {
-        office.close(wire);
+        file_system.close(wire);
     }
 }
 
@@ -67,15 +67,15 @@ fn report_stored<W: BufferedWrite>(
 {
     match stored {
         Stored::Kept => put_report(report, output),
-        Stored::NotCreated => Err(CliFault::CannotCreate(out)),
+        Stored::NotCreated(_) => Err(CliFault::CannotCreate(out)),
         Stored::Failed(fault) => Err(CliFault::WriteFailed(fault)),
     }
 }
 
 /// Links files, after the forced names, into the file at `out`, and writes the report to `output`.
-pub(crate) fn link_files<O: Office, W: BufferedWrite>(
+pub(crate) fn link_files<O: FileSystem, W: BufferedWrite>(
     setting: &Setting<'_>,
-    office: &mut O,
+    file_system: &mut O,
     forced: &Forced,
     files: Vec<String>,
     out: String,
@@ -83,19 +83,19 @@ pub(crate) fn link_files<O: Office, W: BufferedWrite>(
 ) -> Result<Status, CliFault>
     ensures run { IsLinkRun W.contents forced.now setting.now.options.now out
         (map string_bytes files.items)
-        (O.history office.old) (O.history office.new) result output.old output.new }
+        (O.history file_system.old) (O.history file_system.new) result output.old output.new }
     ensures passed { IsPassedOn W.waiting output.old → IsPassedOn W.waiting output.new }
 {
-    let inputs = open_all(setting.alloc, office, files)?;
+    let inputs = open_all(setting.alloc, file_system, files)?;
     let (linked, session) = match ld_of_session(setting.alloc, inputs, forced, setting.options) {
         Ok(made) => made,
         Err((fault, stopped)) => {
-            close_stopped(office, stopped);
+            close_stopped(file_system, stopped);
             return Err(fault);
         }
     };
     // the program ends soon, and the system takes all memory back at once
     forget(session);
-    let stored = office.store(out.as_str(), &linked.file);
+    let stored = file_system.store(out.as_str(), &linked.file);
     report_stored(&linked.report, out, stored, output)
 }

@@ -1,4 +1,4 @@
-//! The session as a command, over any `Office`: each line of a script is answered before the next one is asked for.
+//! The session as a command, over any `FileSystem`: each line of a script is answered before the next one is asked for.
 ghost use Rattle.std.specs.Prelude.{◌≡◌, ◌↔◌, Err, IfErr, IsTrue, string_bytes};
 ghost use Rattle.aout_core.specs.{Refusals.device_fault, Wires.IsPassedOn};
 ghost use Rattle.link_session.specs.Sessions.{nothing_kept};
@@ -16,9 +16,9 @@ use crate::setting::Setting;
 use crate::status::Status;
 use aout_core::{BufferedWrite, Wire};
 use command_words::Line;
+use host::FileSystem;
 use link_session::{Forced, Session};
 use std::io::{Read, Write};
-use surroundings::Office;
 
 /// What a line asks a step to do. A line that opens or stores a file is answered by `add_at` or `answer_link`.
 fn command_of<R>(line: Line) -> Command<R>
@@ -35,9 +35,9 @@ fn command_of<R>(line: Line) -> Command<R>
 }
 
 /// Adds the file at a path, which is opened before and closed after that, and answers with its label.
-fn add_at<O: Office, W: Write>(
+fn add_at<O: FileSystem, W: Write>(
     setting: &Setting<'_>,
-    office: &mut O,
+    file_system: &mut O,
     session: &mut Session,
     path: String,
     answers: &mut Wire<W>,
@@ -45,15 +45,15 @@ fn add_at<O: Office, W: Write>(
     ensures write_failed { IfErr result (λ fault. fault ≡ WriteFailed device_fault) }
     ensures latched { IsTrue answers.old.has_failed → (answers.new ≡ answers.old) }
     ensures step { TakesAddition W.contents setting.now.options.now (string_bytes path)
-        (O.history office.old) (O.history office.new) session.old session.new
+        (O.history file_system.old) (O.history file_system.new) session.old session.new
         result answers.old answers.new }
 {
-    let Some(source) = office.open(path.as_str()) else {
+    let Ok(source) = file_system.open(path.as_str()) else {
         return refuse(&CliFault::CannotOpen(path), answers);
     };
     let mut wire = Wire::new(source);
     let taken = add(setting.alloc, session, path, &mut wire, answers);
-    office.close(wire);
+    file_system.close(wire);
     taken
 }
 
@@ -68,9 +68,9 @@ fn status_of(step: Step) -> Status
 }
 
 /// Links what the session keeps, stores the file at a path and answers.
-fn answer_link<O: Office, W: Write>(
+fn answer_link<O: FileSystem, W: Write>(
     setting: &Setting<'_>,
-    office: &mut O,
+    file_system: &mut O,
     session: &Session,
     path: &str,
     answers: &mut Wire<W>,
@@ -78,11 +78,11 @@ fn answer_link<O: Office, W: Write>(
     ensures latched { IsTrue answers.old.has_failed → (answers.new ≡ answers.old) }
     ensures run { AnswersLine W.contents setting.now.options.now
         (to_link path.now) session.now session.now
-        (O.history office.old) (O.history office.new) result answers.old answers.new }
+        (O.history file_system.old) (O.history file_system.new) result answers.old answers.new }
 {
     match make_link(setting.alloc, session, setting.options, answers)? {
         Some(linked) => {
-            let stored = office.store(path, &linked.file);
+            let stored = file_system.store(path, &linked.file);
             let status = link_answer(&linked, path, stored, answers)?;
             Ok(Status::new(status))
         }
@@ -102,9 +102,9 @@ fn pass_on<W: BufferedWrite>(status: Status, answers: &mut Wire<W>) -> Result<St
 
 /// Does what a line asks for, answers it and passes the answer on. It returns the status of that: 0, or 1 if it was refused
 /// or its link had something to report.
-fn answer_line<O: Office, W: BufferedWrite>(
+fn answer_line<O: FileSystem, W: BufferedWrite>(
     setting: &Setting<'_>,
-    office: &mut O,
+    file_system: &mut O,
     session: &mut Session,
     line: Line,
     answers: &mut Wire<W>,
@@ -112,16 +112,16 @@ fn answer_line<O: Office, W: BufferedWrite>(
     ensures latched { IsTrue answers.old.has_failed → (answers.new ≡ answers.old) }
     ensures run { AnswersLine W.contents setting.now.options.now
         (asked_by line) session.old session.new
-        (O.history office.old) (O.history office.new) result answers.old answers.new }
+        (O.history file_system.old) (O.history file_system.new) result answers.old answers.new }
     ensures passed { IsPassedOn W.waiting answers.new }
 {
     match line {
         Line::Link(path) => {
-            let status = answer_link(setting, office, session, path.as_str(), answers)?;
+            let status = answer_link(setting, file_system, session, path.as_str(), answers)?;
             pass_on(status, answers)
         }
         Line::Add(path) => {
-            let taken = add_at(setting, office, session, path, answers)?;
+            let taken = add_at(setting, file_system, session, path, answers)?;
             pass_on(status_of(taken), answers)
         }
         other => {
@@ -133,9 +133,9 @@ fn answer_line<O: Office, W: BufferedWrite>(
 }
 
 /// Answers the lines of a script of which none was read, one after another.
-fn answer_lines<O: Office, R: Read + Drop, W: BufferedWrite>(
+fn answer_lines<O: FileSystem, R: Read + Drop, W: BufferedWrite>(
     setting: &Setting<'_>,
-    office: &mut O,
+    file_system: &mut O,
     session: &mut Session,
     script: &mut Script<R>,
     answers: &mut Wire<W>,
@@ -145,7 +145,7 @@ fn answer_lines<O: Office, R: Read + Drop, W: BufferedWrite>(
     ensures failed { (result ≡ Err ScriptFailed) ↔ IsTrue script.new.wire.has_failed }
     ensures run { IsSessionRun W.contents session.old.forced setting.now.options.now
         (R.remaining script.old.wire.device)
-        (O.history office.old) (O.history office.new) result answers.old answers.new }
+        (O.history file_system.old) (O.history file_system.new) result answers.old answers.new }
     ensures passed { IsPassedOn W.waiting answers.old → IsPassedOn W.waiting answers.new }
 {
     let mut status = Status::new(0);
@@ -154,25 +154,25 @@ fn answer_lines<O: Office, R: Read + Drop, W: BufferedWrite>(
         let Some(line) = script.next_line()? else {
             return Ok(status);
         };
-        let answered = answer_line(setting, office, session, line, answers)?;
+        let answered = answer_line(setting, file_system, session, line, answers)?;
         status = status.max(answered);
     }
     unreachable!()
 }
 
 /// Answers the script that a reader gives, on a new session with these forced names.
-pub(crate) fn answer_script<O: Office, R: Read + Drop, W: BufferedWrite>(
+pub(crate) fn answer_script<O: FileSystem, R: Read + Drop, W: BufferedWrite>(
     setting: &Setting<'_>,
-    office: &mut O,
+    file_system: &mut O,
     forced: &Forced,
     reader: R,
     answers: &mut Wire<W>,
 ) -> Result<Status, CliFault>
     ensures run { IsSessionRun W.contents forced.now setting.now.options.now (R.remaining reader)
-        (O.history office.old) (O.history office.new) result answers.old answers.new }
+        (O.history file_system.old) (O.history file_system.new) result answers.old answers.new }
     ensures passed { IsPassedOn W.waiting answers.old → IsPassedOn W.waiting answers.new }
 {
     let mut session = Session::with_forced(setting.alloc, forced)?;
     let mut script = Script::new(setting.alloc, Wire::new(reader))?;
-    answer_lines(setting, office, &mut session, &mut script, answers)
+    answer_lines(setting, file_system, &mut session, &mut script, answers)
 }

@@ -2,7 +2,7 @@
 use aout_core::Wire;
 use link_out::Linked;
 
-/// What a step is asked to do: a line of a script, with the file at its path opened. (own choice)
+/// What a step is asked to do: a line of a script, with the file at its path opened.
 #[derive(Drop)]
 pub enum Command<R> {
     /// Adds the object at this path. An absent wire is a file that can't be opened.
@@ -19,7 +19,7 @@ pub enum Command<R> {
     Bad,
 }
 
-/// What a step did. (own choice)
+/// What a step did.
 #[derive(Debug, Drop)]
 pub enum Step {
     /// What was asked for; the answer is written.

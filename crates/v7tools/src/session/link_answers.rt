@@ -8,10 +8,10 @@ ghost use Rattle.v7tools.specs.FaultTexts.{at_file};
 use crate::fault::CliFault;
 use crate::fault::wording::says_of;
 use aout_core::{DeviceFault, Wire};
+use host::Stored;
 use itoa::Buffer;
 use link_out::Linked;
 use std::io::Write;
-use surroundings::Stored;
 
 /// Writes a path, what is said of it, and a newline.
 fn put_path_line<W: Write>(path: &str, text: &str, answers: &mut Wire<W>) -> Result<(), DeviceFault>
@@ -57,14 +57,14 @@ fn put_link_answer<W: Write>(
             linked.report.write(answers)?;
             put_linked_line(path, linked.report.status(), answers)
         }
-        Stored::NotCreated => put_path_line(path, "cannot create", answers),
+        Stored::NotCreated(_) => put_path_line(path, "cannot create", answers),
         Stored::Failed(_) => put_path_line(path, "write error", answers),
     }
 }
 
 /// Writes the answer to a link, once it is known what became of its file: the report and `linked PATH STATUS`, or
 /// `PATH: cannot create`, or `PATH: write error`. It returns the status of the link: the report's, or 1 if the
-/// file is not stored. It takes no memory. (own choice)
+/// file is not stored. It takes no memory.
 ///
 /// Errors: `WriteFailed`, 8, if the wire failed, now or before: a prefix of the answer then went out.
 pub fn link_answer<W: Write>(
@@ -82,6 +82,6 @@ pub fn link_answer<W: Write>(
     put_link_answer(linked, path, stored, answers)?;
     Ok(match stored {
         Stored::Kept => linked.report.status(),
-        Stored::NotCreated | Stored::Failed(_) => 1,
+        Stored::NotCreated(_) | Stored::Failed(_) => 1,
     })
 }

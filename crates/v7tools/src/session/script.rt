@@ -25,7 +25,7 @@ fn returned(answer: Result<Line, Stop>) -> Result<Option<Line>, CliFault>
     }
 }
 
-/// A script, read in blocks and given line by line. (own choice)
+/// A script, read in blocks and given line by line.
 #[derive(Drop)]
 pub struct Script<R> {
     lines: LineReader<R>,
@@ -40,7 +40,7 @@ impl<R> Model for Script<R> {
 }
 
 impl<R: Read + Drop> Script<R> {
-    /// A script of which no line was read. It requests memory for a line. (own choice)
+    /// A script of which no line was read. It requests memory for a line.
     ///
     /// Errors: `Memory`, 9, if memory runs out for a line.
     pub fn new(alloc: Global, wire: Wire<R>) -> Result<Script<R>, CliFault>
@@ -54,7 +54,7 @@ impl<R: Read + Drop> Script<R> {
     /// The next line, or `None` at the end and at every later call. A line ends at a newline; a last one without it
     /// counts if it is not empty, and the reader is not asked again after it. The reader is asked for a block, one
     /// read at a time, only while what the script holds does not settle the result: no whole line, at most 4,096 bytes
-    /// of one, and no byte after the last line that it may give. What a read gives is used at once. (own choice)
+    /// of one, and no byte after the last line that it may give. What a read gives is used at once.
     ///
     /// Errors: `LongLine`, 11, for more than 4,096 bytes before a newline; `ManyLines`, 12, if there is anything
     /// after 1,000,000 lines; `ScriptFailed`, 13, if the device failed; `Memory`, 9, if memory runs out for a

@@ -120,7 +120,7 @@ pub(crate) fn make_link<W: Write>(
     }
 }
 
-/// Does what a command asks for, and writes the answer (own choice). This is `added PATH` or the text of the fault,
+/// Does what a command asks for, and writes the answer. This is `added PATH` or the text of the fault,
 /// `withdrew LABEL` or `nothing to withdraw`, the nm lines of the externals, the undefined names, the text of the fault
 /// that refuses a link, or `bad command`.
 ///

@@ -1,7 +1,7 @@
 use Rattle.std.proofs.Common.{◌≡◌, ◌⊎◌, ℕ, List, Option, Result, Ok, Err, sym, subst, ◌∙◌, refl}
 use Rattle.std.specs.Prelude.{IfErr, IfOk}
 use Rattle.aout_core.specs.Wires.{Latched}
-use Rattle.surroundings.specs.Events.{History}
+use Rattle.host.specs.Events.{History}
 use Rattle.v7tools.specs.{CommandRuns.RunsWords, declared.fault.CliFault.CliFault, declared.fault.CliFault.TheVariants.Usage}
 use Rattle.v7.proofs.terminal.attempt_at_terminal.Goals.{then-is_typed, else-is_typed}
 use Rattle.v7.proofs.terminal.attempt_at_terminal.Goals as goal
@@ -24,17 +24,17 @@ module _ {W : Type 0} (contents : W → Option (List ℕ)) (words : List (List �
 pub returns-in-Ok-clause-run : goal.returns-in-Ok-clause-run
 returns-in-Ok-clause-run g c =
     elim c.if-is_typed.branch [
-      | then-is_typed w ↦ rw (w.office-is, w.output-is)
+      | then-is_typed w ↦ rw (w.file_system-is, w.output-is)
           (well _ _ _ _ _ _ _ _ _ _ w.attempt-done.ensures.run (sym w.done-is ∙ c.in-Ok.is) refl)
-      | else-is_typed w ↦ rw (w.office-is, w.output-is)
+      | else-is_typed w ↦ rw (w.file_system-is, w.output-is)
           (well _ _ _ _ _ _ _ _ _ _ w.attempt-done-else-is_typed.ensures.run (sym w.done-is ∙ c.in-Ok.is) refl)
     ]
 
 pub returns-in-Err-clause-run : goal.returns-in-Err-clause-run
 returns-in-Err-clause-run g c =
     elim c.if-is_typed.branch [
-      | then-is_typed w ↦ rw (w.office-is, w.output-is)
+      | then-is_typed w ↦ rw (w.file_system-is, w.output-is)
           (badly _ _ _ _ _ _ _ _ _ _ w.attempt-done.ensures.run (sym w.done-is ∙ c.in-Err.is) c.report.ensures.two)
-      | else-is_typed w ↦ rw (w.office-is, w.output-is)
+      | else-is_typed w ↦ rw (w.file_system-is, w.output-is)
           (badly _ _ _ _ _ _ _ _ _ _ w.attempt-done-else-is_typed.ensures.run (sym w.done-is ∙ c.in-Err.is) c.report.ensures.two)
     ]

@@ -4,6 +4,6 @@ use Rattle.v7_explain.proofs.explaining.line_of.Goals as goal
 
 pub returns-in-None : goal.returns-in-None
 returns-in-None g c =
-    let old = g.O.Office.history c.args.office.now in
-    let new = g.O.Office.history c.explain_at.new.office in
+    let old = g.O.FileSystem.history c.args.file_system.now in
+    let new = g.O.FileSystem.history c.explain_at.new.file_system in
     inl (subst (λ path. Explains Inventory path old new c.explain_at.result) c.path.ensures c.explain_at.ensures)

@@ -1,5 +1,5 @@
 use Rattle.std.proofs.Common.{rules, ◌≡◌, inl, subst}
-use Rattle.surroundings.specs.Sources.{ReadsAt}
+use Rattle.host.specs.Sources.{ReadsAt}
 use Rattle.v7_explain.specs.{Files.{GivesOr, HasStatus}, Runs.status_taken}
 use Rattle.v7_explain.proofs.EachLemmas.{answers_none, answers_unread}
 use Rattle.v7_explain.proofs.map_objects.take_at.Goals as goal

@@ -4,8 +4,8 @@ use Rattle.v7_from_gnu.proofs.converting.convert_checked.Goals as goal
 
 pub returns : goal.returns
 returns g c =
-    let between = g.O.Office.history c.read_all.new.office in
-    let after = g.O.Office.history c.store_all.new.office in
+    let between = g.O.FileSystem.history c.read_all.new.file_system in
+    let after = g.O.FileSystem.history c.store_all.new.file_system in
     let same : c.deref.result.now ≡ c.in_ok-targets.targets.items = search rules in
     let stored = subst (λ targets. StoresAll targets between after c.store_all.result) same c.store_all.ensures in
     inr (
@@ -20,7 +20,7 @@ returns-in_err-sources g c = inl (c.in_err-sources.field-0.0, c.in_err-sources.e
 
 pub returns-in_err-targets : goal.returns-in_err-targets
 returns-in_err-targets g c =
-    let between = g.O.Office.history c.read_all.new.office in
+    let between = g.O.FileSystem.history c.read_all.new.file_system in
     inr (
       c.in_ok-sources.sources.items,
       between,

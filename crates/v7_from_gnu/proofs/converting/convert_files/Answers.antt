@@ -7,5 +7,5 @@ returns g c =
     let parts = c.conversion.inside in
     let made : Conversion = record { options = parts.options; is_quiet = parts.is_quiet; jobs = parts.jobs.items } in
     let same : made ≡ c.args.conversion = search rules in
-    subst (λ (it : Conversion). IsConversion it (g.O.Office.history c.args.office.now) (g.O.Office.history c.convert_jobs.new.office)
+    subst (λ (it : Conversion). IsConversion it (g.O.FileSystem.history c.args.file_system.now) (g.O.FileSystem.history c.convert_jobs.new.file_system)
     c.convert_jobs.result) same c.convert_jobs.ensures

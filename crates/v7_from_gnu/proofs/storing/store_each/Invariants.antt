@@ -1,5 +1,5 @@
 use Rattle.std.proofs.Common.{Result, drop}
-use Rattle.surroundings.specs.{Answer.Answer, Events.History, declared.answer.Fault.Fault}
+use Rattle.host.specs.{Answer.Answer, Events.History, declared.answer.Fault.Fault}
 use Rattle.v7_from_gnu.specs.Runs.{IsStoring}
 use Rattle.v7_from_gnu.proofs.storing.store_each.Given as goal
 
@@ -7,5 +7,5 @@ use Rattle.v7_from_gnu.proofs.storing.store_each.Given as goal
 abbrev pub invariant-loop-target : goal.invariant-loop-target
 invariant-loop-target g l =
     (new : History) → (result : Result Answer Fault) →
-    IsStoring (drop l.target-index l.targets) (g.O.Office.history l.office) new result
-    → IsStoring l.targets (g.O.Office.history l.initial.office) new result
+    IsStoring (drop l.target-index l.targets) (g.O.FileSystem.history l.file_system) new result
+    → IsStoring l.targets (g.O.FileSystem.history l.initial.file_system) new result

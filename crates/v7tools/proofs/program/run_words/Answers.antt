@@ -1,5 +1,5 @@
 use Rattle.std.proofs.Common.{inl, inr, refl}
-use Rattle.surroundings.proofs.EventLemmas.{nothing_asked}
+use Rattle.host.proofs.EventLemmas.{nothing_asked}
 use Rattle.v7tools.proofs.EventLemmas.{passed_on}
 use Rattle.v7tools.proofs.program.run_words.Goals as goal
 

@@ -10,8 +10,8 @@ returns-in_err-file g c =
 
 pub loop-path-preserved : goal.loop-path-preserved
 loop-path-preserved g c =
-    let old = g.O.Office.history c.args.office.now in
-    let new = g.O.Office.history c.load_at.new.office in
+    let old = g.O.FileSystem.history c.args.file_system.now in
+    let new = g.O.FileSystem.history c.load_at.new.file_system in
     let before = c.loop-path.loaded.items in
     let pushed : c.push.new.self.items ≡ before ++ c.in_ok-file.file ∷ [] = search rules in
     record {

@@ -1,5 +1,5 @@
 use Rattle.std.proofs.Common.{◌≡◌, ◌++◌, List}
-use Rattle.surroundings.specs.Events.{Extends}
+use Rattle.host.specs.Events.{Extends}
 use Rattle.v7tools.specs.FileRuns.{Loaded}
 use Rattle.v7tools.proofs.FileRunLemmas.{strips_all}
 use Rattle.v7tools.proofs.files.commands.store_stripped.Given as goal
@@ -8,4 +8,4 @@ use Rattle.v7tools.proofs.files.commands.store_stripped.Given as goal
 abbrev pub invariant-loop-path : goal.invariant-loop-path
 invariant-loop-path g l =
     (done : List Loaded) × (l.fn.loaded.items ≡ done ++ l.path-iterator.rest.items)
-    × Extends (g.O.Office.history l.initial.office) (g.O.Office.history l.office) (strips_all done)
+    × Extends (g.O.FileSystem.history l.initial.file_system) (g.O.FileSystem.history l.file_system) (strips_all done)

@@ -12,4 +12,4 @@ returns-in_err-loaded g c =
 
 pub returns : goal.returns
 returns g c =
-    inr (c.in_ok-loaded.loaded.items, g.O.Office.history c.load_all.new.office, c.in_ok-loaded.ensures, c.store_stripped.ensures)
+    inr (c.in_ok-loaded.loaded.items, g.O.FileSystem.history c.load_all.new.file_system, c.in_ok-loaded.ensures, c.store_stripped.ensures)

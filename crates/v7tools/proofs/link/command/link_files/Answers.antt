@@ -17,7 +17,7 @@ returns-in-Err-clause-run g c =
 pub returns-clause-run : goal.returns-clause-run
 returns-clause-run g c =
     let at : c.as_str.result.now ≡ string_bytes c.args.out = search rules in
-    let kept = stored_at (g.O.Office.history c.open_all.new.office) (g.O.Office.history c.store-stored.new.self) _ _
+    let kept = stored_at (g.O.FileSystem.history c.open_all.new.file_system) (g.O.FileSystem.history c.store-stored.new.self) _ _
     c.in-Ok.made.0.file c.store-stored.result c.store-stored.ensures at in
     stores_link g.O.Source.Read.remaining g.W.Write.contents c.args.forced.now c.args.setting.now.options.now c.args.out
     c.args.files.items _ c.report_stored.result _ _ _ _ c.in_ok-inputs.inputs.items c.in-Ok.made.0

@@ -7,10 +7,10 @@ use Rattle.v7tools.proofs.session.command.answer_line.Goals as goal
 pub returns-in_ok-status-in-Link-clause-run : goal.returns-in_ok-status-in-Link-clause-run
 returns-in_ok-status-in-Link-clause-run g c =
     let at : c.as_str.result.now ≡ string_bytes c.in-Link.path = search rules in
-    let history = g.O.Office.history in
+    let history = g.O.FileSystem.history in
     rw (c.in-Link.is, sym at)
     (line_passed g.W.Write.contents c.args.setting.now.options.now (to_link c.as_str.result.now) c.args.session.now
-    c.args.session.now (history c.args.office.now) (history c.answer_link.new.office) c.in_ok-status-in-Link.status
+    c.args.session.now (history c.args.file_system.now) (history c.answer_link.new.file_system) c.in_ok-status-in-Link.status
     c.pass_on.result c.args.answers.now c.answer_link.new.answers c.pass_on.new.answers c.in_ok-status-in-Link.ensures.run
     c.pass_on.ensures.run)
 
@@ -20,13 +20,13 @@ returns-in_err-taken-in_default-clause-run g c =
     let told = c.in_err-taken-in_default.ensures in
     let r = c.from_residual-in_err-taken-in_default.result in
     line_cut_short g.W.Write.contents g.O.Source.Read.remaining c.args.setting.now.options.now c.args.session.now
-    c.step.new.session c.args.answers.now c.step.new.answers (g.O.Office.history c.args.office.now) c.args.line
+    c.step.new.session c.args.answers.now c.step.new.answers (g.O.FileSystem.history c.args.file_system.now) c.args.line
     c.command_of-command.result c.command_of-command.ensures fault r told.step told.write_failed
     (passed_on r fault c.from_residual-in_err-taken-in_default.ensures.1)
 
 pub returns-in_ok-taken-in_default-clause-run : goal.returns-in_ok-taken-in_default-clause-run
 returns-in_ok-taken-in_default-clause-run g c =
-    let history = g.O.Office.history c.args.office.now in
+    let history = g.O.FileSystem.history c.args.file_system.now in
     let contents = g.W.Write.contents in
     let o = c.args.setting.now.options.now in
     let told =
@@ -38,26 +38,26 @@ returns-in_ok-taken-in_default-clause-run g c =
 
 pub returns-in_err-taken-in-Add-clause-run : goal.returns-in_err-taken-in-Add-clause-run
 returns-in_err-taken-in-Add-clause-run g c =
-    let history = g.O.Office.history in
+    let history = g.O.FileSystem.history in
     let fault = c.in_err-taken-in-Add.field-0.0 in
     let told = c.in_err-taken-in-Add.ensures in
     let r = c.from_residual-in_err-taken-in-Add.result in
     rw c.in-Add.is
     (addition_cut_short g.W.Write.contents c.args.setting.now.options.now (string_bytes c.in-Add.path) c.args.session.now
-    c.add_at.new.session (history c.args.office.now) (history c.add_at.new.office) c.args.answers.now c.add_at.new.answers fault r
+    c.add_at.new.session (history c.args.file_system.now) (history c.add_at.new.file_system) c.args.answers.now c.add_at.new.answers fault r
     told.step told.write_failed (passed_on r fault c.from_residual-in_err-taken-in-Add.ensures.1))
 
 pub returns-in_ok-taken-in-Add-clause-run : goal.returns-in_ok-taken-in-Add-clause-run
 returns-in_ok-taken-in-Add-clause-run g c =
-    let history = g.O.Office.history in
+    let history = g.O.FileSystem.history in
     let contents = g.W.Write.contents in
     let o = c.args.setting.now.options.now in
     let path = string_bytes c.in-Add.path in
     let told =
-    addition_answered contents o path c.args.session.now c.add_at.new.session (history c.args.office.now) (history c.add_at.new.office)
+    addition_answered contents o path c.args.session.now c.add_at.new.session (history c.args.file_system.now) (history c.add_at.new.file_system)
     c.args.answers.now c.add_at.new.answers c.in_ok-taken-in-Add.taken c.status_of.result c.in_ok-taken-in-Add.ensures.step
     c.status_of.ensures in
     rw c.in-Add.is
-    (line_passed contents o (to_add path) c.args.session.now c.add_at.new.session (history c.args.office.now)
-    (history c.add_at.new.office) c.status_of.result c.pass_on-in-Add.result c.args.answers.now c.add_at.new.answers
+    (line_passed contents o (to_add path) c.args.session.now c.add_at.new.session (history c.args.file_system.now)
+    (history c.add_at.new.file_system) c.status_of.result c.pass_on-in-Add.result c.args.answers.now c.add_at.new.answers
     c.pass_on-in-Add.new.answers told c.pass_on-in-Add.ensures.run)

@@ -15,7 +15,7 @@ loop-init g c =
       running =
           rw c.new-status.ensures
           (runs_none g.R.Read.remaining g.W.Write.contents c.args.setting.now.options.now c.args.session.now script
-          (g.O.Office.history c.args.office.now) c.args.answers.now none
+          (g.O.FileSystem.history c.args.file_system.now) c.args.answers.now none
           (ap (λ (p : Progress _). p.settled) c.requires.fresh));
     }
 

@@ -10,5 +10,5 @@ invariant-loop g l = record {
   bound : l.script.line_count ≤ 1000000;
   passed : IsPassedOn g.W.BufferedWrite.waiting l.initial.answers → IsPassedOn g.W.BufferedWrite.waiting l.answers;
   running : Running g.R.Read.remaining g.W.Write.contents l.setting.options.now l.initial.session l.session l.initial.script
-      l.script (g.O.Office.history l.initial.office) (g.O.Office.history l.office) l.initial.answers l.answers l.status;
+      l.script (g.O.FileSystem.history l.initial.file_system) (g.O.FileSystem.history l.file_system) l.initial.answers l.answers l.status;
 }

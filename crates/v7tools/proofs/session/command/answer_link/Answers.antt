@@ -14,7 +14,7 @@ returns-in_err-linked-clause-run g c =
     let o = c.args.setting.now.options.now in
     let r = c.from_residual.result in
     let is_err = c.from_residual.ensures.0 in
-    refused_link g.W.Write.contents o c.args.path.now s r c.args.answers.now c.make_link.new.answers (g.O.Office.history c.args.office.now)
+    refused_link g.W.Write.contents o c.args.path.now s r c.args.answers.now c.make_link.new.answers (g.O.FileSystem.history c.args.file_system.now)
     (refused_by g.W.Write.contents (link s.forced (objects s.entries) o) c.args.answers.now c.make_link.new.answers
     (Err c.in_err-linked.field-0.0) r refl is_err c.in_err-linked.ensures.link)
     (IfOk-from_err r (λ (status : ℕ). status ≡ 1) is_err)
@@ -26,8 +26,8 @@ returns-in_err-status-in-Some-clause-run g c =
     let s = c.args.session.now in
     let o = c.args.setting.now.options.now in
     let (is, same) = rw c.in-Some.is at c.in_ok-linked.ensures.link in
-    let old = g.O.Office.history c.args.office.now in
-    let new = g.O.Office.history c.store-stored.new.self in
+    let old = g.O.FileSystem.history c.args.file_system.now in
+    let new = g.O.FileSystem.history c.store-stored.new.self in
     let fault = c.in_err-status-in-Some.field-0.0 in
     let said = c.in_err-status-in-Some.ensures in
     let told =
@@ -42,8 +42,8 @@ returns-in_ok-status-in-Some-clause-run g c =
     let s = c.args.session.now in
     let o = c.args.setting.now.options.now in
     let (is, same) = rw c.in-Some.is at c.in_ok-linked.ensures.link in
-    let old = g.O.Office.history c.args.office.now in
-    let new = g.O.Office.history c.store-stored.new.self in
+    let old = g.O.FileSystem.history c.args.file_system.now in
+    let new = g.O.FileSystem.history c.store-stored.new.self in
     let status = c.in_ok-status-in-Some.status in
     let said = c.in_ok-status-in-Some.ensures in
     let told =
@@ -59,6 +59,6 @@ returns-in-None-clause-run g c =
     let o = c.args.setting.now.options.now in
     rw c.new-in-None.ensures
     (refused_link g.W.Write.contents o c.args.path.now s (Ok 1) c.args.answers.now c.make_link.new.answers
-    (g.O.Office.history c.args.office.now)
+    (g.O.FileSystem.history c.args.file_system.now)
     (refused_with g.W.Write.contents (link s.forced (objects s.entries) o) c.args.answers.now c.make_link.new.answers
     None 1 (rw c.in-None.is at c.in_ok-linked.ensures.link)) refl tt)

@@ -2,7 +2,7 @@ use Rattle.std.proofs.Common.{sym, subst}
 use Rattle.aout_core.specs.Wires.{Writes}
 use Rattle.aout_core.proofs.PutsLemmas.{writes_both, writes_no_more}
 use Rattle.link_out.specs.{Outcomes.report_names}
-use Rattle.surroundings.specs.declared.office.Stored.{Stored}
+use Rattle.host.specs.declared.file_system.Stored.{Stored}
 use Rattle.v7tools.specs.Answers.{link_answer_text}
 use Rattle.v7tools.proofs.session.link_answers.put_link_answer.Goals as goal
 

@@ -1,7 +1,0 @@
-use Rattle.std.proofs.Common.{◌≡◌, drop, map, string_bytes}
-use Rattle.surroundings.specs.Answers.{shown_in}
-use Rattle.surroundings.proofs.shown.shown_in.Given as goal
-
--- no argument so far asks for something to be shown, nor is `--`
-abbrev pub invariant-loop-word : goal.invariant-loop-word
-invariant-loop-word l = shown_in (map string_bytes l.words) ≡ shown_in (map string_bytes (drop l.word-index l.words))

@@ -1,8 +1,0 @@
-use Rattle.surroundings.proofs.ReadingLemmas.{not_taken}
-use Rattle.surroundings.proofs.sources.read_front.Goals as goal
-
-pub returns-in-Err-clause-err : goal.returns-in-Err-clause-err
-returns-in-Err-clause-err g c =
-    let old = g.O.Office.history c.args.office.now in
-    let new = g.O.Office.history c.bytes_at.new.office in
-    not_taken old new c.args.path.now c.args.most c.in-Err.why c.fault_of.result c.in-Err.ensures c.fault_of.ensures

@@ -1,4 +1,0 @@
-use Rattle.v7_explain.proofs.folders.+walk.Given as goal
-
-abbrev pub decreases-walk : goal.decreases-walk
-decreases-walk g l = l.levels
