@@ -250,8 +250,9 @@ struct v7_answer {
                          * V7_TOO_MANY_SYMBOLS how many symbols stay, and with 82 to 89 as described there. Otherwise 0 */
     size_t place;       /* a number, counted from 0. For the faults 11 to 34 of a link it is that of the object, and for
                          * V7_MANY_NAMES that of the name. For 61 to 80 it is the line, counted from 1. For v7_from_gnu it is the
-                         * byte of the file. For V7_NO_MEMORY it is that of an object which the call reached, or 0. Otherwise 0 */
-    size_t size;        /* the size of the result; 0 for v7_take_apart and v7_read */
+                         * byte of the file. For v7_places it is 1 if the fault is in the object. For V7_NO_MEMORY it is that of an
+                         * object which the call reached, or 0. Otherwise 0 */
+    size_t size;        /* the size of the result, for v7_places the number of places; 0 for v7_take_apart and v7_read */
     size_t report_size; /* for v7_remarks the number of remarks; otherwise 0 */
 };
 
@@ -373,6 +374,21 @@ struct v7_remark {
 };
 uint32_t v7_remarks(const unsigned char *bytes, size_t size, unsigned char *texts, size_t text_room, struct v7_remark *remarks,
                     size_t remark_room, struct v7_answer *answer);
+
+/* Tells where the object that OBJECT begins with is in the file that PROGRAM begins with: PLACES gets a record for each address of the
+ * text at which the object fits, in order. It fits if there are addresses of its segments, and one of each name that it leaves undefined,
+ * by which a link makes of its words those that are there. So an object fits where it was linked, and a short one may fit elsewhere too.
+ * One without text has one record, for the first of these addresses. PROGRAM may be stripped: its relocation and symbols are not looked
+ * at. PLACE_ROOM is in places. Where relocated words fit at most addresses, the time grows with the text of PROGRAM times its data. Faults,
+ * the first that applies: 11 to 14 for PROGRAM; 11 to 14 and 21 to 24 for OBJECT, with 1 as `place`; V7_NO_MEMORY, but in place of none
+ * for PROGRAM; V7_NO_ROOM. */
+struct v7_place {
+    uint16_t text;     /* the address of the object's text */
+    uint16_t data;     /* that of its data, if there is one alone; otherwise 0 */
+    uint16_t has_data; /* 1 if there is; 0 if the object has no data, or its data may be at several addresses */
+};
+uint32_t v7_places(const unsigned char *program, size_t program_size, const unsigned char *object, size_t object_size,
+                   struct v7_place *places, size_t place_room, struct v7_answer *answer);
 
 /* v7_run links objects, as `v7 ld` does. It takes the bytes of each object separately, and what
  * follows an object in its bytes is not looked at, so an object that is cut short is refused itself. Request and result begin with their

@@ -105,6 +105,7 @@ FAULTS: Dict[int, str] = {
 }
 _Answer = _struct((_U32, "fault word"), (_SIZE, "place size report_size"))
 _Remark = _struct((_SIZE, "place text text_size"), (_U32, "kind part word"))
+_Place = _struct((_U16, "text data has_data"))
 _Slice = _struct((ctypes.c_char_p, "bytes"), (_SIZE, "size"))
 _Finding = _struct((_NAME, "name"), (_U32, "kind"))
 _FindingPlace = _struct((_SIZE, "first further"))
@@ -264,6 +265,14 @@ class Remark(NamedTuple):
     text: str
     part: int
     word: int
+
+
+class Place(NamedTuple):
+    """A place at which an object fits a program: the address of its text, and that of its data, or None if it has no data, or its data may
+    be at several addresses."""
+
+    text: int
+    data: Optional[int]
 
 
 class Parts(NamedTuple):
@@ -543,6 +552,21 @@ def remarks(data: bytes) -> List[Remark]:
     rooms = [("size", ctypes.c_char), ("report_size", _Remark)]
     texts, found = _made(lambda *room: _LIBRARY.v7_remarks(*words, *room, ctypes.byref(answer)), answer, rooms)[1]
     return [Remark(kind, place, texts[at : at + size].decode("latin-1"), part, word) for place, at, size, kind, part, word in found]
+
+
+def places(program: bytes, part: bytes) -> List[Place]:
+    """The places at which an object fits a program, which may be stripped, in the order of their addresses.
+
+    >>> first, second = make([(0o240, NUMBER)]), make([(0o12700, NUMBER), (2, IN_DATA)], [(7, NUMBER), (9, NUMBER)])
+    >>> places(link([first, second], STRIP).file, second)
+    [Place(text=2, data=6)]
+    >>> places(second, b"")
+    Traceback (most recent call last):
+    v7.Fault: short header, object 1
+    """
+    answer, words = _Answer(), [*_slice(program), *_slice(part)]
+    found = _made(lambda *room: _LIBRARY.v7_places(*words, *room, ctypes.byref(answer)), answer, [("size", _Place)])[1][0]
+    return [Place(text, at if has_data else None) for text, at, has_data in found]
 
 
 def _padded(what: str, name: str) -> bytes:

@@ -171,6 +171,8 @@ class Faults(unittest.TestCase):
                 self.assertEqual(fault_of(call, data), None if is_file else (fault, word, 0))
             for call in (v7.link, v7.link_findings, v7.link_places, v7.link_map, v7.Session):
                 self.assertEqual(fault_of(call, [OBJECT + b"more", data, OBJECT]), (fault, word, 1))
+            self.assertEqual(fault_of(v7.places, data, OBJECT), None if is_file else (fault, word, 0))
+            self.assertEqual(fault_of(v7.places, OBJECT, data), (fault, word, 1))
             if fault in REMARKED:
                 first = v7.remarks(data)[0]
                 self.assertEqual(first.kind, REMARKED[fault])
@@ -285,6 +287,30 @@ class Module(unittest.TestCase):
         data = v7.make([(0, v7.IN_TEXT), (0, v7.IN_DATA), (0, v7.IN_BSS)], symbols=symbols)
         self.assertEqual(struct.unpack_from("<3H", data, 22), (2, 4, 6))
         self.assertEqual([kind for _, kind, _ in struct.iter_unpack("<8sHH", data[28:])], [1, 3, 4])
+
+    def test_places(self):
+        """Objects are where a link puts them, in each layout and also in a stripped program, and one that is not linked is nowhere."""
+        other = v7.make([(0o240, v7.NUMBER), (0o207, v7.NUMBER)], [(0, v7.IN_TEXT), (9, v7.NUMBER)], 0, [("_f", v7.TEXT + v7.EXTERNAL, 2)])
+        changed = v7.make([(0o240, v7.NUMBER), (0o206, v7.NUMBER)])
+        for options, start in ((0, 10), (v7.RELOCATABLE, 10), (v7.PURE, 8192), (v7.SPLIT, 0)):
+            program = v7.link([OBJECT, other], options).file
+            for data in program, program + b"more", v7.strip(program):
+                self.assertEqual(v7.places(data, OBJECT), [v7.Place(0, start)])
+                self.assertEqual(v7.places(data, other), [v7.Place(6, start + 2)])
+                self.assertEqual(v7.places(data, changed), [])
+        # the address of _f is another in each word, so they fit alone, and not together
+        words = [v7.make([(at, v7.refers_to(0))], symbols=[("_f", v7.EXTERNAL, 0)]) for at in (0, 4)]
+        both = v7.make([(0, v7.refers_to(0)), (4, v7.refers_to(1))], symbols=[("_f", v7.EXTERNAL, 0)] * 2)
+        program = v7.link([*words, v7.make([(0o207, v7.NUMBER)], symbols=[("_f", v7.TEXT + v7.EXTERNAL, 0)])]).file
+        self.assertEqual(v7.places(program, words[0]), [v7.Place(at, None) for at in (0, 2, 4)])
+        self.assertEqual(v7.places(program, both), [v7.Place(0, None)])
+        self.assertEqual(v7.places(poked(program, (18, 9)), both), [])
+        # data that may be at two addresses, without text at one or at none, and neither text nor data
+        data = v7.make(data=[(7, v7.NUMBER)])
+        program = v7.link([v7.make([(0o207, v7.NUMBER)]), data, v7.make(data=[(9, v7.NUMBER)]), data]).file
+        self.assertEqual(v7.places(program, v7.make([(0o207, v7.NUMBER)], [(7, v7.NUMBER)])), [v7.Place(0, None)])
+        for words, wanted in (((7,), [v7.Place(0, None)]), ((9,), [v7.Place(0, 4)]), ((8,), []), ((7, 9, 7), [v7.Place(0, 2)]), ((), [v7.Place(0, None)])):
+            self.assertEqual(v7.places(program, v7.make(data=[(word, v7.NUMBER) for word in words])), wanted)
 
     def test_programs(self):
         """Listings, conversions and remarks are those of the programs."""

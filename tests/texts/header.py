@@ -21,8 +21,8 @@ PARAMETER = re.compile(r"(\w+): ([^,)]+)")
 # the structs of the header, by their names in the code
 STRUCTS = dict(pair.split(":") for pair in """Answer:v7_answer Counts:v7_counts FileHeader:v7_header FindingPlace:v7_finding_place
     Handle:v7_session LimitRecord:v7_map_limit MapAnswer:v7_map MapHead:v7_map_head NameRecord:v7_map_name ObjectBytes:v7_slice
-    ObjectRecord:v7_map_object ObjectWord:v7_word RemarkRecord:v7_remark ReportedName:v7_finding Request:v7_request RunAnswer:v7_result
-    SymbolRow:v7_symbol UseRecord:v7_map_use""".split())
+    ObjectRecord:v7_map_object ObjectWord:v7_word PlaceRecord:v7_place RemarkRecord:v7_remark ReportedName:v7_finding Request:v7_request
+    RunAnswer:v7_result SymbolRow:v7_symbol UseRecord:v7_map_use""".split())
 
 
 # --- the code

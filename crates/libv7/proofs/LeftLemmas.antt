@@ -7,8 +7,9 @@ use Rattle.libv7.specs.{declared.parts.SymbolRow.SymbolRow, declared.remarks_cal
 use Rattle.libv7.specs.{declared.remarks_call.Remarks.Remarks, ObjectParts.Pieces, ObjectParts.Whole, ObjectParts.pieces_in}
 use Rattle.libv7.specs.{ObjectParts.whole_of, RemarkAnswers.IsRemarked, RemarkAnswers.remarks_in, Causes.at, Causes.number_of}
 use Rattle.libv7.specs.FileAnswers.{IsAny, IsTextOf}
+use Rattle.libv7.specs.{declared.places_call.PlaceRecord.PlaceRecord, PlaceAnswers.{AreFound, PlacesMayRunOut, files_in}}
 use Rattle.libv7.proofs.NumberLemmas.{only_memory}
-use Rattle.libv7.specs.Left.{IsGiven, IsRefusal, Leaves, LeavesBytes, LeavesBytesAt, LeavesRemarks, LeavesText, Left, Parts, Unplaced, apart_left, bytes_left, bytes_of}
+use Rattle.libv7.specs.Left.{IsGiven, IsRefusal, Leaves, LeavesBytes, LeavesBytesAt, LeavesPlaces, LeavesRemarks, LeavesText, Left, Parts, Unplaced, apart_left, bytes_left, bytes_of}
 use Rattle.libv7.specs.Left.{bytes_or, count_left, items, of_none, read_left, remarks_left, view_of}
 use Rattle.libv7.specs.declared.answer.FileHeader.{FileHeader}
 use Rattle.aout_core.specs.Refusals as memory
@@ -59,6 +60,14 @@ pub remarks_leave : (bytes buffer : List ℕ) (records : List RemarkRecord) (l :
 remarks_leave bytes buffer records l (Ok x) is ok err = record { answer = Ok (remarks_in x); given = ok; is = is }
 remarks_leave bytes buffer records l (Err cause) is ok err =
     record { answer = Err (of_none cause); given = ap of_none err; is = is }
+
+pub places_leave : (program object : List ℕ) (buffer : List PlaceRecord) (l : Left (List PlaceRecord)) (r : Result (Vec PlaceRecord Global) Refusal) →
+    l ≡ bytes_left buffer (bytes_or r) → IfOk r (λ v. AreFound program object v.items) →
+    IfErr r (λ e. e.cause ≢ Memory memory.refused → files_in program object ≡ Err e) →
+    IfErr r (λ e. e.cause ≡ Memory memory.refused → PlacesMayRunOut program object e.place) → LeavesPlaces program object buffer l
+places_leave program object buffer l (Ok v) is ok err out = record { answer = Ok v.items; given = ok; is = is }
+places_leave program object buffer l (Err e) is ok err out =
+    record { answer = Err e; given = refusal_by (files_in program object) (PlacesMayRunOut program object) e err out; is = is }
 
 module _ (text datas : List ObjectWord) (symbols : List SymbolRow) where
   pub parts_leave : (l : Left Parts) (asked : Result Pieces Cause) (MayRunOut : Type 0) (r : Result PartLists Cause) →

@@ -9,6 +9,7 @@ use Rattle.aout_core.specs.Refusals as memory
 use Rattle.libv7.specs.{declared.cause.Cause.Cause, declared.cause.Cause.TheVariants.Memory, declared.cause.Refusal.Refusal}
 use Rattle.libv7.specs.{declared.parts.ObjectWord.ObjectWord, declared.parts.SymbolRow.SymbolRow}
 use Rattle.libv7.specs.{declared.remarks_call.RemarkRecord.RemarkRecord, RemarkAnswers.{IsRemarked, Output}}
+use Rattle.libv7.specs.{declared.places_call.PlaceRecord.PlaceRecord, PlaceAnswers.{AreFound, PlacesMayRunOut, files_in}}
 use Rattle.libv7.specs.{Causes.{at, number_of, word_of}, FileAnswers.IsTextOf, ObjectParts.{Pieces, Whole}}
 use Rattle.libv7.specs.{declared.answer.Answer.Answer, declared.answer.Counts.Counts, declared.answer.FileHeader.FileHeader}
 
@@ -76,8 +77,8 @@ pub record Left (B : Type 0) : Type 0 where
 abbrev pub left : {B : Type 0} → ℕ → Answer → B → Left B
 left status answer buffers = record { status = status; answer = answer; buffers = buffers }
 
--- what is left in a buffer by a call that gives bytes
-abbrev pub bytes_left : List ℕ → Result (List ℕ) Refusal → Left (List ℕ)
+-- what is left in a buffer by a call that gives bytes, or records
+abbrev pub bytes_left : {A : Type 0} → List A → Result (List A) Refusal → Left (List A)
 bytes_left buffer (Err r) = left 2 (refused r) buffer
 bytes_left buffer (Ok bytes) =
     if nat_lt (length buffer) (length bytes) then left 2 (given 60 (length bytes) 0) buffer
@@ -131,6 +132,16 @@ AreRemarks bytes (Err r) = r ≡ of_none (Memory memory.refused)
 abbrev pub LeavesRemarks : List ℕ → List ℕ → List RemarkRecord → Left (List ℕ × List RemarkRecord) → Type 0
 LeavesRemarks bytes buffer records l = Leaves (AreRemarks bytes) (remarks_left buffer records) l
 
+-- ---- places
+
+-- the places of the object in the program, or why there are none
+abbrev pub ArePlacesOf : List ℕ → List ℕ → Result (List PlaceRecord) Refusal → Type 0
+ArePlacesOf program object (Ok records) = AreFound program object records
+ArePlacesOf program object (Err r) = IsRefusal (files_in program object) (PlacesMayRunOut program object) r
+
+abbrev pub LeavesPlaces : List ℕ → List ℕ → List PlaceRecord → Left (List PlaceRecord) → Type 0
+LeavesPlaces program object room l = Leaves (ArePlacesOf program object) (bytes_left room) l
+
 -- ---- parts of a file
 
 -- what taking an object apart leaves: how many words and symbols there are, and these
@@ -178,10 +189,10 @@ abbrev pub view_of : {A B E : Type 0} → (B → A) → Result B E → Result A 
 view_of view (Ok x) = Ok (view x)
 view_of view (Err e) = Err e
 
-abbrev pub items : Vec ℕ Global → List ℕ
+abbrev pub items : {A : Type 0} → Vec A Global → List A
 items v = v.items
 
-abbrev pub bytes_or : Result (Vec ℕ Global) Refusal → Result (List ℕ) Refusal
+abbrev pub bytes_or : {A : Type 0} → Result (Vec A Global) Refusal → Result (List A) Refusal
 bytes_or r = view_of items r
 
 abbrev pub bytes_of : Result (Vec ℕ Global) Cause → Result (List ℕ) Refusal

@@ -13,6 +13,7 @@ pub mod MapAnswers
 pub mod ListingAnswers
 pub mod GnuAnswers
 pub mod RemarkAnswers
+pub mod PlaceAnswers
 pub mod Left
 pub mod MapLeft
 pub mod RunLeft

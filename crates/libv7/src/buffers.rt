@@ -65,16 +65,16 @@ pub(crate) fn leave_done(done: Result<(), Refusal>, answer: &mut Answer) -> u32
     }
 }
 
-/// Writes bytes into the buffer, if they fit.
-fn leave_all(bytes: &[u8], buffer: &mut [u8], answer: &mut Answer) -> u32
-    ensures { left result answer.new buffer.new ≡ bytes_left buffer.old (Ok bytes.now) }
+/// Writes bytes, or what else there is, into the buffer, if all fits.
+fn leave_all<T: Copy>(items: &[T], buffer: &mut [T], answer: &mut Answer) -> u32
+    ensures { left result answer.new buffer.new ≡ bytes_left buffer.old (Ok items.now) }
 {
-    if buffer.len() < bytes.len() {
-        *answer = Answer::given(NO_ROOM, bytes.len(), 0);
+    if buffer.len() < items.len() {
+        *answer = Answer::given(NO_ROOM, items.len(), 0);
         return 2;
     }
-    put(bytes, buffer);
-    *answer = Answer::given(0, bytes.len(), 0);
+    put(items, buffer);
+    *answer = Answer::given(0, items.len(), 0);
     0
 }
 
@@ -92,16 +92,16 @@ pub(crate) fn leave_bytes(
     }
 }
 
-/// The same of bytes that are refused at some place.
-pub(crate) fn leave_bytes_at(
-    bytes: Result<Vec<u8>, Refusal>,
-    buffer: &mut [u8],
+/// The same of bytes, or of what else there is, that are refused at some place.
+pub(crate) fn leave_bytes_at<T: Copy>(
+    items: Result<Vec<T>, Refusal>,
+    buffer: &mut [T],
     answer: &mut Answer,
 ) -> u32
-    ensures { left result answer.new buffer.new ≡ bytes_left buffer.old (bytes_or bytes) }
+    ensures { left result answer.new buffer.new ≡ bytes_left buffer.old (bytes_or items) }
 {
-    match bytes {
-        Ok(bytes) => leave_all(&bytes, buffer, answer),
+    match items {
+        Ok(items) => leave_all(&items, buffer, answer),
         Err(refusal) => refuse(refusal, answer),
     }
 }

@@ -5,6 +5,7 @@
 //! two calls. An object is the bytes that begin with it: its header gives its length.
 //!
 //! - `file_calls`, `disassembly`, `listing_calls`, `gnu_call`, `remarks_call`, `make_call`, `part_lists`: what the calls on one file give
+//! - `places_call`: where an object is in a program
 //! - `requests`, `output`: what is asked of a link, and what it gives
 //! - `run`, `run_call`, `map_call`: a link, and its map
 //! - `session_calls`, `session_json`: a session that C keeps in a `session_handle`, and its state
@@ -32,6 +33,7 @@ mod output;
 mod part_lists;
 mod parts;
 mod places;
+mod places_call;
 mod redefinitions;
 mod remarks_call;
 mod requests;
@@ -50,13 +52,14 @@ ghost use Rattle.libv7.specs.{ListingAnswers.{DescribedMayRunOut, IsListingOf, d
 ghost use Rattle.libv7.specs.ObjectParts.{file_for, made_of, parts_in, pieces, whole_in};
 ghost use Rattle.libv7.specs.SessionLeft.{LeavesAdded, LeavesBegun, LeavesLink, LeavesShown, LeavesWithdrawn, kept_by};
 ghost use Rattle.libv7.specs.RunLeft.{LeavesRun};
-ghost use Rattle.libv7.specs.Left.{IsGiven, Leaves, LeavesBytes, LeavesBytesAt, LeavesRemarks, LeavesText, Unplaced, apart_left, count_left, left, read_left};
+ghost use Rattle.libv7.specs.Left.{IsGiven, Leaves, LeavesBytes, LeavesBytesAt, LeavesPlaces, LeavesRemarks, LeavesText, Unplaced, apart_left, count_left, left, read_left};
 
 use crate::answer::{Answer, Counts, FileHeader};
 use crate::buffers::{
     leave_bytes, leave_bytes_at, leave_count, leave_done, leave_file, leave_parts, leave_remarks,
 };
 use crate::parts::{ObjectParts, ObjectWord, SymbolRow};
+use crate::places_call::PlaceRecord;
 use crate::remarks_call::RemarkRecord;
 use crate::requests::Request;
 use crate::run::RunAnswer;
@@ -214,6 +217,25 @@ pub extern "C" fn v7_remarks(
         remarks_call::remarks_of(alloc, bytes),
         texts,
         remarks,
+        answer,
+    )
+}
+
+/// Tells where an object is in a program.
+#[tactic(auto, using(crate::proofs::LeftLemmas::places_leave))]
+#[unsafe(no_mangle)]
+pub extern "C" fn v7_places(
+    alloc: Global,
+    program: &[u8],
+    object: &[u8],
+    places: &mut [PlaceRecord],
+    answer: &mut Answer,
+) -> u32
+    ensures { LeavesPlaces program.now object.now places.old (left result answer.new places.new) }
+{
+    leave_bytes_at(
+        places_call::places_of(alloc, program, object),
+        places,
         answer,
     )
 }

@@ -3,7 +3,7 @@
 //! listing.
 use std::io::{self, Write};
 use std::{env, error, fs, process, thread};
-use v7::{from_gnu, from_listing, listing, remarks, Link, Program, Session};
+use v7::{from_gnu, from_listing, listing, places, remarks, Link, Program, Session};
 
 /// Each name that is reported, with the path of the object that has it first.
 fn show_findings(program: &Program, paths: &[String]) {
@@ -45,6 +45,10 @@ fn link(out: &str, paths: &[String]) -> Result<u32, Box<dyn error::Error>> {
     let (again, whole) = (session.link(other.options, &other.entry)?, other.of(&objects)?);
     assert_eq!((again.file, again.findings), (whole.file, whole.findings));
     compare_map(&program, &objects);
+    // each object is in the program, the first one at its beginning
+    for object in &objects {
+        assert!(!places(&program.file, object)?.is_empty());
+    }
     thread::scope(|scope| {
         for object in &objects {
             scope.spawn(|| compare_listing(object));

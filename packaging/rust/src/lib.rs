@@ -16,7 +16,7 @@ pub use objects::{check, disassemble, disassemble_words, from_gnu, from_listing,
 pub use records::{Link, Map, Program, Remark};
 pub use session::Session;
 pub use v7_sys as raw;
-pub use v7_sys::{Fault, Finding, FindingPlace, Header, MapHead, MapLimit, MapName, MapObject, MapUse, Name, Number, Symbol, Word};
+pub use v7_sys::{Fault, Finding, FindingPlace, Header, MapHead, MapLimit, MapName, MapObject, MapUse, Name, Number, Place, Symbol, Word};
 
 use std::mem::size_of;
 
@@ -124,6 +124,17 @@ fn filled(mut call: impl FnMut(*mut u8, usize, &mut raw::Answer) -> u32) -> Resu
         call(bytes.as_mut_ptr(), bytes.len(), answer)
     })?;
     Ok(bytes)
+}
+
+/// The places at which an object fits a program, which may be stripped, in the order of their addresses.
+pub fn places(program: &[u8], object: &[u8]) -> Result<Vec<Place>, Fault> {
+    let (_, _, rows) = made(|answer: &mut raw::Answer, rows: &mut Vec<Place>| {
+        rows.resize(answer.size, Place::default());
+        let files = (program.as_ptr(), program.len(), object.as_ptr(), object.len());
+        // SAFETY: files and buffer outlive the call, and have the sizes that are passed
+        unsafe { raw::v7_places(files.0, files.1, files.2, files.3, rows.as_mut_ptr(), rows.len(), answer) }
+    })?;
+    Ok(rows)
 }
 
 /// What is wrong and odd in a file, as `v7-explain` prints it.

@@ -138,6 +138,7 @@ enum call {
     FROM_LISTING,
     FROM_GNU,
     REMARKS,
+    PLACES,
     DISASSEMBLE_WORDS,
     MAKE,
     LINK,
@@ -251,6 +252,8 @@ static uint32_t call(const struct request *r, const void *const *in, void *const
         return v7_from_gnu(r->option, in[0], size, room[0], most[0], &answer);
     case REMARKS:
         return v7_remarks(in[0], size, room[0], most[0], room[1], most[1], &answer);
+    case PLACES:
+        return v7_places(in[0], size, in[1], r->in[1].count, room[0], most[0], &answer);
     case DISASSEMBLE_WORDS:
         return v7_disassemble_words((uint16_t)r->option, in[0], size, room[0], most[0], &answer);
     case MAKE:
@@ -323,6 +326,10 @@ static const unsigned char definition[] = {W(0407), W(4), W(0), W(0), W(12), W(0
 static const unsigned char stripped[] = {W(0407), W(6), W(2), W(4), W(0), W(0), W(0), W(1), CONTENTS};
 static const unsigned char linked[] = {W(0407), W(10), W(2), W(4), W(24), W(8), W(0), W(1), W(04767), W(4), W(0207), W(0240), W(0207), W(7),
                                        NAME('_', 'x'), W(040), W(0), NAME('_', 'f'), W(042), W(8)};
+/* a return and a 7, and a program in which the return may be either of two; the data is at 4 */
+static const unsigned char returning[] = {W(0407), W(2), W(2), W(0), W(0), W(0), W(0), W(0), W(0207), W(7), W(0), W(0)};
+static const unsigned char returns[] = {W(0407), W(4), W(2), W(0), W(0), W(0), W(0), W(1), W(0207), W(0207), W(7)};
+static const struct v7_place fits[] = {{0, 4, 1}, {2, 4, 1}};
 /* its strings begin with their length, 10, the high word first; L1 is at 4, and _f at 7 */
 static const unsigned char gnu_object[] = {W(0407), W(6), W(2), W(4), W(16), W(0), W(0), W(0), CONTENTS, W(0), W(011), W(0), W(0),
                                            W(0), W(7), W(040), W(0), W(0), W(4), W(2), W(0), W(0), W(10), 'L', '1', 0, '_', 'f', 0};
@@ -391,6 +398,7 @@ static const struct request good[CALLS] = {
     {"v7_from_gnu", FROM_GNU, V7_DROP_DEBUGGER, {ITEMS(gnu_object)}, SIZED(object)},
     {"v7_remarks", REMARKS, 0, {ITEMS(more)}, {sizeof remark_text - 1, 1}, .answer = {0, 0, 0, sizeof remark_text - 1, 1},
      .out = {STRING(remark_text), ITEMS(remarks)}},
+    {"v7_places", PLACES, 0, {ITEMS(returns), ITEMS(returning)}, {2}, .answer = {.size = 2}, .out = {ITEMS(fits)}},
     {"v7_disassemble_words", DISASSEMBLE_WORDS, 0177776, {ITEMS(at_end)}, LENGTH(plain)},
     {"v7_make", MAKE, 4, {ITEMS(text), ITEMS(data), ITEMS(symbols)}, SIZED(object)},
     {"v7_run", LINK, V7_NOT_L, {STRING("_f"), FORCED, ITEMS(both)}, {52, 14}, 1, LINKED(14), .out = {ITEMS(linked), REPORT}},
@@ -425,17 +433,18 @@ static void check_rooms(const struct request *r)
 static void check_memory(const struct request *r)
 {
     size_t all = (status_of(r), requests), n;
+    int has_place = r->call >= LINK || r->call == PLACES;
 
     is(all > 0, r->name, "requests for memory");
     for (n = 1; n <= all; n++) {
         refuse(n, (size_t)-1);
         status_of(r);
-        expect_fault("memory refused", r, V7_NO_MEMORY, r->call >= LINK && answer.place < 2 ? answer.place : 0);
+        expect_fault("memory refused", r, V7_NO_MEMORY, has_place && answer.place < 2 ? answer.place : 0);
         refuse(n, n);
         if (status_of(r) == r->status)
             expect("less memory", r);
         else
-            expect_fault("memory refused once", r, V7_NO_MEMORY, r->call >= LINK && answer.place < 2 ? answer.place : 0);
+            expect_fault("memory refused once", r, V7_NO_MEMORY, has_place && answer.place < 2 ? answer.place : 0);
     }
     refuse(0, 0);
 }
@@ -447,7 +456,7 @@ static void check_without_memory(const struct request *r)
     struct request other = *r;
 
     refuse(1, (size_t)-1);
-    if (r->call <= TAKE_APART || r->call == FROM_GNU) {
+    if (r->call <= TAKE_APART || r->call == FROM_GNU || r->call == PLACES) {
         other.in[0].count = 15;
         status_of(&other);
         expect_fault("a short file", &other, V7_SHORT_HEADER, r->call == FROM_GNU ? 15 : 0);

@@ -13,6 +13,7 @@ static struct v7_symbol symbols[SYMBOLS];
 static struct v7_slice slices[COUNT];
 static struct v7_finding findings[SYMBOLS];
 static struct v7_finding_place places[SYMBOLS];
+static struct v7_place fits[WORDS + 1];
 static unsigned char objects[ROOM], room[ROOM], more[ROOM];
 static size_t objects_size, count;
 static struct v7_answer answer;
@@ -89,6 +90,7 @@ static void *call_all(void *unused)
     called(v7_read(objects, objects_size, &header, text, WORDS, data, WORDS, symbols, SYMBOLS, &counts, &answer));
     called(v7_take_apart(objects, objects_size, text, WORDS, data, WORDS, symbols, SYMBOLS, &counts, &answer));
     called(v7_make(text, counts.text, data, counts.data, counts.bss, symbols, counts.symbols, room, ROOM, &answer));
+    called(v7_places(objects, objects_size, objects, objects_size, fits, WORDS + 1, &answer));
     /* these two end with a fault: it is no object in GNU's form, and the remarks are made before there is no room for them */
     v7_from_gnu(0, objects, objects_size, room, ROOM, &answer);
     v7_remarks(objects, objects_size, more, 0, NULL, 0, &answer);
@@ -135,5 +137,5 @@ int main(void)
         append(150, 25, (unsigned)count);
     call_in_thread();
     printf("%u calls, %u with a result\n", calls, results);
-    return calls != 48 || results != calls;
+    return calls != 50 || results != calls;
 }

@@ -70,6 +70,9 @@ pub struct Answer { pub fault: u32, pub word: u32, pub place: usize, pub size: u
 /// `struct v7_remark`
 #[repr(C)] #[derive(Clone, Copy, Debug, Default, PartialEq, Eq)]
 pub struct Remark { pub place: usize, pub text: usize, pub text_size: usize, pub kind: u32, pub part: u32, pub word: u32 }
+/// `struct v7_place`
+#[repr(C)] #[derive(Clone, Copy, Debug, Default, PartialEq, Eq)]
+pub struct Place { pub text: u16, pub data: u16, pub has_data: u16 }
 /// `struct v7_slice`
 #[repr(C)] #[derive(Clone, Copy, Debug)]
 pub struct Slice { pub bytes: *const u8, pub size: usize }
@@ -154,6 +157,7 @@ extern "C" {
     pub fn v7_from_listing(text: *const u8, size: usize, room: *mut u8, room_size: usize, answer: *mut Answer) -> u32;
     pub fn v7_from_gnu(options: u32, bytes: *const u8, size: usize, room: *mut u8, room_size: usize, answer: *mut Answer) -> u32;
     pub fn v7_remarks(bytes: *const u8, size: usize, texts: *mut u8, text_room: usize, remarks: *mut Remark, remark_room: usize, answer: *mut Answer) -> u32;
+    pub fn v7_places(program: *const u8, program_size: usize, object: *const u8, object_size: usize, places: *mut Place, place_room: usize, answer: *mut Answer) -> u32;
     pub fn v7_run(request: *const Request, result: *mut Result) -> u32;
     pub fn v7_session_new(session: *mut Session, forced: *const u8, forced_size: usize, answer: *mut Answer) -> u32;
     pub fn v7_session_add(session: *mut Session, bytes: *const u8, size: usize, answer: *mut Answer) -> u32;
