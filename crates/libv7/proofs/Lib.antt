@@ -9,6 +9,7 @@ pub mod CountLemmas
 pub mod FurtherLemmas
 pub mod ObjectNumberLemmas
 pub mod PlaceLemmas
+pub mod OriginLemmas
 pub mod RemarkLemmas
 pub mod SessionLemmas
 pub mod ItemLemmas
