@@ -23,9 +23,9 @@
  *
  * V7_NO_MEMORY comes only at a stage at which nothing is refused. A call takes memory after it has accepted the options, the
  * names and the sizes of parts, and for a file only if it is whole. So V7_NO_MEMORY never comes in place of 1 to 10, of 11
- * to 14 for a file. Before a link reads an object it enters the forced names: if there are none, V7_NO_MEMORY does not come in
- * place of 11 to 14 for the first object either. Once an object is accepted, memory may run out there, and V7_NO_MEMORY may come
- * in place of any later fault: the answer does not say which request failed.
+ * to 14 for a file, of two files the first. Before a link reads an object it enters the forced names: if there are none,
+ * V7_NO_MEMORY does not come in place of 11 to 14 for the first object either. Once an object is accepted, memory may run out
+ * there, and V7_NO_MEMORY may come in place of any later fault: the answer does not say which request failed.
  */
 #ifndef V7_H
 #define V7_H
