@@ -73,7 +73,7 @@ REMARK_OUTSIDE_REFERENCE, REMARK_EMPTY_NAME, REMARK_UNPRINTABLE_NAME, REMARK_BYT
 REMARK_IGNORED_TYPE_BITS, REMARK_UNKNOWN_TYPE, REMARK_ODD_COMMON, REMARK_OUTSIDE_VALUE, REMARK_RELOCATED_FIRST_WORD = 17, 18, 19, 20, 21
 REMARK_UNSUITABLE_PC_BIT, REMARK_CUT_INSTRUCTION, REMARK_NO_INSTRUCTION, REMARK_BRANCH_OUTSIDE, REMARK_BRANCH_WITHIN = 22, 23, 24, 25, 26
 REMARK_UNSUITABLE_REFERENCE, REMARK_UNSUITABLE_ADDRESS, REMARK_ABSOLUTE_TEXT, REMARK_NO_ROOM, REMARK_UNUSED_NAME = 27, 28, 29, 30, 31
-REMARK_UNSUITABLE_JUMP, REMARK_ODD_OPERAND, REMARK_NO_END = 32, 33, 34
+REMARK_UNSUITABLE_JUMP, REMARK_ODD_OPERAND, REMARK_NO_END, REMARK_SIMILAR_NAME = 32, 33, 34, 35
 # enum v7_finding_kind
 MULTIPLY_DEFINED, RESERVED_NAME, ENTRY_NOT_IN_TEXT, UNDEFINED_NAME = 1, 2, 3, 4
 # enum v7_map_name_state
@@ -256,9 +256,9 @@ class Map(NamedTuple):
 
 
 class Remark(NamedTuple):
-    """A remark on a file: one of REMARK_SHORT_HEADER to REMARK_NO_END, the byte of the file, and the text; and the part that the byte is
-    in, or that its relocation word belongs to, with the index of the word, text before data, or the number of the symbol. A byte that is
-    elsewhere has the part 0."""
+    """A remark on a file: one of REMARK_SHORT_HEADER to REMARK_SIMILAR_NAME, the byte of the file, and the text; and the part that the byte
+    is in, or that its relocation word belongs to, with the index of the word, text before data, or the number of the symbol. A byte that
+    is elsewhere has the part 0."""
 
     kind: int
     byte: int

@@ -43,6 +43,8 @@ SEGMENTS = {2: "text", 3: "data", 4: "bss"}
 TYPES = (0, 1, 2, 3, 4, 0o24, 0o37)
 # the most bad relocation words, and the most odd things, that are shown one by one
 MOST = 16
+# the most symbols of a table in which names are compared
+MOST_LIKE = 512
 # the most words of one kind that refer outside of its segment and have a line each; more have one together
 MOST_ALIKE = 4
 OUTSIDE = re.compile(r"the word( at \d+ is of kind (\w+) and refers to \d+; .*)")
@@ -306,6 +308,15 @@ def odd_words(file):
                                                 f"{lies(file, segment, to)}" + unless(sure))
 
 
+def likeness(file, name):
+    """The first symbol of text, data or bss that an undefined name was probably meant to be."""
+    for number, (other, _, kind, _) in enumerate(file.symbols()):
+        is_like = not kind & 0o40 if other == name else name != name.lower() and name.lower() == other.lower()
+        if SEGMENTS.get(kind & 0o37) and is_like:
+            yield number
+            return
+
+
 def odd_symbol(file, number, symbol, first, used):
     """What is odd of a symbol, if the first external of its name has this number, and words refer to those of the numbers `used`."""
     name, field, kind, value = symbol
@@ -334,6 +345,9 @@ def odd_symbol(file, number, symbol, first, used):
             yield 10, f"of {segment} has value {value:06o}, and {lies(file, segment, value)}" + unless(sure)
     if is_undefined(kind) and not value and file.flag == 0 and number not in used:
         yield 0, "is undefined, and no word refers to it" + MEANT
+    if is_undefined(kind) and not value and file.flag == 0 and len(file.symbols()) <= MOST_LIKE:
+        for other in likeness(file, name):
+            yield 0, f"is undefined, and symbol {other} of the same letters is not" + MEANT
 
 
 def odd_of(file):

@@ -3,7 +3,7 @@ use Rattle.std.specs.Prelude.{◌≡◌, ℕ, Bool, true, false, if◌then◌els
 use Rattle.checks.specs.{declared.finding.Finding.Finding, declared.finding.FindingKind.FindingKind}
 use Rattle.checks.specs.declared.finding.FindingKind.TheVariants as kinds
 
--- what is wrong has 1 to 7, what is odd 8 to 20, 30 and 31, and what is suspicious the others
+-- what is wrong has 1 to 7, what is odd 8 to 20, 30, 31 and 35, and what is suspicious the others
 abbrev pub kind_number : FindingKind → ℕ
 kind_number kinds.ShortHeader = 1
 kind_number kinds.BadMagic = 2
@@ -39,6 +39,7 @@ kind_number kinds.UnusedName = 31
 kind_number kinds.UnsuitableJump = 32
 kind_number kinds.OddOperand = 33
 kind_number kinds.NoEnd = 34
+kind_number kinds.SimilarName = 35
 
 pub record Found : Type 0 where
   pub place : ℕ

@@ -4,6 +4,7 @@
 -- at which the odd field begins.
 use Rattle.std.specs.Prelude.{ℕ, ◌+◌, ◌-◌, ◌*◌, ◌/◌, ◌%◌, Bool, true, false, not, ◌&&◌, ◌||◌, eqb, nat_lt, nat_le, if◌then◌else◌, List, []}
 use Rattle.std.specs.{Prelude.{◌∷◌, ◌++◌, take, drop, length, bytes_eq, Option, Some, None, is_some}, List.{flat_map, list_any}}
+use Rattle.std.specs.{Char.is_ascii_uppercase, Str.str_eq_ignore_ascii_case}
 use Rattle.aout_core.specs.WellFormed.{is_external, is_undefined, kind_of, masked_type, segment_of, symbol_number}
 use Rattle.aout_core.specs.{declared.header.Header.Header, declared.symbol.Symbol.Symbol}
 use Rattle.aout_core.specs.{declared.reloc.Reloc.Reloc, declared.reloc.Kind.Kind, declared.reloc.Kind.TheVariants.External}
@@ -12,7 +13,7 @@ use Rattle.aout_core.specs.{declared.placed.PlacedWord.PlacedWord, declared.part
 use Rattle.texts.specs.Names.{is_printable}
 use Rattle.checks.specs.declared.finding.FindingKind.TheVariants.{IgnoredEntry, IgnoredWord, BytesAfterTable, IgnoredRelocationBits}
 use Rattle.checks.specs.declared.finding.FindingKind.TheVariants.{OutsideReference, EmptyName, UnprintableName, BytesAfterName}
-use Rattle.checks.specs.declared.finding.FindingKind.TheVariants.{NoRoom, UnusedName, RepeatedName, IgnoredTypeBits, UnknownType, OddCommon, OutsideValue}
+use Rattle.checks.specs.declared.finding.FindingKind.TheVariants.{NoRoom, UnusedName, SimilarName, RepeatedName, IgnoredTypeBits, UnknownType, OddCommon, OutsideValue}
 use Rattle.checks.specs.{Found.Found, Found.found_as, Found.found_if, Segments.bss_to, Segments.has_address, Segments.segment_meant}
 use Rattle.checks.specs.Outside.{is_byte, is_sure_word, is_sure_value}
 
@@ -107,15 +108,35 @@ refers_to n r = eqb (r.0 / 2 % 8) 4 && eqb (symbol_number r) n
 abbrev pub is_used : Contents → ℕ → Bool
 is_used c n = list_any (refers_to n) c.text_reloc || list_any (refers_to n) c.data_reloc
 
+-- an object does not define a name, and has no common of it
+abbrev pub is_mention : Contents → Symbol → Bool
+is_mention c s = eqb c.header.flag 0 && (is_undefined s && eqb s.value 0)
+
 abbrev pub is_unused : Contents → ℕ → Symbol → Bool
-is_unused c n s = eqb c.header.flag 0 && (is_undefined s && (eqb s.value 0 && not (is_used c n)))
+is_unused c n s = is_mention c s && not (is_used c n)
+
+-- text, data or bss has a local of the same name, or a symbol of that name with small letters in place of capitals. A function may be named
+-- as one that it calls but for a capital, as `_Exit` and `_exit`
+unfoldable pub is_similar : Symbol → Symbol → Bool
+is_similar s t =
+    if nat_lt (masked_type t) 2 || nat_lt 4 (masked_type t) then false
+    else (if bytes_eq s.name t.name then not (is_external t)
+    else list_any is_ascii_uppercase s.name && str_eq_ignore_ascii_case s.name t.name)
+
+-- a table of more than 512 symbols is not searched: the time would grow with their square
+abbrev pub has_similar : Contents → Symbol → Bool
+has_similar c s = nat_le (length c.symbols) 512 && (is_mention c s && list_any (is_similar s) c.symbols)
+
+-- an undefined symbol that no word uses, or that was probably meant to be another one
+abbrev pub odd_mention : Contents → ℕ → ℕ → Symbol → List Found
+odd_mention c place n s = found_as false (is_unused c n s) place UnusedName ++ found_as false (has_similar c s) place SimilarName
 
 -- symbol number n, which follows these in the table
 abbrev pub odd_symbol : Bool → Contents → List ℕ → Option ℕ → ℕ → Symbol → List Found
 odd_symbol commons c bytes first n s =
     odd_name bytes (is_some first) (symbol_at c.header n) s
     ++ odd_fields commons c (symbol_at c.header n) s
-    ++ found_as false (is_unused c n s) (symbol_at c.header n) UnusedName
+    ++ odd_mention c (symbol_at c.header n) n s
 
 -- the symbols from number n on
 abbrev pub odd_symbols : Bool → Contents → List ℕ → ℕ → List Symbol → List Found

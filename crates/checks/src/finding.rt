@@ -8,8 +8,8 @@ use std::fmt::Display;
 use std::marker::Model;
 use texts::Text;
 
-/// What is wrong or odd, each with its number in `v7.h`: 1 to 7 are wrong, 8 to 20, 30 and 31 odd, and the
-/// others suspicious. v7-explain(1) lists them.
+/// What is wrong or odd, each with its number in `v7.h`: 1 to 7 are wrong, 8 to 20, 30, 31 and 35 odd, and
+/// the others suspicious. v7-explain(1) lists them.
 #[derive(Clone, Copy, Debug, PartialEq, Eq)]
 pub enum FindingKind {
     /// The file ends in its header.
@@ -80,6 +80,8 @@ pub enum FindingKind {
     OddOperand = 33,
     /// The text ends after an instruction that goes on.
     NoEnd = 34,
+    /// A name is undefined, and that of another symbol is the same but for capitals.
+    SimilarName = 35,
 }
 
 impl FindingKind {

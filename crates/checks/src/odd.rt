@@ -1,10 +1,10 @@
 //! What is odd of a file, and not refused. Only tested: the texts of the findings.
 ghost use Rattle.std.specs.Prelude.{◌≡◌, ◌^◌, ◌<◌, ◌&&◌, ◌||◌, not, false, None, Some, length, get_or, slice_get, take, if◌then◌else◌, bytes_eq, is_some, IfOk};
-ghost use Rattle.std.specs.Ordering.{nat_cmp};
+ghost use Rattle.std.specs.{Ordering.nat_cmp, Char.is_ascii_uppercase};
 ghost use Rattle.std.specs.{Prelude.{OnOk, List, ℕ}, List.{flat_map, list_any}, BTreeMap.get, Cmp.Lexicographic.slice_cmp};
 ghost use Rattle.aout_core.specs.{WellFormed.is_external, Placed.{placed_word, placed_words, relocs_of, words_of}};
 ghost use Rattle.checks.specs.Odd.{after_name, first_alike, has_name, has_type, ignores_number, is_hidden, odd, odd_fields, odd_header};
-ghost use Rattle.checks.specs.Odd.{odd_rest, odd_name, refers_to, is_used, is_unused, odd_reloc, odd_symbol, odd_symbols, odd_word};
+ghost use Rattle.checks.specs.Odd.{odd_rest, odd_name, refers_to, is_used, is_mention, is_unused, is_similar, has_similar, odd_mention, odd_reloc, odd_symbol, odd_symbols, odd_word};
 ghost use Rattle.checks.specs.{Found.{each_found, Finds}, Segments.segment_meant, Outside.is_byte, internal.Marks.AreUsed};
 
 use crate::finding::{Finding, FindingKind, Findings};
@@ -207,13 +207,104 @@ fn used_in(alloc: Global, file: &File) -> Result<Vec<bool>, AllocError>
     Ok(used)
 }
 
+/// Whether a symbol of an object is undefined, and no common.
+fn is_mention(file: &File, symbol: &Symbol) -> bool
+    ensures { result ≡ is_mention file.now symbol.now }
+{
+    file.header().flag == 0 && symbol.is_undefined() && symbol.value == 0
+}
+
 /// Whether a symbol of an object is undefined, and no word refers to it.
 fn is_unused(file: &File, used: &[bool], number: usize, symbol: &Symbol) -> bool
     requires there { number < length used.now }
     requires used { get_or used.now number false ≡ is_used file.now number }
     ensures { result ≡ is_unused file.now number symbol.now }
 {
-    file.header().flag == 0 && symbol.is_undefined() && symbol.value == 0 && !used[number]
+    is_mention(file, symbol) && !used[number]
+}
+
+/// Whether a name has a capital letter.
+fn has_capital(name: &[u8]) -> bool
+    ensures { result ≡ list_any is_ascii_uppercase name.now }
+{
+    name.iter().any(|byte| byte.is_ascii_uppercase())
+}
+
+/// Whether an undefined symbol was probably meant to be another one.
+#[tactic(auto, unfolding(crate::specs::Odd::is_similar))]
+fn is_similar(symbol: &Symbol, other: &Symbol) -> bool
+    ensures { result ≡ is_similar symbol.now other.now }
+{
+    let (bits, name, own) = (
+        other.masked_type(),
+        symbol.name.as_bytes(),
+        other.name.as_bytes(),
+    );
+    if bits < 2 || bits > 4 {
+        false
+    } else if name == own {
+        !other.is_external()
+    } else {
+        has_capital(name) && name.eq_ignore_ascii_case(own)
+    }
+}
+
+/// Whether an undefined symbol was probably meant to be one of these.
+fn is_similar_to_any(symbol: &Symbol, symbols: &[Symbol]) -> bool
+    ensures { result ≡ list_any (is_similar symbol.now) symbols.now }
+{
+    symbols.iter().any(|other| is_similar(symbol, other))
+}
+
+/// Whether an undefined symbol of an object was probably meant to be another one. A large table is not searched.
+fn has_similar(file: &File, symbol: &Symbol) -> bool
+    ensures { result ≡ has_similar file.now symbol.now }
+{
+    file.symbols().len() <= 512
+        && is_mention(file, symbol)
+        && is_similar_to_any(symbol, file.symbols())
+}
+
+/// The number of the first such symbol.
+fn first_similar(file: &File, symbol: &Symbol) -> usize {
+    let first = file
+        .symbols()
+        .iter()
+        .position(|other| is_similar(symbol, other));
+    first.unwrap_or(0)
+}
+
+/// Adds an undefined symbol to which no word refers, or that was probably meant to be another one.
+fn find_mention(
+    findings: &mut Findings,
+    file: &File,
+    used: &[bool],
+    place: usize,
+    number: usize,
+    symbol: &Symbol,
+)
+    requires there { number < length used.now }
+    requires used { get_or used.now number false ≡ is_used file.now number }
+    ensures { Finds findings.old findings.new (odd_mention file.now place number symbol.now) }
+{
+    let title = Title { number, symbol };
+    findings.find_if_as(
+        false,
+        is_unused(file, used, number, symbol),
+        place,
+        FindingKind::UnusedName,
+        format_args!("{title} is undefined, and no word refers to it"),
+    );
+    if has_similar(file, symbol) {
+        let other = first_similar(file, symbol);
+        findings.find_if_as(
+            false,
+            true,
+            place,
+            FindingKind::SimilarName,
+            format_args!("{title} is undefined, and symbol {other} of the same letters is not"),
+        );
+    }
 }
 
 /// Adds what is odd of a symbol, whose name an earlier one has first, if one has it.
@@ -237,14 +328,7 @@ fn find_symbol(
     let place = symbol_at(header, number);
     find_name(findings, source.bytes, place, first, number, symbol);
     find_fields(findings, file, source.commons, place, number, symbol);
-    let title = Title { number, symbol };
-    findings.find_if_as(
-        false,
-        is_unused(file, used, number, symbol),
-        place,
-        FindingKind::UnusedName,
-        format_args!("{title} is undefined, and no word refers to it"),
-    );
+    find_mention(findings, file, used, place, number, symbol);
 }
 
 /// The number that was noted first with a name, which is noted if none was.
