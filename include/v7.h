@@ -364,7 +364,9 @@ enum v7_remark_kind {
     V7_REMARK_ODD_OPERAND = 33,
     V7_REMARK_NO_END = 34,
     /* odd */
-    V7_REMARK_SIMILAR_NAME = 35
+    V7_REMARK_SIMILAR_NAME = 35,
+    /* suspicious */
+    V7_REMARK_UNSUITABLE_LINK = 36
 };
 struct v7_remark {
     size_t place;     /* the byte of the file, from 0 */

@@ -50,7 +50,7 @@ MOST_ALIKE = 4
 OUTSIDE = re.compile(r"the word( at \d+ is of kind (\w+) and refers to \d+; .*)")
 # what is odd of instructions; and what is said if more is odd than is shown
 SUSPICIOUS = re.compile(r"the first word of the|the pc bit of|an instruction leads to|is cut by the end of|the branch at|"
-                        r"the word at \d+ (?:counts|is of a call|adds|leads to|jumps)|is of the last instruction of text")
+                        r"the word at \d+ (?:counts|is of a call|adds|leads to|jumps|calls csv)|is of the last instruction of text")
 DOUBT = ", if this is"
 # what right objects may have too
 MEANT = ": a mistake, if this is not meant"

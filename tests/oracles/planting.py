@@ -233,6 +233,17 @@ def add_common(file, at):
     file.words[at] = (file.words[at] + file.symbols[file.relocation[at] >> 4][2]) % 65536
 
 
+def named_after_a_local(change):
+    """An undefined name that words refer to was meant to be a local, whose .globl or whose capitals are forgotten."""
+    def changed(file, at):
+        defined = symbols(file, *DEFINED)
+        if defined:
+            without_040(file, defined[0])
+            file.symbols[at] = (change(file.symbols[defined[0]][0]), 0o40, 0)
+        return bool(defined)
+    return changed
+
+
 def garbage_after_name(name, kind, value):
     end = name.find(b"\0")
     return (name[:end + 1] + b"x" * (7 - end), kind, value) if 0 < end < 7 else None
@@ -380,4 +391,7 @@ MISTAKES = {
     "bss without its size ?": header(bss=lambda size: 0),
     "an odd size of bss": header(bss=lambda size: size + 1),
     "an entry point in an object": header(entry=lambda entry: 2),
+    "an undefined name of a local ?": at_one(undefined, named_after_a_local(bytes)),
+    "an undefined name in capitals ?": at_one(undefined, named_after_a_local(bytes.upper)),
+    "csv called by r4 ?": at_one(lambda file: [0] if file.words[:1] == [0o004567] else [], word_plus(-0o100)),
 }

@@ -40,6 +40,7 @@ kind_number kinds.UnsuitableJump = 32
 kind_number kinds.OddOperand = 33
 kind_number kinds.NoEnd = 34
 kind_number kinds.SimilarName = 35
+kind_number kinds.UnsuitableLink = 36
 
 pub record Found : Type 0 where
   pub place : ℕ

@@ -2,7 +2,8 @@
 --
 -- `jmp` and `jsr` lead to memory: not to a register, nor to `$N`, which is their own word. A word of memory has an even address: that of
 -- `A` and `*$A` is, but for an external, which may lie at an odd one, and of `N(r5)` and `N(sp)`, since both registers are even. Both are as
--- sure as the line. An instruction that goes on at the end of a text is never sure: the next object's text may follow.
+-- sure as the line. An instruction that goes on at the end of a text is never sure: the next object's text may follow. The csv of C returns by
+-- r5, but another csv may not, so a call of it with another link is never sure.
 use Rattle.std.specs.Prelude.{ℕ, ◌+◌, ◌/◌, ◌%◌, Bool, false, not, ◌&&◌, ◌||◌, eqb, if◌then◌else◌, List, [], ◌++◌, length, slice_get}
 use Rattle.std.specs.Prelude.{slice_index, Option, Some, None}
 use Rattle.aout_core.specs.{declared.reloc.Reloc.Reloc, Contents.Contents}
@@ -12,12 +13,16 @@ use Rattle.instructions.specs.{declared.unix.UnixLine.UnixLine, declared.unix.Un
 use Rattle.instructions.specs.{declared.mode.Register.TheVariants.{R5, Sp}, declared.operand.Operand.Operand}
 use Rattle.instructions.specs.{Instructions.{jumps, word_count_of}, Targets.number, UnixLines.unix_length}
 use Rattle.instructions.specs.declared.mode.Addressing.TheVariants as ways
-use Rattle.checks.specs.{declared.trust.Trust.Trust, Branches.word_place, Reached.flows}
-use Rattle.checks.specs.{declared.finding.FindingKind.TheVariants.{UnsuitableJump, OddOperand, NoEnd}, Found.{Found, found_as}}
+use Rattle.checks.specs.{declared.trust.Trust.Trust, Branches.word_place, Reached.{flows, is_external_csv}}
+use Rattle.checks.specs.{declared.finding.FindingKind.TheVariants.{UnsuitableJump, UnsuitableLink, OddOperand, NoEnd}, Found.{Found, found_as}}
 
 -- the destination of this word of `jmp` or `jsr` is a register, or `$N`
 abbrev pub leads_nowhere : ℕ → Bool
 leads_nowhere w = eqb (w / 8 % 8) 0 || eqb (w % 64) 0o27
+
+-- this word of `jsr` has another link than r5, and an operand of mode 67
+abbrev pub has_other_link : ℕ → Bool
+has_other_link w = eqb (w / 0o1000) 4 && (eqb (w % 64) 0o67 && not (eqb w 0o4567))
 
 -- the operands in memory are words: no bytes, and no numbers of floating point
 abbrev pub has_words : ℕ → Bool
@@ -41,10 +46,17 @@ odd_operand c t place (Some (General m r)) word =
     found_as t.is_sure (is_odd (addressing m r) r word (slice_get c.text_reloc place)) (word_place place) OddOperand
 odd_operand c t place _ word = []
 
+-- a jump or a call at a place that has this first word
+abbrev pub suspicious_jump : Contents → Trust → ℕ → ℕ → List Found
+suspicious_jump c t place first =
+    found_as t.is_sure (leads_nowhere first) (word_place place) UnsuitableJump
+    ++ found_as false (has_other_link first && is_external_csv c (slice_get c.text_reloc (place + 1)))
+    (word_place place) UnsuitableLink
+
 abbrev pub suspicious_uses : Contents → Trust → ℕ → UnixLine → List Found
 suspicious_uses c t place (Machine (Decoded i a b)) =
     if t.is_reached then
-    (if jumps i.row.operation then found_as t.is_sure (leads_nowhere (slice_index c.text_words place)) (word_place place) UnsuitableJump
+    (if jumps i.row.operation then suspicious_jump c t place (slice_index c.text_words place)
     else (if has_words (slice_index c.text_words place)
     then odd_operand c t (place + 1) i.first (number a) ++ odd_operand c t (place + 1 + word_count_of i.first) i.second (number b) else [])
     ++ found_as false (eqb (place + unix_length (Machine (Decoded i a b))) (length c.text_words) && flows c place i) (word_place place) NoEnd)

@@ -80,8 +80,10 @@ pub enum FindingKind {
     OddOperand = 33,
     /// The text ends after an instruction that goes on.
     NoEnd = 34,
-    /// A name is undefined, and that of another symbol is the same but for capitals.
+    /// A name is undefined, and a symbol that is defined has it but for capitals, or is a local of it.
     SimilarName = 35,
+    /// A call has another link than the register by which the called function returns.
+    UnsuitableLink = 36,
 }
 
 impl FindingKind {

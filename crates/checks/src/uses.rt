@@ -1,13 +1,14 @@
 //! What is suspicious of instructions by themselves.
 ghost use Rattle.std.specs.Prelude.{◌≡◌, ◌+◌, ◌&&◌, ◌^◌, ◌<◌, ◌≤◌, eqb, false, true, length};
 ghost use Rattle.checks.specs.{Branches.word_place, Reached.flows};
-ghost use Rattle.checks.specs.Uses.{leads_nowhere, has_words, counts_from_even, is_odd, odd_operand, suspicious_uses};
+ghost use Rattle.checks.specs.Uses.{leads_nowhere, has_other_link, has_words, counts_from_even, is_odd, odd_operand};
+ghost use Rattle.checks.specs.Uses.{suspicious_jump, suspicious_uses};
 ghost use Rattle.checks.specs.{Found.{Finds, found_as}, declared.finding.FindingKind.TheVariants.NoEnd};
 ghost use Rattle.instructions.specs.UnixLines.{unix_length};
 
-use crate::finding::FindingKind::{self, NoEnd, OddOperand, UnsuitableJump};
+use crate::finding::FindingKind::{self, NoEnd, OddOperand, UnsuitableJump, UnsuitableLink};
 use crate::finding::Findings;
-use crate::leads::{flows, reloc_at};
+use crate::leads::{flows, is_external_csv, reloc_at};
 use crate::suspect::{Suspect, doubt_text, word_place};
 use aout_core::Reloc;
 use instructions::{Addressing, Instruction, Line, Operand, Register, UnixLine};
@@ -17,6 +18,13 @@ fn leads_nowhere(word: u16) -> bool
     ensures { result ≡ leads_nowhere word }
 {
     word / 8 % 8 == 0 || word % 64 == 0o27
+}
+
+/// Whether this first word of `jsr` has another link than r5, and an operand of mode 67.
+fn has_other_link(word: u16) -> bool
+    ensures { result ≡ has_other_link word }
+{
+    word / 0o1000 == 4 && word % 64 == 0o67 && word != 0o4567
 }
 
 /// Whether the operands in memory of an instruction with this first word are words.
@@ -113,6 +121,22 @@ fn find_no_end(findings: &mut Findings, at: &Suspect<'_>, instruction: &Instruct
     }
 }
 
+/// Adds a jump or a call with this first word.
+fn find_jump(findings: &mut Findings, at: &Suspect<'_>, first: u16)
+    ensures { Finds findings.old findings.new
+        (suspicious_jump at.now.lines.sweep.now at.now.trust at.now.start first) }
+{
+    let (file, is_sure) = (at.lines.sweep.file(), at.trust.is_sure);
+    if leads_nowhere(first) {
+        let said = "jumps or calls, and leads to no place of memory";
+        find_use(findings, at, is_sure, at.start, UnsuitableJump, said);
+    }
+    if has_other_link(first) && is_external_csv(file, reloc_at(file, at.start + 1)) {
+        let said = "calls csv, which returns by r5";
+        find_use(findings, at, false, at.start, UnsuitableLink, said);
+    }
+}
+
 /// Adds what is suspicious of a line by itself, if it is reached.
 pub(crate) fn find_uses(findings: &mut Findings, at: &Suspect<'_>, line: &UnixLine)
     requires { unix_length line.now ≤ 5 }
@@ -125,14 +149,10 @@ pub(crate) fn find_uses(findings: &mut Findings, at: &Suspect<'_>, line: &UnixLi
     if !at.trust.is_reached {
         return;
     }
-    let (is_sure, place) = (at.trust.is_sure, at.start + 1);
+    let place = at.start + 1;
     let first = at.lines.sweep.file().text_words()[at.start];
     if instruction.row.operation.jumps() {
-        if leads_nowhere(first) {
-            let said = "jumps or calls, and leads to no place of memory";
-            find_use(findings, at, is_sure, at.start, UnsuitableJump, said);
-        }
-        return;
+        return find_jump(findings, at, first);
     }
     if has_words(first) {
         let later = place + instruction.words_before_second();

@@ -40,7 +40,7 @@ pub const V7_REMARK_NO_INSTRUCTION: u32 = 24; pub const V7_REMARK_BRANCH_OUTSIDE
 pub const V7_REMARK_UNSUITABLE_REFERENCE: u32 = 27; pub const V7_REMARK_UNSUITABLE_ADDRESS: u32 = 28;
 pub const V7_REMARK_ABSOLUTE_TEXT: u32 = 29; pub const V7_REMARK_NO_ROOM: u32 = 30; pub const V7_REMARK_UNUSED_NAME: u32 = 31;
 pub const V7_REMARK_UNSUITABLE_JUMP: u32 = 32; pub const V7_REMARK_ODD_OPERAND: u32 = 33; pub const V7_REMARK_NO_END: u32 = 34;
-pub const V7_REMARK_SIMILAR_NAME: u32 = 35;
+pub const V7_REMARK_SIMILAR_NAME: u32 = 35; pub const V7_REMARK_UNSUITABLE_LINK: u32 = 36;
 // enum v7_link_option
 pub const V7_RELOCATABLE: u32 = 1; pub const V7_STRIP: u32 = 2; pub const V7_EXTERNALS: u32 = 4; pub const V7_NOT_L: u32 = 8;
 pub const V7_PURE: u32 = 16; pub const V7_SPLIT: u32 = 32; pub const V7_FORCE_COMMONS: u32 = 64;
