@@ -43,8 +43,6 @@ SEGMENTS = {2: "text", 3: "data", 4: "bss"}
 TYPES = (0, 1, 2, 3, 4, 0o24, 0o37)
 # the most bad relocation words, and the most odd things, that are shown one by one
 MOST = 16
-# the most symbols of a table in which names are compared
-MOST_LIKE = 512
 # the most words of one kind that refer outside of its segment and have a line each; more have one together
 MOST_ALIKE = 4
 OUTSIDE = re.compile(r"the word( at \d+ is of kind (\w+) and refers to \d+; .*)")
@@ -308,16 +306,20 @@ def odd_words(file):
                                                 f"{lies(file, segment, to)}" + unless(sure))
 
 
-def likeness(file, name):
-    """The first symbol of text, data or bss that an undefined name was probably meant to be."""
-    for number, (other, _, kind, _) in enumerate(file.symbols()):
-        is_like = not kind & 0o40 if other == name else name != name.lower() and name.lower() == other.lower()
-        if SEGMENTS.get(kind & 0o37) and is_like:
-            yield number
-            return
+def likeness(symbols):
+    """A function for the number of the symbol of text, data or bss that an undefined name was probably meant to be: the first local of this
+    name or, if the name has a capital, the first symbol with another name of the same letters. None if there is none."""
+    placed = [(number, name, kind) for number, (name, _, kind, _) in enumerate(symbols) if SEGMENTS.get(kind & 0o37)]
+    local, letters = {}, collections.defaultdict(list)
+    for number, name, kind in placed:
+        if not kind & 0o40:
+            local.setdefault(name, number)
+        letters[name.lower()].append((number, name))
+    return lambda name: local.get(name, next(
+        (number for number, other in letters[name.lower()] if name != name.lower() and other != name), None))
 
 
-def odd_symbol(file, number, symbol, first, used):
+def odd_symbol(file, number, symbol, first, used, like):
     """What is odd of a symbol, if the first external of its name has this number, and words refer to those of the numbers `used`."""
     name, field, kind, value = symbol
     if not name:
@@ -345,19 +347,18 @@ def odd_symbol(file, number, symbol, first, used):
             yield 10, f"of {segment} has value {value:06o}, and {lies(file, segment, value)}" + unless(sure)
     if is_undefined(kind) and not value and file.flag == 0 and number not in used:
         yield 0, "is undefined, and no word refers to it" + MEANT
-    if is_undefined(kind) and not value and file.flag == 0 and len(file.symbols()) <= MOST_LIKE:
-        for other in likeness(file, name):
-            yield 0, f"is undefined, and symbol {other} of the same letters is not" + MEANT
+    if is_undefined(kind) and not value and file.flag == 0 and like(name) is not None:
+        yield 0, f"is undefined, and symbol {like(name)} of the same letters is not" + MEANT
 
 
 def odd_of(file):
     """What is odd of a file, each with its byte, but for what is odd of its instructions, which comes last."""
     odd, firsts = [*odd_header(file), *odd_words(file)], {}
-    used = {reloc >> 4 for _, _, reloc in file.words() if reloc & 0o16 == 0o10}
+    used, like = {reloc >> 4 for _, _, reloc in file.words() if reloc & 0o16 == 0o10}, likeness(file.symbols())
     for number, symbol in enumerate(file.symbols()):
         at, title = file.symbols_at + 12 * number, f"symbol {number} {shown(symbol[0])}"
         first = firsts.setdefault(symbol[0], number) if symbol[2] & 0o40 else number
-        odd += [(at + place, f"{title} {text}") for place, text in odd_symbol(file, number, symbol, first, used)]
+        odd += [(at + place, f"{title} {text}") for place, text in odd_symbol(file, number, symbol, first, used, like)]
     return odd
 
 

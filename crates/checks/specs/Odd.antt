@@ -82,21 +82,21 @@ odd_fields commons c place s =
     ++ found_if (is_undefined s && nat_lt 0o157777 s.value) (place + 10) NoRoom
     ++ found_as (is_sure_value c s) (not (has_address c.header (segment_of s) s.value)) (place + 10) OutsideValue
 
--- an external has a name; names are equal in eight bytes
-abbrev pub has_name : Symbol → List ℕ → Bool
-has_name s name = is_external s && bytes_eq s.name name
+-- a symbol of a kind has a name; names are equal in eight bytes
+abbrev pub has_name : (Symbol → Bool) → Symbol → List ℕ → Bool
+has_name is_of s name = is_of s && bytes_eq s.name name
 
--- the number of the first external that has a name, if the first of these symbols has number n
-abbrev pub first_named_from : ℕ → List ℕ → List Symbol → Option ℕ
-first_named_from n name [] = None
-first_named_from n name (s ∷ ss) = if has_name s name then Some n else first_named_from (n + 1) name ss
+-- the number of the first symbol of a kind that has a name, if the first of these symbols has number n
+abbrev pub first_named_from : (Symbol → Bool) → ℕ → List ℕ → List Symbol → Option ℕ
+first_named_from is_of n name [] = None
+first_named_from is_of n name (s ∷ ss) = if has_name is_of s name then Some n else first_named_from is_of (n + 1) name ss
 
-abbrev pub first_named : List ℕ → List Symbol → Option ℕ
-first_named name symbols = first_named_from 0 name symbols
+abbrev pub first_named : (Symbol → Bool) → List ℕ → List Symbol → Option ℕ
+first_named is_of name symbols = first_named_from is_of 0 name symbols
 
 -- the number of the first of these that has the name of an external; locals may have any names
 abbrev pub first_alike : Symbol → List Symbol → Option ℕ
-first_alike s earlier = if is_external s then first_named s.name earlier else None
+first_alike s earlier = if is_external s then first_named is_external s.name earlier else None
 
 abbrev pub symbol_at : Header → ℕ → ℕ
 symbol_at h n = symbols_at h + 12 * n
@@ -115,17 +115,22 @@ is_mention c s = eqb c.header.flag 0 && (is_undefined s && eqb s.value 0)
 abbrev pub is_unused : Contents → ℕ → Symbol → Bool
 is_unused c n s = is_mention c s && not (is_used c n)
 
--- text, data or bss has a local of the same name, or a symbol of that name with small letters in place of capitals. A function may be named
--- as one that it calls but for a capital, as `_Exit` and `_exit`
-unfoldable pub is_similar : Symbol → Symbol → Bool
-is_similar s t =
-    if nat_lt (masked_type t) 2 || nat_lt 4 (masked_type t) then false
-    else (if bytes_eq s.name t.name then not (is_external t)
-    else list_any is_ascii_uppercase s.name && str_eq_ignore_ascii_case s.name t.name)
+-- a symbol of text, data or bss
+abbrev pub is_placed : Symbol → Bool
+is_placed s = not (nat_lt (masked_type s) 2) && not (nat_lt 4 (masked_type s))
 
--- a table of more than 512 symbols is not searched: the time would grow with their square
+abbrev pub is_placed_local : Symbol → Bool
+is_placed_local s = not (is_external s) && is_placed s
+
+-- its name is another one of the same letters
+abbrev pub is_like : List ℕ → Symbol → Bool
+is_like name s = is_placed s && (not (bytes_eq s.name name) && str_eq_ignore_ascii_case s.name name)
+
+-- an undefined symbol was probably meant to be a local of its name, or has a capital, and a symbol has another name of the same letters. A
+-- function may be named as one that it calls but for a capital, as `_Exit` and `_exit`
 abbrev pub has_similar : Contents → Symbol → Bool
-has_similar c s = nat_le (length c.symbols) 512 && (is_mention c s && list_any (is_similar s) c.symbols)
+has_similar c s = is_mention c s && (is_some (first_named is_placed_local s.name c.symbols)
+    || (list_any is_ascii_uppercase s.name && list_any (is_like s.name) c.symbols))
 
 -- an undefined symbol that no word uses, or that was probably meant to be another one
 abbrev pub odd_mention : Contents → ℕ → ℕ → Symbol → List Found

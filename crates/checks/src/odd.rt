@@ -3,8 +3,8 @@ ghost use Rattle.std.specs.Prelude.{◌≡◌, ◌^◌, ◌<◌, ◌&&◌, ◌||
 ghost use Rattle.std.specs.{Ordering.nat_cmp, Char.is_ascii_uppercase};
 ghost use Rattle.std.specs.{Prelude.{OnOk, List, ℕ}, List.{flat_map, list_any}, BTreeMap.get, Cmp.Lexicographic.slice_cmp};
 ghost use Rattle.aout_core.specs.{WellFormed.is_external, Placed.{placed_word, placed_words, relocs_of, words_of}};
-ghost use Rattle.checks.specs.Odd.{after_name, first_alike, has_name, has_type, ignores_number, is_hidden, odd, odd_fields, odd_header};
-ghost use Rattle.checks.specs.Odd.{odd_rest, odd_name, refers_to, is_used, is_mention, is_unused, is_similar, has_similar, odd_mention, odd_reloc, odd_symbol, odd_symbols, odd_word};
+ghost use Rattle.checks.specs.Odd.{after_name, first_alike, first_named, has_type, ignores_number, is_hidden, odd, odd_fields, odd_header};
+ghost use Rattle.checks.specs.Odd.{odd_rest, odd_name, refers_to, is_used, is_mention, is_unused, is_placed, is_placed_local, is_like, has_similar, odd_mention, odd_reloc, odd_symbol, odd_symbols, odd_word};
 ghost use Rattle.checks.specs.{Found.{each_found, Finds}, Segments.segment_meant, Outside.is_byte, internal.Marks.AreUsed};
 
 use crate::finding::{Finding, FindingKind, Findings};
@@ -230,47 +230,67 @@ fn has_capital(name: &[u8]) -> bool
     name.iter().any(|byte| byte.is_ascii_uppercase())
 }
 
-/// Whether an undefined symbol was probably meant to be another one.
-#[tactic(auto, unfolding(crate::specs::Odd::is_similar))]
-fn is_similar(symbol: &Symbol, other: &Symbol) -> bool
-    ensures { result ≡ is_similar symbol.now other.now }
+/// Whether a symbol is of text, data or bss.
+fn is_placed(symbol: &Symbol) -> bool
+    ensures { result ≡ is_placed symbol.now }
 {
-    let (bits, name, own) = (
-        other.masked_type(),
-        symbol.name.as_bytes(),
-        other.name.as_bytes(),
-    );
-    if bits < 2 || bits > 4 {
-        false
-    } else if name == own {
-        !other.is_external()
-    } else {
-        has_capital(name) && name.eq_ignore_ascii_case(own)
+    let bits = symbol.masked_type();
+    bits >= 2 && bits <= 4
+}
+
+/// Whether a symbol is a local of text, data or bss.
+fn is_placed_local(symbol: &Symbol) -> bool
+    ensures { result ≡ is_placed_local symbol.now }
+{
+    !symbol.is_external() && is_placed(symbol)
+}
+
+/// Whether a symbol of text, data or bss has another name of the same letters.
+fn is_like(name: &[u8], symbol: &Symbol) -> bool
+    ensures { result ≡ is_like name.now symbol.now }
+{
+    let own = symbol.name.as_bytes();
+    is_placed(symbol) && own != name && own.eq_ignore_ascii_case(name)
+}
+
+/// Whether one of these symbols has another name of the same letters.
+fn is_any_like(name: &[u8], symbols: &[Symbol]) -> bool
+    ensures { result ≡ list_any (is_like name.now) symbols.now }
+{
+    symbols.iter().any(|other| is_like(name, other))
+}
+
+/// The numbers of the locals of text, data and bss by their names, of each name the first.
+fn local_names(alloc: Global, symbols: &[Symbol]) -> Result<BTreeMap<Name, usize>, AllocError>
+    ensures { IfOk result (λ locals. (name : List ℕ) → get (slice_cmp nat_cmp) locals name
+        ≡ first_named is_placed_local name symbols.now) }
+{
+    let mut locals = BTreeMap::new(alloc);
+    for (number, symbol) in symbols.iter().enumerate() {
+        first_alike(&mut locals, is_placed_local(symbol), symbol.name, number)?;
     }
+    Ok(locals)
 }
 
-/// Whether an undefined symbol was probably meant to be one of these.
-fn is_similar_to_any(symbol: &Symbol, symbols: &[Symbol]) -> bool
-    ensures { result ≡ list_any (is_similar symbol.now) symbols.now }
-{
-    symbols.iter().any(|other| is_similar(symbol, other))
-}
-
-/// Whether an undefined symbol of an object was probably meant to be another one. A large table is not searched.
-fn has_similar(file: &File, symbol: &Symbol) -> bool
+/// Whether an undefined symbol of an object was probably meant to be another one.
+fn has_similar(file: &File, locals: &BTreeMap<Name, usize>, symbol: &Symbol) -> bool
+    requires locals { (name : List ℕ) → get (slice_cmp nat_cmp) locals.now name
+        ≡ first_named is_placed_local name file.now.symbols }
     ensures { result ≡ has_similar file.now symbol.now }
 {
-    file.symbols().len() <= 512
-        && is_mention(file, symbol)
-        && is_similar_to_any(symbol, file.symbols())
+    let name = symbol.name.as_bytes();
+    is_mention(file, symbol)
+        && (locals.get(&symbol.name).is_some()
+            || (has_capital(name) && is_any_like(name, file.symbols())))
 }
 
 /// The number of the first such symbol.
-fn first_similar(file: &File, symbol: &Symbol) -> usize {
-    let first = file
-        .symbols()
-        .iter()
-        .position(|other| is_similar(symbol, other));
+fn first_similar(file: &File, locals: &BTreeMap<Name, usize>, symbol: &Symbol) -> usize {
+    if let Some(number) = locals.get(&symbol.name) {
+        return *number;
+    }
+    let name = symbol.name.as_bytes();
+    let first = file.symbols().iter().position(|other| is_like(name, other));
     first.unwrap_or(0)
 }
 
@@ -279,12 +299,15 @@ fn find_mention(
     findings: &mut Findings,
     file: &File,
     used: &[bool],
+    locals: &BTreeMap<Name, usize>,
     place: usize,
     number: usize,
     symbol: &Symbol,
 )
     requires there { number < length used.now }
     requires used { get_or used.now number false ≡ is_used file.now number }
+    requires locals { (name : List ℕ) → get (slice_cmp nat_cmp) locals.now name
+        ≡ first_named is_placed_local name file.now.symbols }
     ensures { Finds findings.old findings.new (odd_mention file.now place number symbol.now) }
 {
     let title = Title { number, symbol };
@@ -295,8 +318,8 @@ fn find_mention(
         FindingKind::UnusedName,
         format_args!("{title} is undefined, and no word refers to it"),
     );
-    if has_similar(file, symbol) {
-        let other = first_similar(file, symbol);
+    if has_similar(file, locals, symbol) {
+        let other = first_similar(file, locals, symbol);
         findings.find_if_as(
             false,
             true,
@@ -312,6 +335,7 @@ fn find_symbol(
     findings: &mut Findings,
     source: &Source<'_>,
     used: &[bool],
+    locals: &BTreeMap<Name, usize>,
     number: usize,
     first: Option<usize>,
     symbol: &Symbol,
@@ -319,6 +343,8 @@ fn find_symbol(
     requires few { number < 65536 }
     requires there { number < length used.now }
     requires used { get_or used.now number false ≡ is_used source.now.sweep.now number }
+    requires locals { (name : List ℕ) → get (slice_cmp nat_cmp) locals.now name
+        ≡ first_named is_placed_local name source.now.sweep.now.symbols }
     requires first { first ≡ first_alike symbol.now (take number source.now.sweep.now.symbols) }
     ensures { Finds findings.old findings.new (odd_symbol source.now.commons source.now.sweep.now source.now.bytes.now
         (first_alike symbol.now (take number source.now.sweep.now.symbols)) number symbol.now) }
@@ -328,7 +354,7 @@ fn find_symbol(
     let place = symbol_at(header, number);
     find_name(findings, source.bytes, place, first, number, symbol);
     find_fields(findings, file, source.commons, place, number, symbol);
-    find_mention(findings, file, used, place, number, symbol);
+    find_mention(findings, file, used, locals, place, number, symbol);
 }
 
 /// The number that was noted first with a name, which is noted if none was.
@@ -349,23 +375,23 @@ fn first_noted(
     Ok(None)
 }
 
-/// The number of the first external so far that has the name of an external, which is noted if none has it.
+/// The number that was noted first with a name, which is noted if none was, if that is asked for.
 fn first_alike(
     seen: &mut BTreeMap<Name, usize>,
-    symbol: &Symbol,
+    is_asked: bool,
+    name: Name,
     number: usize,
 ) -> Result<Option<usize>, AllocError>
-    ensures first { IfOk result (λ first. first ≡ (if is_external symbol.now
-        then get (slice_cmp nat_cmp) seen.old symbol.now.name else None)) }
+    ensures first { IfOk result (λ first. first ≡ (if is_asked
+        then get (slice_cmp nat_cmp) seen.old name else None)) }
     ensures noted { OnOk result ((other : List ℕ) → get (slice_cmp nat_cmp) seen.new other
-        ≡ (if has_name symbol.now other
-        && not (is_some (get (slice_cmp nat_cmp) seen.old symbol.now.name))
+        ≡ (if (is_asked && bytes_eq name other) && not (is_some (get (slice_cmp nat_cmp) seen.old name))
         then Some number else get (slice_cmp nat_cmp) seen.old other)) }
 {
-    if !symbol.is_external() {
+    if !is_asked {
         return Ok(None);
     }
-    first_noted(seen, symbol.name, number)
+    first_noted(seen, name, number)
 }
 
 fn find_symbols(findings: &mut Findings, source: &Source<'_>)
@@ -373,15 +399,20 @@ fn find_symbols(findings: &mut Findings, source: &Source<'_>)
         (odd_symbols source.now.commons source.now.sweep.now source.now.bytes.now 0
         source.now.sweep.now.symbols) }
 {
-    let mut seen = BTreeMap::new(findings.allocator());
-    let used = match used_in(findings.allocator(), source.sweep.file()) {
+    let file = source.sweep.file();
+    let (alloc, symbols) = (findings.allocator(), file.symbols());
+    let mut seen = BTreeMap::new(alloc);
+    let used = match used_in(alloc, file) {
         Ok(used) => used,
         Err(error) => return findings.cut(error),
     };
-    let symbols = source.sweep.file().symbols();
+    let locals = match local_names(alloc, symbols) {
+        Ok(locals) => locals,
+        Err(error) => return findings.cut(error),
+    };
     for (number, symbol) in symbols.iter().enumerate() {
-        match first_alike(&mut seen, symbol, number) {
-            Ok(first) => find_symbol(findings, source, &used, number, first, symbol),
+        match first_alike(&mut seen, symbol.is_external(), symbol.name, number) {
+            Ok(first) => find_symbol(findings, source, &used, &locals, number, first, symbol),
             Err(error) => return findings.cut(error),
         }
     }
