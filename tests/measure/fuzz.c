@@ -1,8 +1,8 @@
 /* Calls of libv7 with bytes that libFuzzer makes. The first byte chooses a call, the next two its options; the rest is a file, a listing,
  * an object of GNU's assembler, or a list of objects, each after two bytes with its size. What is asserted of each call: status and fault
  * agree; it takes a buffer of the size that it names, and with one byte less writes nothing. And of calls together: what is stripped is
- * stripped already; a listing is read as its file; parts link as the file does; a partial link links as its objects do; a session links as
- * they do afresh; what is added and withdrawn leaves its state as it was. */
+ * stripped already; a listing is read as its file; parts link as the file does; a linked file has each object at some place; a partial link
+ * links as its objects do; a session links as they do afresh; what is added and withdrawn leaves its state as it was. */
 #define _GNU_SOURCE
 #include <stdio.h>
 #include <stdlib.h>
@@ -130,6 +130,16 @@ static void drop(struct linked of)
     free(of.file.at), free(of.report.at);
 }
 
+/* a linked file has each of its objects at some place */
+static void find_all(struct linked made, const struct v7_slice *objects, size_t count)
+{
+    struct v7_answer answer;
+    for (size_t i = 0; made.file.at && i < count; i++)
+        HOLDS(v7_places(made.file.at, made.file.size, objects[i].bytes, objects[i].size, NULL, 0, &answer) == 2
+              && answer.fault == V7_NO_ROOM);
+    drop(made);
+}
+
 /* two links are alike */
 static void compare(struct linked one, struct linked other)
 {
@@ -216,7 +226,7 @@ static void do_list(unsigned chosen, uint32_t options, struct bytes of)
         objects[count++] = (struct v7_slice){object.at, object.size};
         at += 2 + object.size;
     }
-    if (chosen == 0) drop(link_of(objects, count, options & 127, NULL));
+    if (chosen == 0) find_all(link_of(objects, count, options & 127, NULL), objects, count);
     else if (chosen == 1) link_in_two_steps(options, objects, count);
     else edit(options, objects, count);
     while (count--) free((void *)objects[count].bytes);
