@@ -11,17 +11,17 @@ const decoded = (text) => bytesOf(atob(text.replace(/-/g, "+").replace(/_/g, "/"
 const MOST_IN_ADDRESS = 6000;
 function objectsInHash() {
     if (DATA.set >= 0) return DATA.set > 0 ? [`set=${DATA.set + 1}`] : [];
-    if (DATA.objects.reduce((sum, { bytes }) => sum + bytes.length, 0) > MOST_IN_ADDRESS) return ["own="];
+    if (DATA.objects.reduce((sum, { bytes }) => sum + bytes.length, 0) > MOST_IN_ADDRESS) return ["own=large"];
     return [`own=${DATA.objects.map(({ bytes }, number) => `${coded(new TextEncoder().encode(label(number)))}:${coded(bytes)}`).join()}`];
 }
 
 // takes the objects that an address has: why there are none, or nothing
 function takeOwn(own) {
-    if (own === "") return "Objects of your own were too large for the address: Save page keeps them.";
+    const words = own === "large" ? "" : own;
     try {
-        takeObjects(own.split(",").map((one) => one.split(":").map(decoded))
+        takeObjects(words.split(",").filter(Boolean).map((one) => one.split(":").map(decoded))
             .map(([name, bytes]) => ({ path: new TextDecoder().decode(name), bytes })), "");
-        return "";
+        return words === own ? "" : "Objects of your own were too large for the address: Save page keeps them.";
     } catch (fault) {
         if (endsLinker(fault)) throw fault;
         return "The address has no objects that could be read.";
@@ -34,7 +34,7 @@ function restoreObjects(words) {
     const number = own === null ? Math.max(0, Math.min(SETS.length, Number(words.get("set") ?? 1)) - 1) || 0 : -1;
     const asked = { entry: words.get("entry") ?? "", forced: (words.get("forced") ?? "").split(",").filter(Boolean) };
     if (JSON.stringify(asked) !== JSON.stringify(ASKED)) askFor(asked);
-    if (number >= 0 ? number === DATA.set : objectsInHash()[0] === `own=${own}`) return;
+    if (number === DATA.set && (number >= 0 || objectsInHash()[0] === `own=${own}`)) return;
     DATA.set = number;
     const fault = number < 0 ? takeOwn(own) : takeObjects(decodedObjects(SETS[number].objects), SETS[number].lessons);
     refuse(fault ? [fault] : []);
