@@ -6,9 +6,9 @@ tier: check, 100 seconds; programs: v7-explain v7 v7-object;
  for: crates/checks crates/disassemblies crates/v7_explain docs/FORMAT.md man/v7-explain.1
 
 The files are made, the same in each run: objects whose numbers are at the edges of their ranges and beside them, and one file cut
-at each byte. There are objects with 15 to 18 bad relocation words, files with other magic numbers, flags and sizes, files of other forms,
-objects of instructions, those of examples/ and of agree.py, and these with bytes changed, cut or put in. Of 200 files that are cut, a
-listing has to have all words and symbols before the cut.
+at each byte. There are objects with 15 to 18 bad relocation words, and with 26, files with other magic numbers, flags and sizes, files of
+other forms, objects of instructions, those of examples/ and of agree.py, and these with bytes changed, cut or put in. Of 200 files that
+are cut, a listing has to have all words and symbols before the cut.
 """
 import collections
 import glob
@@ -552,7 +552,7 @@ def random_code():
 def files():
     whole = random_file(3, 2)
     yield from (whole[:size] for size in range(len(whole) + 1))
-    for bad in range(15, 19):
+    for bad in (15, 16, 17, 18, 26):
         yield pack([(0, 0o12)] * bad, [(0, 0)] * 2)
         yield pack([(0, 0o12)] * 2, [(0, 0o12)] * bad)
     for at in range(2, 10, 2):

@@ -17,7 +17,7 @@ import struct
 import sys
 
 from tests.lib.compare import notices, same
-from tests.lib.files import new_folder, read_bytes, write
+from tests.lib.files import new_folder, read, read_bytes, write
 from tests.lib.objects import pack, unpack
 from tests.lib.programs import program, ran
 
@@ -186,6 +186,11 @@ def search_long(dice):
     for folder, text, texts, count in (("one", zeros, one, 1000), ("short", few, short, 40)):
         write("first", pack(text, magic=0o411, flag=1))
         same(folder, measured(folder, ["first", *store_each(folder, texts, count)], 10, 50), 1)
+        lines = read("said").splitlines()
+        same(f"{folder}: the last line", lines[-1], "the search was stopped: it takes too long")
+        if folder == "one":
+            same("one word 0", {line.partition(": ")[2] for line in lines[2:-1]},
+                 {"fits at 32767 places", "not tried at all places, which would take too long"})
 
 
 if __name__ == "__main__":

@@ -90,6 +90,50 @@ BESIDE = {
 HELP = [([], None), (["help"], None), (["help", "help"], None), (["--help"], None), (["ld", "-r", "--help"], "ld")]
 HELP += [(words, tool) for tool in TOOLS for words in ([tool, "--help"], ["help", tool])]
 
+# what the pages of v7 say before their examples, without empty lines
+PAGES = {None: """usage: v7 COMMAND [ARGUMENT]...
+  ld       links objects into a program, or into one object
+  nm       lists the symbols of files
+  session  links step by step: objects are added and taken out again
+  size     prints the sizes of text, data and bss
+  strip    removes symbols and relocation from files
+  v7 COMMAND --help shows the options of a command.
+  v7 --version shows the version.
+""", "ld": """usage: v7 ld [-rsxXnid] [-u NAME]... [-e NAME] [-o OUTPUT] FILE...
+Links the objects FILE in order, and exits with 1 if it reports anything.
+  -o OUTPUT  writes the linked file to OUTPUT, not to a.out
+  -r         makes an object, which can be linked again
+  -s         keeps no symbols
+  -x         keeps no local symbols
+  -X         keeps no local symbols that begin with L
+  -n         begins data at a multiple of 020000, so that text can be shared
+  -i         gives text and data address spaces of their own
+  -d         with -r, lays out commons too
+  -u NAME    makes NAME undefined from the start
+  -e NAME    makes NAME the entry point
+""", "nm": """usage: v7 nm [-gnopru] [FILE]...
+Lists the symbols of each FILE, or of a.out.
+  -g       external symbols alone
+  -n       by value, not by name
+  -o       the file's name before each line
+  -p       in the order of the symbol table
+  -r       in reverse order
+  -u       undefined symbols alone
+""", "session": """usage: v7 session [-rsxXnid] [-u NAME]... [-e NAME]
+Reads commands from standard input, one on a line, and answers each.
+  add PATH    adds an object
+  withdraw    takes out the object that was added last
+  externals   lists the external names
+  undefined   lists the undefined names
+  link PATH   links the objects into a file
+  The options are those of v7 ld, and apply to each link.
+""", "size": """usage: v7 size [FILE]...
+Prints the sizes of text, data and bss of each FILE, or of a.out, in bytes,
+then their sum in decimal, and in octal. There are no options.
+""", "strip": """usage: v7 strip FILE...
+Removes the symbols and the relocation of each FILE, in place. There are no
+options.
+"""}
 COMMANDS = """add PATH, withdraw, externals, undefined and link PATH are the commands;
 list shows the objects, help this text, and quit ends the session
 """
@@ -237,9 +281,8 @@ def check_text(words, named, manual, page):
 
 
 def check_page(words, tool, page):
-    """The page of a tool, or of v7, which lists its commands."""
-    if tool is None:
-        same(f"{words}: commands", re.findall(r"^  (\w+)  +\w", page.partition("examples:\n")[0], re.M), TOOLS)
+    """The page of a tool, or of v7."""
+    same(f"{words}: the page", page.partition("\nexamples:\n")[0].replace("\n\n", "\n"), PAGES[tool])
     return check_text(words, f"v7 {tool}" if tool else "v7", f"v7-{tool}" if tool else "v7", page)
 
 
@@ -363,6 +406,7 @@ def check_session():
         done = SESSION[:2] + SESSION[8:9]
         same(f"{ending}: end without a fault", play(done, ending), (summary(ending, 3, 0), 0))
     same("one command", play(SESSION[:1], "quit"), (ONE, 0))
+    same("no command", play([], "quit"), (summary("quit", 0, 0), 0))
     # lines that are typed ahead, and a last one without a newline
     terminal = Terminal(["session"])
     terminal.shown(b"v7> ")
@@ -370,7 +414,7 @@ def check_session():
     shown, _, _, status = terminal.ended()
     same("typed ahead", (shown.replace("v7> ", ""), status), ("added k.o\nwithdrew k.o\n\n" + summary("", 3, 0), 0))
     check_mixed()
-    return 2 * len(ENDINGS) + 4
+    return 2 * len(ENDINGS) + 5
 
 
 def check_mixed():
