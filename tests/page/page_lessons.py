@@ -33,6 +33,7 @@ QUESTIONS = [
     (ONE + "ask changes Which?\nword text 4\nadd twice.o", 5, "the word at 4 does not change"),
     (TWO + "ask changes Which?\nword text 2\nwithdraw", 6, "the word at 2 does not change"),
     (ONE + "ask value text 6 What?\nnumber 4\nadd twice.o", 5, "the number is 2"),
+    (ONE + "ask value text 6 What?\nnumber 8\nadd twice.o", 4, "there is no number 8"),
     (ONE + "ask value text 12 What?\nimage", 4, "after the step there is no such word"),
     (ONE + "ask value bss 0 What?\nimage", 3, "value is followed by text or data, an offset and a text"),
     (ONE + "ask where _count Where?\nnumber 12\nlink -r", 5, "the name is nowhere"),
@@ -66,6 +67,7 @@ QUESTIONS = [
 
 
 TAKE = "(text) => takeLessons(text)"
+PRACTICE = re.compile(r"(What will the word at (text|data) \d+ be|Which word changes) when \S+ is added\?|Where is \S+ in a plain link\?")
 
 
 def bad_lessons(tools, files):
@@ -122,6 +124,8 @@ def lesson_answers(tools, scripts, files, lessons=10, answers=12):
                 said = answer_said(tools, step, after, act, rest, after if act == "add" else here if act == "withdraw" else [])
                 same(f"the answer to {step['ask']}, {act}", sorted(step["answers"]) or step.get("number"), said)
                 count += 1
+            if guide is guides[-1] and step["ask"]:
+                same(f"a question of the practice: {step['ask']}", bool(PRACTICE.fullmatch("".join(map(str, step["ask"])))), True)
             if guide is guides[-1] and act == "add":
                 same("what the practice adds", re.findall(r"([\w.]+) (?:is added\?|has been added\.)", str(step["ask"] or step["says"])),
                      [os.path.basename(files[rest[0]])])
@@ -130,6 +134,8 @@ def lesson_answers(tools, scripts, files, lessons=10, answers=12):
                 same(f"the word before {step['ask']}", step["before"], word.value if word else 0)
             here = after
     same("lessons", (len(guides) - 1, count >= answers), (lessons, True))
+    same("the practice", guides[-1]["steps"][0]["says"],
+         ["Each question is about these objects, and the linker has computed its answer."])
 
 
 def remarks(_, scripts, files):

@@ -76,11 +76,19 @@ return rows.map((row) => [label(Number(part(row, ".badge")) - 1), ...(row.matche
 """
 # the segments of names in a table
 SEGMENT_OF = {"T": "text", "D": "data", "B": "bss"}
-# what depends on the space for arrows, and what the first step says besides
-BESIDES = re.compile(r" \d+ arrows? more: choose a word to see its own\.| Now add another object, and look at which words change\.")
+
+
+SUMS = ("Each sum is the word of the object + the address of the name, or how far the segment has moved, that it refers to (\u2212 how far the "
+        "word itself has moved, with pc) = the word of the link.")
 
 
 # ---- states
+def besides(left, is_first=False):
+    """What is said after a sentence: of arrows for which there is no space, and after the first step."""
+    return f" {counted(left, 'arrow')} more: choose a word to see its own." * (left > 0) + \
+        " Now add another object, and look at which words change." * is_first
+
+
 def compare_arrows(shown, places, what):
     """Arrows lead to the places that their words mean. If none is left out, each word that the step changed or brought has its own."""
     new = [word["id"] for word in shown["words"] if word["tag"] in ("bound", "put back", "new")]
@@ -93,7 +101,7 @@ def compare_step(page, objects, is_gone, what, forced=()):
     wanted = step.results()
     same(f"{what}: the scene", scene, [wanted.get(key) for _, key, *_ in scene])
     session = step.before if is_gone else step.after
-    same(f"{what}: the sentence", BESIDES.sub("", shown["note"]), step.sentence())
+    same(f"{what}: the sentence", shown["note"], step.sentence() + besides(shown["left"], len(objects) == 1 and not is_gone))
     same(f"{what}: the status", shown["step"], step.status())
     same(f"{what}: the names", [name[:4] for name in shown["names"]], step.names())
     same(f"{what}: what is struck out", {word["id"]: word["was"] for word in shown["words"] if word["isOld"]}, step.struck())
@@ -120,6 +128,7 @@ def compare_link(tools, page, objects, number, what, forced=(), entry=""):
     same(f"{what}: title", shown["title"], f"Addresses, ld {options[0] if options else 'with no option'}")
     if "refused" in linked:
         return same(what, shown["refused"], f"refused: {linked['refused']}")
+    same(f"{what}: the sentence", shown["note"], SUMS)
     session, (_, text, data, rest), base = Session(objects, forced), linked["header"][:4], linked["base"]
     commons = rest - session.sizes["bss"]
     bounds = {"text": (0, text), "data": (base, base + data), "commons": (base + data, base + data + commons),
@@ -200,8 +209,8 @@ def played(tools, page, _, count=200):
             try:
                 Session([*here, objects[number]], forced)
             except model.Refused as refused:
-                same(f"{what}, {objects[number].name}", page.run("return byId(arguments[0]).title", f"add{number + 1}"),
-                     f"refused here: {refused}")
+                same(f"{what}, {objects[number].name}", page.run("return ['title', 'aria-label'].map((one) => byId(arguments[0])"
+                     ".getAttribute(one))", f"add{number + 1}"), [f"refused here: {refused}", f"{objects[number].name} is refused: {refused}"])
                 continue
             here = [*here, objects[number]]
             compare_step(page, here, False, f"{what}, {objects[number].name}", forced)
@@ -218,6 +227,9 @@ def others(tools, page, _):
     page.load(tools.page_of([full, CLASS[3]], "full.html"))
     page.open("#objects=1,2")
     compare_link(tools, page, [Given(full), Given(CLASS[3])], 0, "full.o l.o")
+    page.run("byId('maps').click()")
+    same("a map of a link that is refused", page.run("return ['h2', '.refused'].map((one) => document.querySelector(`#mapped ${one}`)"
+                                                     ".textContent)"), ["Memory maps", "refused: does not fit"])
 
 
 # ---- what a state has besides
@@ -283,7 +295,7 @@ const after = row ? getComputedStyle(row, "::after").content : "", lines = [...d
 const isSeen = (box) => box.height > 0 && box.top >= 0 && box.bottom <= innerHeight;
 return [byId("note").textContent, document.querySelector(`g.arrow[data-from="${arguments[0]}"]`)?.dataset.to ?? "",
     said, after.includes(said) || after.includes("attr(aria-description)"),
-    lines.map((line) => line.textContent.slice(0, 12)), lines.every((line) => isSeen(line.getBoundingClientRect()))];
+    lines.map((line) => line.textContent.slice(0, 12)), lines.every((line) => isSeen(line.getBoundingClientRect())), drawn.left];
 """
 
 
@@ -297,11 +309,11 @@ def chosen(_, page, files):
         wanted = {**session.chosen(), **{f"{part}-{offset}": Step(here).told(part, offset) for part, offset in Step(here).changed}}
         for key in [*wanted][::max(1, len(wanted) // 60)]:
             page.settle()
-            said, *more = page.run(CHOOSE, key)
+            said, *more, left = page.run(CHOOSE, key)
             word = session.rows().get(key)
             row = ["", "", True, [], True] if word is None else [session.place_id(word), reloc_said(word.reloc), True,
                    [f"{word.of.start(word.part) + 2 * word.index:06o}{word.own:06o}"], True]
-            same(f"{len(here)} objects, {key}", [BESIDES.sub("", said), *more], [wanted[key], *row])
+            same(f"{len(here)} objects, {key}", [said, *more], [wanted[key] + besides(left), *row])
 
 
 OWNERS = """
@@ -321,6 +333,9 @@ def owners(_, page, files):
           for number, one in enumerate(objects, 1) for count in [(one.text + one.data) // 2]])
     words = Session(objects).rows()
     same(f"{len(files)} objects: the objects of places", [said for _, said in places], [words[key].of.name for key, _ in places])
+    page.run("goTo(GUIDES.length - 1, GUIDES.at(-1).steps.map((one) => one.kind).lastIndexOf('changes') - 1)")
+    same(f"{len(files)} objects: the heading of a question",
+         page.run("return [...document.querySelectorAll('#image h3')].map((one) => one.textContent)"), ["To choose from"])
     return len(places)
 
 
@@ -351,9 +366,13 @@ return found;
 OTHER_BASE = """
 const wait = nextStep(), typed = String(wait?.number ?? "");
 if (!["value", "where"].includes(wait?.kind) || !/^[0-7]{2,}$/.test(typed)) return null;
-byId("number").value = typed;
-giveNumber();
-return [typed, wait.number, predictionOf(view.done + 1).reason, predictionOf(view.done + 1).isRight];
+const give = (isOn, typed) => {
+    show({ ...view, decimal: isOn });
+    byId("number").value = typed;
+    giveNumber();
+    return [predictionOf(view.done + 1).reason, predictionOf(view.done + 1).isRight];
+};
+return [typed, wait.number, ...give(true, wait.number.toString(8)), ...give(false, typed)];
 """
 
 
@@ -377,9 +396,10 @@ def questions(_, page, __):
         same(f"{what}: what buttons and keys change", page.run(TRIED), [*before, True])
         other = page.run(OTHER_BASE)
         if other:
-            typed, number, reason, is_right = other
-            same(f"{what}: {typed} for {number:o}", (is_right, reason),
-                 (False, f"Read in decimal that is right, but {typed} is octal here: type 0{number:o}, or {number}. with the point."))
+            typed, number, *said = other
+            same(f"{what}: {typed} for {number:o}", said,
+                 [f"Read in octal that is right, but {number:o} is decimal here: type 0{number:o}.", False,
+                  f"Read in decimal that is right, but {typed} is octal here: type 0{number:o}, or {number}. with the point.", False])
         count, others = count + 1, others + bool(other)
     done = page.run("return GUIDES[1].steps.findIndex(({ ask }) => ask) - 1")
     page.open(f"#objects=2&lesson=1&done={done}")

@@ -28,7 +28,15 @@ TYPE = """
 byId("own-text").value = byId("own-text").value.replace(arguments[0], arguments[1]);
 byId("own-text").dispatchEvent(new Event("input"));
 """
+TITLES = ["Five small objects", "A program in C", "Pointers, bss, commons"]
 OBJECTS = "return [DATA.objects.map(({ number }) => label(number)), byId('own-refused').textContent]"
+TOOLS = """
+const words = byId("cards").children[arguments[0]].querySelector("details");
+words.open = true;
+showListing(words, DATA.objects[arguments[0]]);
+return [...words.querySelectorAll(".own-tools button")].map((one) => [one.title, one.getAttribute("aria-label"),
+    one.getAttribute("aria-disabled")]);
+"""
 
 
 def drop(page, *files):
@@ -63,8 +71,14 @@ def dropped(tools, page, files):
                               ("bad.lst", b"text\n000000 9 0\n", "line 2, column 8: not an octal number"),
                               ("lessons.txt", b"lesson A\nadd no.o\n", "line 2: no step adds no.o")):
         there, said = drop(page, (name, data))
-        same(f"{name} is refused", (said, there[-1]), (f"{name}: {fault}", "listed.lst"))
+        same(f"{name} is refused", (said, there[-1], page.run("return byId('live').textContent")),
+             (f"{name}: {fault}", "listed.lst", f"Refused: {name}: {fault}"))
     same("the list stays", page.run("return view.list"), [5, 6, 7])
+    for number, can_move in ((5, "true"), (7, "false")):
+        name = ["own.o", "squares.gnu", "listed.lst"][number - 5]
+        same(f"the buttons of {name}", page.run(TOOLS, number),
+             [[said, f"{name}: {said}", off] for said, off in (("edit its listing", "false"), ("one place earlier in the link", can_move),
+                                                               ("take it from the page", "false"))])
     page.run("moveEarlier(7)")
     same("one place earlier", page.run("return view.list"), [5, 7, 6])
     page.run("removeObject(5)")
@@ -92,6 +106,10 @@ def edited(tools, page, __):
     page.wait("return DATA.objects.length === 6")
     same("a remark", page.run("return byId('own-said').textContent"),
          "symbol 0 _x is undefined, and no word refers to it: a mistake, if this is not meant")
+    page.run("byId('own-new').click()")
+    page.wait("return DATA.objects.length === 7")
+    same("a new listing", page.run("return [label(6), byId('own-text').value.match(/mov.*|rts.*/g), [...DATA.objects[6].text]]"),
+         ["own.o", ["mov $5,r0", "rts pc"], [0o12700, 5, 0o207]])
 
 
 def linked(tools, page, files):
@@ -130,17 +148,20 @@ def kept(tools, page, _):
     before = page.run(look)
     page.open(before[0])
     same("objects in the address", page.run(look), before)
-    for bad in ("#own=xx:yy", "#own=", "#set=9", "#own=bWFpbi5v:BwE"):
+    none = "The address has no objects that could be read."
+    for bad, said in (("#own=xx:yy", none), ("#own=bWFpbi5v:BwE", none), ("#set=9", ""), ("#own=", ""),
+                      ("#own=large", "Objects of your own were too large for the address: Save page keeps them.")):
         page.open(bad)
-        same(f"the page at {bad}", page.run("return document.body.classList.contains('ready')"), True)
+        same(f"the page at {bad}", page.run("return [document.body.classList.contains('ready'), byId('own-refused').textContent]"),
+             [True, said])
     page.open(before[0])
     page.run(SAVED)
-    drop(page, ("lessons.txt", b"lesson One\nadd own.o\nsay It is {text 0}.\n"))
+    drop(page, ("lessons.txt", b"lesson One\nadd own.o\nadd more.o\nsay It is {text 0}.\n"), ("more.o", read_bytes(TABLES[3])))
     page.run("byId('own-page').click()")
-    [[_, text]] = page.run("return saved")
+    [[name, text]] = page.run("return saved")
     page.load(write(f"{tools.folder}/saved.html", base64.b64decode(text).decode("utf-8")))
     same("a page that was saved", page.run("return [DATA.objects.length, GUIDES.map(({ title }) => title).slice(1, -1), "
-                                           "byId('sets').length]"), [6, ["One"], 2])
+                                           "byId('sets').length]") + [name], [7, ["One"], 2, "v7.html"])
 
 
 def restarted(tools, page, files):
@@ -155,6 +176,8 @@ def restarted(tools, page, files):
              [[0], "#objects=1", f"{said}: the page is as it was before this step."])
         page.run("byId('add2').click()")
         compare_image(tools, page, f"a step after {fault}")
+    page.run("beginLinker = async () => { throw new Error('no WebAssembly'); }; begin()")
+    page.wait("return byId('status').textContent === 'This browser cannot run the linker: no WebAssembly'")
 
 
 def sets(tools, page, _):
@@ -165,11 +188,11 @@ def sets(tools, page, _):
     seen = []
     for number in range(3):
         page.run("byId('sets').value = arguments[0]; byId('sets').dispatchEvent(new Event('change'))", str(number))
-        seen.append(page.run("return [DATA.objects.map(({ path }) => path), GUIDES.length - 2, byId('own-refused').textContent, "
-                             "location.hash]"))
-    wanted = [[[f"{folder}/{name}" for name in names], read(f"{folder}/lessons.txt").count("\nlesson "), "", f"#set={number}" if number > 1
-               else ""]
-              for number, (_, folder, names) in enumerate(pages.SETS, 1)]
+        seen.append(page.run("return [byId('sets').selectedOptions[0].text, DATA.objects.map(({ path }) => path), GUIDES.length - 2, "
+                             "byId('own-refused').textContent, location.hash]"))
+    wanted = [[title, [f"{folder}/{name}" for name in names], read(f"{folder}/lessons.txt").count("\nlesson "), "",
+               f"#set={number}" if number > 1 else ""]
+              for number, (title, (_, folder, names)) in enumerate(zip(TITLES, pages.SETS), 1)]
     same("the sets", seen, wanted)
     same("bytes of the page", os.path.getsize(path) < 500_000, True)
 

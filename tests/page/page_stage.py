@@ -160,7 +160,7 @@ def whole_and_back(page):
 
 
 def search(page, files):
-    """`/jsr pc,` finds each such instruction, in folds too. Enter leads to the next one."""
+    """`/jsr pc,` finds each such instruction, in folds too. Enter leads to the next one, and with Shift back."""
     session = Session([Given(file) for file in files])
     wanted = [f"{part}-{offset}" for (part, offset), word in session.in_order() if "jsr pc," in session.instruction(word, offset)]
     page.run("document.activeElement.blur()")
@@ -170,6 +170,10 @@ def search(page, files):
     page.type(Keys.ENTER)
     second = min(2, len(wanted))
     same("the next one", page.run("return [byId('found').textContent, chosen]"), [f"{second} of {len(wanted)}", wanted[second - 1]])
+    page.run("byId('find').dispatchEvent(new KeyboardEvent('keydown', { key: 'Enter', shiftKey: true }))")
+    same("the one before", page.run("return [byId('found').textContent, chosen]"), [f"1 of {len(wanted)}", wanted[0]])
+    page.type("z")
+    page.wait("return byId('found').textContent === 'nothing'")
     page.type(Keys.ESCAPE)
     page.run("choose('', false)")
     return len(wanted)

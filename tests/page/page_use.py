@@ -43,12 +43,10 @@ return [...document.querySelectorAll("button, summary, [tabindex]")].filter((e) 
 
 def first_view(_, page, __):
     page.open("")
-    seen = page.run("return ['h1', '#first', '#menu button', '#welcome', '#status'].map((one) => document.querySelector(one).innerText)")
-    same("the first view", seen[:3], ["What a linker does", "Add main.o", "Take the tour, 5 steps"])
-    same("the legend", page.run("return [...document.querySelectorAll('.legend .swatch')].map((one) => [one.className, "
-                                "one.nextSibling.textContent])"),
-         [["swatch new", "new"], ["swatch bound", "bound"], ["swatch put-back", "put back"]])
-    same("the place to drop files", "Drop object files" in seen[3], True)
+    seen = page.run("return ['h1', '#first', '#menu button'].map((one) => document.querySelector(one).innerText)")
+    same("the first view", seen, ["What a linker does", "Add main.o", "Take the tour, 5 steps"])
+    same("the legend", page.run("return [...document.querySelectorAll('.legend .swatch')].map((one) => one.className)"),
+         ["swatch new", "swatch bound", "swatch put-back"])
     same("the picture", page.run("return document.querySelector('.first-picture').getBoundingClientRect().width > 200"), True)
     page.click("first")
     same("the first action adds main.o", page.run("return [location.hash, byId('status').textContent]"), ["#objects=1", "Added main.o"])
@@ -77,6 +75,54 @@ def said(_, page, __):
     for state, wanted in STATES_SAID.items():
         page.open(state)
         same(f"headings, buttons and labels of {state}", page.run(SAID), wanted)
+
+
+# titles, placeholders, and names for a reader of the screen; and texts that stay, of each kind
+LABELS = """
+const parts = [...document.querySelectorAll("[aria-label], [title], [placeholder]")];
+return parts.filter((one) => !one.closest("#image *, #cards *, #names *, #marks *, #adds *, #mapped *")).flatMap((one) =>
+    ["aria-label", "placeholder", "title"].map((name) => one.getAttribute(name)).filter(Boolean));
+"""
+TEXTS = """
+return [document.title, document.documentElement.lang, ...arguments[0].flatMap((kind) => [...document.querySelectorAll(kind)]
+    .map((one) => one.textContent.replace(/\\s+/g, " ").trim()))];
+"""
+LABELS_SAID = [
+    "Steps", "Before and after the last step", "Addresses of a link", "View and help", "Memory maps side by side", "Decimal numbers",
+    "Large, for a projector", "Shortcut keys", "Add an object", "What is shown beside the image", "Guide", "Set of objects",
+    "Objects of V7 or of GNU's assembler, listings, and a file of lessons; or drop them onto the page", "A listing to type",
+    "This page with the objects and lessons that it has now", "Listing",
+    "Two objects become one image: the call in main.o leads to the text of twice.o", "Find", "The whole image in its order", "Memory maps",
+    "Names and marks", "The output of -r is an object: linked.o", "entry", "The name at which the program starts", "names",
+    "Names that are entered as undefined before the first object"]
+TEXTS_SAID = {
+    "#status": ["No objects yet"], "#marks p": ["A mark remembers what an addition overwrote, so that a withdrawal can put it back."],
+    ".tabs button": ["Names", "Objects", "Lesson"], "#addresses option": ["none", "plain (p)", "-n (n)", "-i (i)", "-r (r)"],
+    "#sets option": ["Five small objects", "your own"], "#drop": ["Drop object files of your own here, or anywhere on the page."],
+    ".lead": ["A linker merges object files into one program. It puts their segments one after the other, finds the definition of each name "
+              "(symbol resolution), and changes the words that refer to what has got its place (relocation). Add the objects one by one, "
+              "look at which words change, and take each step back again."],
+    "#legend .note": ["Each line is a word of 16 bits: its offset in the segment, its value, and what it refers to. Numbers are octal. A size "
+                      "has its decimal number after it, as in 016 (14.). Choose a word, a name or a mark to see its arrows."],
+    "#legend li": [
+        "new: the last step added it",
+        "bound, changed: it was there before, and the last step overwrote it; what it was is struck out",
+        "put back, cut off: the withdrawal gave it its old value again, or took it out",
+        "an arrow goes from a word to the place that it refers to",
+        "a dot is a word that waits for a name; a dashed line joins the words that wait for the same name",
+        "pcthe word counts from the place after it: it holds a distance, once both are in one segment or a link has placed them"],
+    ".none": ["None yet. An object brings the names that it defines and those that it needs."]}
+DISABLED = "return ['withdraw', 'flick'].map((id) => byId(id).getAttribute('aria-disabled'))"
+
+
+def labels(_, page, __):
+    """What stays on the page, for those who see it and those who hear it; and that nothing can be withdrawn before the first step."""
+    page.open("")
+    same("titles and names", page.run(LABELS), LABELS_SAID)
+    same("texts", page.run(TEXTS, [*TEXTS_SAID]), ["What a linker does", "en", *(text for texts in TEXTS_SAID.values() for text in texts)])
+    same("nothing to withdraw", page.run(DISABLED), ["true", "true"])
+    page.open("#objects=1")
+    same("something to withdraw", page.run(DISABLED), ["false", "false"])
 
 
 def clicks(_, page, files):
@@ -132,6 +178,9 @@ def stops(_, page, files):
     rows = page.run("return [...document.querySelectorAll('#image [role=option]')].map((row) => row.id)")
     page.type(Keys.HOME)
     same("Home", page.run("return document.getElementById('image').getAttribute('aria-activedescendant')"), rows[0])
+    page.type(Keys.PAGE_DOWN)
+    same("Page Down", page.run("return byId('image').getAttribute('aria-activedescendant')"), rows[10])
+    page.type(Keys.HOME)
     page.type(Keys.ARROW_DOWN)
     same("arrow down", page.run("return document.querySelector('#image .active').id"), rows[1])
     word = page.run("return [...document.querySelectorAll('#image [role=option]')].findIndex((row) => row.className.includes('word'))")
@@ -158,8 +207,8 @@ def keys(_, page, __):
     same("W with Shift, and w with Control", page.run("return location.hash"), "#objects=1&withdrawn=2")
     page.click("keys")
     page.type("w")
-    same("keys that are off", page.run("return [location.hash, document.getElementById('keys').getAttribute('aria-pressed')]"),
-         ["#objects=1&withdrawn=2", "false"])
+    same("keys that are off", page.run("return [location.hash, byId('keys').getAttribute('aria-pressed'), byId('keys').textContent]"),
+         ["#objects=1&withdrawn=2", "false", "Keys off"])
     page.click("keys")
     page.type("w")
     same("keys that are on again", page.run("return location.hash"), "#withdrawn=1")
@@ -176,6 +225,20 @@ def history(_, page, __):
     same("Forward", page.run("return view.list"), [0, 1, 4])
 
 
+# what the tour says of main.o and twice.o
+TOLD = [
+    "These are the object files, as an assembler wrote them. Each has words, and symbols: names that it defines or needs. Nothing is linked "
+    "yet.",
+    "main.o has been added. Each line of the merged image is a word: its offset, its value, and what it refers to. A dot marks a word that "
+    "waits for a name.",
+    "These are the names, with what is known of each: undefined until an object defines it, or a common, which the linker lays out if none "
+    "does.",
+    "twice.o has been added. It defines what 1 word waited for: what each was is struck out, and an arrow leads from it to the place that it "
+    "refers to now.",
+    "Withdraw takes the last object out again: marks remember what it overwrote. Addresses shows the link itself. Now take a lesson, or add "
+    "the objects in an order of your own."]
+
+
 def tour(_, page, __):
     """Five steps, by keys alone, and dismissed by Escape."""
     page.press("Take the tour, 5 steps")
@@ -183,12 +246,13 @@ def tour(_, page, __):
     for number in range(1, 6):
         page.wait("return new URLSearchParams(location.hash.slice(1)).get('tour') === arguments[0]", str(number))
         told.append(page.run("return document.querySelector('#guide .says').textContent"))
+        same(f"the buttons at {number}", page.run("return [...document.querySelectorAll('#guide button')].map((one) => one.textContent)"),
+             ["Next" if number < 5 else "Lesson 1: A word that waits", "Close the tour"])
         same(f"the tour at {number}", page.run("return [document.querySelectorAll('.toured').length, document.querySelector('#guide "
                                                "h2').textContent]"), [1, f"Tour, {number} of 5"])
         if number < 5:
             page.press("next")
-    same("what the tour counts", "It defines what 1 word waited for" in told[3], True)
-    same("steps of the tour", (len(set(told)), min(map(len, told)) > 60), (5, True))
+    same("what the tour says", told, TOLD)
     page.back()
     page.wait("return new URLSearchParams(location.hash.slice(1)).get('tour') === '4'")
     page.type(Keys.ESCAPE)
@@ -256,7 +320,10 @@ def lessons(_, page, __):
     """The menu, and all lessons and the practice by keys alone."""
     page.run("document.getElementById('guides').focus()")
     page.type(Keys.ENTER)
-    same("the menu", page.run("return document.querySelectorAll('#guide button').length === GUIDES.length"), True)
+    menu = page.run("return [GUIDES.length, ...['h2', 'button'].flatMap((name) => [...document.querySelectorAll(`#guide ${name}`)])"
+                    ".map((one) => one.textContent)]")
+    same("the menu", (menu[0], menu[1:3], menu[-1]),
+         (len(menu) - 2, ["Lessons and tour", "Take the tour, 5 steps"], "Practice with these objects"))
     questions, sentences = zip(*(by_keys(page, number) for number in range(1, page.run("return GUIDES.length"))))
     print(f"{sum(questions)} questions were answered by keys; {sum(sentences)} sentences, choices and verdicts were announced", flush=True)
     return sum(questions)
@@ -268,6 +335,10 @@ def wrong_answer(_, page, __):
     page.type(str(page.run(WRONG)))
     same("the reason of a wrong answer", page.run("const reason = document.querySelector('#guide .reason').textContent; "
                                                   "return [reason.length > 20, byId('live').textContent.includes(reason)]"), [True, True])
+    answered = """const pressed = [...document.querySelectorAll('#guide .choices button')].map((one) => one.getAttribute('aria-pressed'));
+        return [document.querySelector('#guide .ask .hint').textContent, pressed]"""
+    chosen = ["You chose the linker has not looked at it yet.", ["true", "false", "false"]]
+    same("what was chosen", page.run(answered), chosen)
     page.type("q")
     same("q, from the question", page.run(FOCUS), "image")
     page.type("q")
@@ -279,6 +350,8 @@ def wrong_answer(_, page, __):
     page.wait("return view.done === 1")
     same("Back in a lesson", page.run("return [view.list, document.querySelector('#guide .ask').textContent.slice(0, 10)]"),
          [[0], "Why does t"])
+    page.open("#objects=1&lesson=1&done=1")
+    same("what was chosen, after a reload", page.run(answered), chosen)
 
 
 # the wrong answers of the open question, each with the reason that the page gives, and the list that is there; what the step adds
@@ -400,6 +473,10 @@ def numbers(_, page, __):
     for text, number in NUMBERS.items():
         seen = page.run("const number = numberOf(arguments[0]); return Number.isNaN(number) ? null : number", text)
         same(f"the number {text}", seen, number)
+    page.run("const isValue = ({ kind }) => kind === 'value', guide = GUIDES.findIndex(({ steps }) => steps.some(isValue));"
+             "goTo(guide, GUIDES[guide].steps.findIndex(isValue) - 1); byId('number').value = 'x'; giveNumber()")
+    same("no number", page.run("return byId('typed').textContent"),
+         "Type octal digits, decimal digits with a point after them, or 0x and hexadecimal digits.")
     page.open("#objects=1,2&numbers=decimal")
     same("numbers of a page in decimal", page.run("return ['016', '16', '16.'].map(numberOf)"), [14, 16, 16])
     page.open("#objects=1&numbers=decimal&lesson=1&done=1")
@@ -483,7 +560,9 @@ return GUIDES.slice(1).map(({ steps }, i) => {
     return [steps.map((step) => ({ ...step, ask: prose(step.ask), says: step.says.map(prose),
             choices: step.choices.map(({ text }) => prose(text)), isRight: step.choices.map(({ isRight }) => isRight) })),
         sheets.map((sheet) => [...sheet.querySelectorAll(".paper-step")].map((step) => texts(step, "p"))),
-        sheets.map((sheet) => [...sheet.querySelectorAll("tr")].map((row) => texts(row, "td"))), texts(sheets[0], "h2")];
+        sheets.map((sheet) => [...sheet.querySelectorAll("tr")].map((row) => texts(row, "td"))), texts(sheets[0], "h2"),
+        [...sheets.map((sheet) => texts(sheet, "h1")), texts(sheets[0], ".paper-object > p"), texts(sheets[0], ".symbols")],
+        guideTitle(i + 1)];
 });
 """
 
@@ -523,7 +602,7 @@ def handouts(_, page, files):
     and the words after each step."""
     page.open("")
     objects, count = [Given(file) for file in files], 0
-    for guide, (steps, sheets, rows, heads) in enumerate(page.run(HANDOUTS), 1):
+    for guide, (steps, sheets, rows, heads, besides, title) in enumerate(page.run(HANDOUTS), 1):
         number, here, added, words, wanted = 0, [], [], [], ([], [])
         for step in steps:
             number += bool(step["ask"])
@@ -536,6 +615,9 @@ def handouts(_, page, files):
         same(f"the steps of handout {guide}", sheets, [*wanted])
         same(f"the objects of handout {guide}", (heads, len(rows[0])),
              ([one.name for one in added], sum((one.text + one.data) // 2 for one in added)))
+        same(f"the titles, bss and symbols of handout {guide}", [*besides[:3], [[line.split()[-1] for line in one.split("\n")]
+             for one in besides[3]]], [[title], [title], [f"bss {size_said(one.bss)}" for one in added if one.bss],
+                                      [[name for name, _, _ in one.symbols] for one in added]])
         same(f"the words of handout {guide}", (len(rows[1]), [row[:len(other)] for row, other in zip(rows[1], words)]), (len(words), words))
         answers = [answer_on_paper(step) for step in steps if step["kind"] in ("value", "where")]
         same(f"the answers on handout {guide}", [one for one in answers if re.search(rf"\b{one}\b", str(sheets[0]))], [])
@@ -640,7 +722,7 @@ def beside(_, page, files):
 
 # the checks of this file, and the pages that each is for: the class example, a program in C, pointers and bss, sixteen objects
 CHECKS = (
-    (first_view, (0,)), (said, (0,)), (roles, (0,)), (stops, (3,)), (keys, (0,)), (history, (0,)), (tour, (0,)), (lessons, (0, 1, 2)),
+    (first_view, (0,)), (said, (0,)), (labels, (0,)), (roles, (0,)), (stops, (3,)), (keys, (0,)), (history, (0,)), (tour, (0,)), (lessons, (0, 1, 2)),
     (wrong_answer, (0,)), (numbers, (0,)), (leads, (0,)),
     (clicks, (0,)), (texts, (0,)), (presenter, (3,)), (projector, (0,)), (handouts, (0, 1, 2)), (maps, (0, 1, 2)),
     (result, (0,)), (beside, (0, 3)),
