@@ -127,8 +127,8 @@ def cases_that_fail(folder, texts):
 def sources(top, path, text):
     """Copies the sources, with one file changed."""
     shutil.copy(os.path.join(TOP, "crates.txt"), top)
-    for path in glob.glob(os.path.join(TOP, "crates", "*", "src")):
-        shutil.copytree(path, os.path.join(top, os.path.relpath(path, TOP)))
+    for source in glob.glob(os.path.join(TOP, "crates", "*", "src")):
+        shutil.copytree(source, os.path.join(top, os.path.relpath(source, TOP)))
     write(os.path.join(top, path), text)
 
 

@@ -173,8 +173,8 @@ fn put_text_lines(
             put_line_text(&mut line, Decoder::Unix, program, place);
         }
         text.say(format_args!("        {:06o}  ", place.wrapping_mul(2)));
-        text.put_at_left(28, line.so_far()?);
-        text.put("| ");
+        text.put_at_left(27, line.so_far()?);
+        text.put(" | ");
         if start < object.file().text_words().len() {
             put_line_text(text, Decoder::Unix, object, start);
         }
