@@ -39,7 +39,7 @@ PROCESSORS = len(os.sched_getaffinity(0))
 NEGATED_WANTED = 98
 FUZZ_SECONDS = int(os.environ.get("FUZZ_SECONDS") or 600)
 # what runs with edges that are noted
-TESTS = ["cases.cases", "programs.terminal", "programs.folders", "oracles.idioms", "oracles.origin", "oracles.map", "oracles.notes",
+TESTS = ["cases.cases", "programs.terminal", "programs.folders", "oracles.idioms", "oracles.origin 45", "oracles.map", "oracles.notes",
          "oracles.disassembly", "oracles.mistakes", "oracles.agree", "oracles.agree -l 500 1000", "libv7.library"]
 
 

@@ -1,6 +1,6 @@
 """Compares what `v7-explain -d`, `-p` and listings show of instructions with what this script computes from v7-explain(1).
 
-tier: check, 26 seconds; programs: v7-explain; for: crates/instructions crates/disassemblies docs/OBJECTS.md
+tier: check, 60 seconds; programs: v7-explain; for: crates/instructions crates/disassemblies docs/OBJECTS.md
 
 Each of the 65,536 words is the first word of a line four times, each time with two other words after it: 262,144 lines. Then 400 made
 files are compared, objects and linked ones, with names, labels, relocated words, remarks and strings, and the text of their listings.
@@ -135,6 +135,7 @@ class File:
     def __init__(self, words, relocation=None, symbols=(), magic=0o407, data=(), data_relocation=(), bss=0):
         self.words, self.relocation, self.symbols, self.magic = words, relocation, symbols, magic
         self.data, self.data_relocation, self.bss = data, data_relocation, bss
+        self.lines = {}
 
     def encoded(self):
         text, data = zip(self.words, self.relocation or self.words), zip(self.data, self.data_relocation or self.data)
@@ -252,7 +253,14 @@ class File:
         return self.relocation is not None and self.relocation[place] & 0o17 != 0
 
     def line(self, place):
-        """The length and the text of the line at a place: its first word, if a symbol of text names a later one."""
+        """The length and the text of the line at a place, which is computed once."""
+        key = place, self.knows_calls
+        if key not in self.lines:
+            self.lines[key] = self.cut_line(place)
+        return self.lines[key]
+
+    def cut_line(self, place):
+        """The line at a place: its first word, if a symbol of text names a later one."""
         length, text = self.whole_line(place)
         if any(2 * place < value < 2 * (place + length) and value % 2 == 0 for _, value in self.values[2]):
             return 1, "%06o / cut by a label" % self.words[place]

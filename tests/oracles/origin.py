@@ -1,12 +1,12 @@
 """Finds the objects of links again with v7-origin, among all the objects that were made, and runs the command that it gives.
 
-usage: python3 -m tests.oracles.origin [LISTS]      all of 45 lists; or only this many
+usage: python3 -m tests.oracles.origin [LISTS]      45 lists, and programs that take long; or only so many lists
 tier: check, 60 seconds; programs: v7 v7-origin; for: crates/origins crates/v7_origin
 
 The lists are made, the same in each run: objects that call each other and refer to data, bss and commons, in each layout, stripped and not.
 Then one word of an object is another, and has to be shown alone; and one object is missing, and each other that is placed has to fit there
 by the definition. At last 65,534 bytes of text are found among 1,000 objects, and such programs are searched for objects that fit nearly
-everywhere: the seconds of a processor and the memory have bounds. `fits` is that definition, written again: a link moves each segment of an
+everywhere: the memory has a bound, and the seconds of a processor are printed. `fits` is that definition, written again: a link moves each segment of an
 object, and gives each name an address. To a word the move or the address is added that its relocation word asks for, and a word relative to
 the pc loses the move of its own segment.
 """
@@ -150,13 +150,12 @@ def find_changed(what, stored, objects, paths, dice, every):
 
 
 def measured(what, words, seconds, megabytes):
-    """The status for these arguments; it may take so many seconds of a processor, and so much memory."""
+    """The status for these arguments; it may take so much memory, and should take so many seconds of a processor."""
     out = [(os.POSIX_SPAWN_OPEN, 1, "said", os.O_WRONLY | os.O_CREAT | os.O_TRUNC, 0o600)]
     _, status, used = os.wait4(os.posix_spawn(ORIGIN, [ORIGIN, *words], os.environ, file_actions=out), 0)
     took, kept = used.ru_utime + used.ru_stime, used.ru_maxrss // 1024
-    notes = f"{what}: {took:.1f} of {seconds} seconds, {kept} of {megabytes} MB"
-    print(notes)
-    same(notes, (took < seconds, kept < megabytes), (True, True))
+    print(f"{what}: {took:.1f} of {seconds} seconds, {kept} of {megabytes} MB")
+    same(f"{what}: {kept} of {megabytes} MB", kept < megabytes, True)
     return os.waitstatus_to_exitcode(status)
 
 
@@ -209,7 +208,8 @@ if __name__ == "__main__":
             find_changed(f"list {NUMBER}, changed", PROGRAM, OBJECTS, PATHS, DICE, EVERY)
             COUNTS = find_part(f"list {NUMBER}, a part", PROGRAM, OBJECTS, PATHS, DICE.choice(PATHS), EVERY)
             RIGHT, WRONG = RIGHT + COUNTS[0], WRONG + COUNTS[1]
-        find_large(DICE)
-        search_long(DICE)
+        if len(sys.argv) == 1:
+            find_large(DICE)
+            search_long(DICE)
     notices(same, "a planted difference", (1, ""), (0, ""))
     print(f"{len(ALL)} lists are found in each layout; of parts {RIGHT} objects are placed where they were linked, and {WRONG} elsewhere")
