@@ -3,7 +3,8 @@
 usage: python3 -m tests.measure.recording MODULE [ARGUMENT ..]
 
 The folder RECORDED then has MODULE.commands, with a line of JSON for each command, and `files`, with the contents of files by their
-digests. A command of a shell is not kept, and neither is one with large files; of many files only those that the command names."""
+digests. A command of a shell is not kept, and neither is one in the repository's own folder, or with large files; of many files only those
+that the command names."""
 import glob
 import hashlib
 import json
@@ -25,6 +26,8 @@ def digest(data):
 
 def keep(module, words, at, given):
     """Keeps a command of a test that works in the folder `at`."""
+    if os.path.samefile(at, TOP):
+        return
     named = {os.fsdecode(it) for it in words[1:]}
     found = glob.glob("**", root_dir=at, recursive=True, include_hidden=True)
     paths = [it for it in found if os.path.isfile(f"{at}/{it}") and (len(found) <= MOST_FILES or it in named)]
